@@ -339,17 +339,10 @@ fn shift(y: u8, n: u8) -> Phase
 fn few_bits(n: u8, v: u8) -> bool
     ensures { λ r. ⌜ r ≡ fewBits n v ⌝ }
 {
-    match n {
-        0 => v < 1,
-        1 => v < 2,
-        2 => v < 4,
-        3 => v < 8,
-        4 => v < 16,
-        5 => v < 32,
-        6 => v < 64,
-        7 => v < 128,
-        _ => false,
+    if n < 8 {
+        return v >> n == 0;
     }
+    false
 }
 
 fn is_write(c: Command) -> bool
