@@ -30,8 +30,8 @@ frameOf s =
 unfoldable pub answerBytes : Answer → List ℕ
 answerBytes x =
     cond (x .ok)
-        (6 ∷ 0 ∷ 79 ∷ 75 ∷ x .value ∷ x .level ∷ x .lines ∷ x .sel ∷ [])
-        (6 ∷ 0 ∷ 78 ∷ 79 ∷ x .value ∷ 0 ∷ 0 ∷ 0 ∷ [])
+    (6 ∷ 0 ∷ 79 ∷ 75 ∷ x .value ∷ x .level ∷ x .lines ∷ x .sel ∷ [])
+    (6 ∷ 0 ∷ 78 ∷ 79 ∷ x .value ∷ 0 ∷ 0 ∷ 0 ∷ [])
 
 -- The answer to a refused record.
 unfoldable pub noOf : ℕ → Answer
