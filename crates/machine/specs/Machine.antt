@@ -76,7 +76,7 @@ selOf p = bit (pin (p .outa) (p .dira) 32 true)
 unfoldable pub inputsOf : Bool → List ℕ → Inputs
 inputsOf line lines =
     record {
-      b = bit line + 2 + 4 + 8 * getD lines 0 0 + 16 * getD lines 1 0 + 32 * getD lines 2 0 + 64 * getD lines 3 0 + 128;
+      b = bit line + 2 + 4 + (8 * getD lines 0 0 + 16 * getD lines 1 0 + 32 * getD lines 2 0 + 64 * getD lines 3 0) + 128;
       a = 127 + 128 * getD lines 4 0;
     }
 

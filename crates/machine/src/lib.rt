@@ -4,7 +4,7 @@ ghost use mathlib.Core.Bool.{Bool, true, false};
 ghost use Prim.Native.Nat.{_+_, _*_, _<_};
 ghost use Rattle.levels.specs.Levels.{allLevels};
 ghost use Rattle.clock.specs.Wire.{bit};
-ghost use Rattle.clock.specs.Step.{stepWires};
+ghost use Rattle.clock.specs.Step.{shown};
 ghost use Rattle.items.specs.Items.{InRange};
 ghost use Rattle.machine.specs.Machine.{pin, wiresOf, wires, selOf, inputsOf, acceptedOf, freshMachine};
 ghost use Rattle.machine.specs.Step.{didOf, waitOf, viaRead, iwmRead, actedOf, stepOf, refusesOf, answerOf};
@@ -72,20 +72,37 @@ pub fn wires_of(p: Ports, line: bool) -> Wires
 pub fn sel_of(p: Ports) -> u8
     ensures { λ r. ⌜ r ≡ selOf p ⌝ }
 {
-    if pin_level(p.outa, p.dira, 32, true) {
-        1
-    } else {
-        0
-    }
+    level_of(pin_level(p.outa, p.dira, 32, true))
 }
 
-// What the outside gives port B: PB0 the clock's data line, PB3 to PB6 IN lines 0 to 3, the rest undriven.
-fn inputs_b(line: bool, a: u8, b: u8, c: u8, d: u8) -> u8
-    requires { ⌜ (a < 2) × (b < 2) × (c < 2) × (d < 2) ⌝ }
-    ensures { λ r. ⌜ r ≡ bit line + 2 + 4 + 8 * a + 16 * b + 32 * c + 64 * d + 128 ⌝ }
+fn level_of(on: bool) -> u8
+    ensures { λ r. ⌜ (r ≡ bit on) × (r < 2) ⌝ }
 {
-    let low = if line { 1 } else { 0 };
-    low + 2 + 4 + 8 * a + 16 * b + 32 * c + 64 * d + 128
+    if on { 1 } else { 0 }
+}
+
+// Four levels as bits 3 to 6.
+fn middle(a: u8, b: u8, c: u8, d: u8) -> u8
+    requires { ⌜ (a < 2) × (b < 2) × (c < 2) × (d < 2) ⌝ }
+    ensures { λ r. ⌜ (r ≡ 8 * a + 16 * b + 32 * c + 64 * d) × (r < 121) ⌝ }
+{
+    8 * a + 16 * b + 32 * c + 64 * d
+}
+
+// PB0 the clock's data line, PB3 to PB6 IN lines 0 to 3, the rest undriven.
+fn inputs_b(line: u8, lines: u8) -> u8
+    requires { ⌜ (line < 2) × (lines < 121) ⌝ }
+    ensures { λ r. ⌜ r ≡ line + 2 + 4 + lines + 128 ⌝ }
+{
+    line + 2 + 4 + lines + 128
+}
+
+// PA7 IN line 4, the rest undriven.
+fn inputs_a(line: u8) -> u8
+    requires { ⌜ line < 2 ⌝ }
+    ensures { λ r. ⌜ r ≡ 127 + 128 * line ⌝ }
+{
+    127 + 128 * line
 }
 
 // What the outside gives the ports; `line` is the level that the chip gives its data line.
@@ -93,9 +110,10 @@ pub fn inputs_of(line: bool, lines: [u8; 5]) -> Inputs
     requires { ⌜ allLevels lines ≡ true ⌝ }
     ensures { λ r. ⌜ r ≡ inputsOf line lines ⌝ }
 {
+    let between = middle(lines[0], lines[1], lines[2], lines[3]);
     Inputs {
-        b: inputs_b(line, lines[0], lines[1], lines[2], lines[3]),
-        a: 127 + 128 * lines[4],
+        b: inputs_b(level_of(line), between),
+        a: inputs_a(lines[4]),
     }
 }
 
@@ -142,6 +160,15 @@ fn sense_index(drive: u8, register: u8) -> usize
 }
 
 impl Machine {
+    // The level that the chip gives the data line.
+    fn shown(self) -> bool
+        ensures { λ r. ⌜ r ≡ shown (self .clock .phase) ⌝ }
+    {
+        let c = self.clock;
+        let p = c.phase;
+        clock::shown_line(p)
+    }
+
     fn wires(self) -> Wires
         ensures { λ r. ⌜ r ≡ wires self ⌝ }
     {
