@@ -1,7 +1,7 @@
 -- Document 01: "an armed T1 loaded with N raises its flag exactly N+1 ticks later .. and in free run every N+2 ticks after",
 -- of one counter.
 use mathlib.Core.Path.{_≡_, refl, sym, ap, _∙_}
-use mathlib.Core.Bool.{Bool, true, false, _&&_, _||_}
+use mathlib.Core.Bool.{Bool, true, false, _&&_, _||_, or-false}
 use Prim.Native.Nat.{ℕ, zero, suc, _+_, _-_, _*_}
 use native.Mathlib.Numerals.{add-one, one-add}
 use native.Mathlib.Omega.{arith}
@@ -51,3 +51,21 @@ again latch (suc n) =
     ∙ exactly true latch latch n
     ∙ sym (leb·suc-suc (suc latch) n)
     ∙ ap (λ (k : ℕ). ltb k (suc n)) (sym (add-one latch))
+
+-- A counter that is not armed stays so, and does not fire.
+unarmed-by : (d z free : Bool) (latch : ℕ) (c : Counter) → c .armed ≡ false
+    → (stepBy d z free latch c .armed ≡ false) × (stepBy d z free latch c .fired ≡ c .fired)
+unarmed-by true z free latch c e = (e, refl)
+unarmed-by false true free latch c e =
+    (ap (λ (x : Bool). x && free) e, ap (λ (x : Bool). c .fired || x) e ∙ or-false (c .fired))
+unarmed-by false false free latch c e = (e, refl)
+
+pub unarmed : (n : ℕ) (free : Bool) (latch : ℕ) (c : Counter) → c .armed ≡ false
+    → (steps n free latch c .armed ≡ false) × (steps n free latch c .fired ≡ c .fired)
+unfolding steps
+unarmed zero free latch c e = (e, refl)
+unarmed (suc n) free latch c e =
+    let b = steps n free latch c in
+    let h = unarmed n free latch c e in
+    let k = unarmed-by (b .due) (eqb (b .value) 0) free latch b (h .0) in
+    (k .0, k .1 ∙ h .1)

@@ -4,7 +4,7 @@ use mathlib.Core.Bool.{Bool, true, false, cond, not, _&&_, _||_}
 use Prim.Native.Nat.{ℕ, zero, suc, _+_, _-_, _*_, _/_, _%_, _^_, _≤_, _<_, min, max, suc-le-suc}
 use native.Mathlib.Nat.{max-le, min-le-left, le-trans, mod-lt, le-of-suc-le-suc, not-suc-le-zero, zero-lt-suc, mod-one, mul-comm, pow-suc}
 use native.Mathlib.Omega.{arith}
-use lib.Arith.{digits-mod, mod-mul}
+use lib.Arith.{bin-ind, digits-mod, mod-mul}
 use lib.Pow.{pow-pos}
 use lib.Dec.{eqb}
 use borrow.Author.Tests.{eqb-true, eqb-false}
@@ -135,3 +135,32 @@ unasked f e n =
     let y = bitAnd f e in
     let d : (k : ℕ) → k < 7 → y / 2 ^ k % 2 ≡ 0 = λ k h. digit k y (and-bit k f e ∙ n k h) in
     and-mask y 7 ∙ quiet 7 y d
+
+-- ---- bits 0 to 6 of a byte
+pub low-bit : (k x : ℕ) → k < 7 → bit k (x % 128) ≡ bit k x
+low-bit k x h = ap (λ (y : ℕ). eqb y 1) (go k h)
+  where
+    go : (k : ℕ) → k < 7 → x % 128 / 2 ^ k % 2 ≡ x / 2 ^ k % 2
+    go zero h = omega arith
+    go (suc zero) h = omega arith
+    go (suc (suc zero)) h = omega arith
+    go (suc (suc (suc zero))) h = omega arith
+    go (suc (suc (suc (suc zero)))) h = omega arith
+    go (suc (suc (suc (suc (suc zero))))) h = omega arith
+    go (suc (suc (suc (suc (suc (suc zero)))))) h = omega arith
+    go (suc (suc (suc (suc (suc (suc (suc k))))))) h = absurd (omega arith)
+
+-- ---- `|` is associative
+max-assoc : (a b c : ℕ) → max (max a b) c ≡ max a (max b c)
+max-assoc a b c = omega arith
+
+pub or-assoc : (a b c : ℕ) → bitOr (bitOr a b) c ≡ bitOr a (bitOr b c)
+or-assoc a =
+    bin-ind (λ (n : ℕ). (b c : ℕ) → bitOr (bitOr n b) c ≡ bitOr n (bitOr b c)) (λ b c. refl)
+    (λ n ih b c.
+    or-step (bitOr n b) c
+    ∙ ap₂ (λ (x y : ℕ). bitOr x (c / 2) * 2 + max y (c % 2)) (or-shr n b 1) (or-odd n b)
+    ∙ ap₂ (λ (x y : ℕ). x * 2 + y) (ih (b / 2) (c / 2)) (max-assoc (n % 2) (b % 2) (c % 2))
+    ∙ ap₂ (λ (x y : ℕ). bitOr (n / 2) x * 2 + max (n % 2) y) (sym (or-shr b c 1)) (sym (or-odd b c))
+    ∙ sym (or-step n (bitOr b c)))
+    a
