@@ -14,7 +14,8 @@ use Rattle.items.specs.declared.Item.{Item}
 use Rattle.items.specs.declared.Item.the-variants.{ReadVia, ReadIwm, WriteVia, WriteIwm, Blank, Second, Line, Sense, Reset, Power}
 use Rattle.machine.specs.declared.Machine.{Machine}
 use Rattle.machine.specs.declared.Did.{Did}
-use Rattle.machine.specs.Machine.{withVia, withClock, withDisk, withInputs, withSense, cellCount, wires, inputsOf, selOf}
+use Rattle.machine.specs.Machine.{withVia, withClock, withDisk, withInputs, withSense, cellCount, wires}
+use Rattle.wiring.specs.Wiring.{inputsOf, selOf}
 
 -- "Every item's body begins with a wait in VIA ticks."
 unfoldable pub waitOf : Item → ℕ
@@ -50,8 +51,8 @@ waited n m = withVia m (ticks n (m .via))
 abbrev pub passed : Event → Machine → Machine
 passed e m = withClock m (withStore (m .clock) (counted e (m .clock .store)))
 
-abbrev pub didOf : Machine → Did
-didOf m = record { machine = m; value = 0 }
+abbrev pub noValue : Machine → Did
+noValue m = record { machine = m; value = 0 }
 
 -- RD of a VIA register.
 unfoldable pub viaRead : ℕ → Machine → Did
@@ -69,14 +70,14 @@ iwmRead k m =
 unfoldable pub actedOf : Machine → Item → Did
 actedOf m (ReadVia w r) = viaRead r m
 actedOf m (ReadIwm w k) = iwmRead k m
-actedOf m (WriteVia w r v) = didOf (withVia m (written r v (m .via)))
-actedOf m (WriteIwm w k v) = didOf (withDisk m (accessed k (m .disk)))
-actedOf m (Blank w) = didOf (withVia m (raisedOf 2 (m .via)))
-actedOf m (Second w) = didOf (passed second (withVia m (raisedOf 1 (m .via))))
-actedOf m (Line w l v) = didOf (withInputs m (set (m .inputs) l v))
-actedOf m (Sense w d r v) = didOf (withSense m (set (m .sense) (16 * d + r) v))
-actedOf m (Reset w) = didOf (withDisk (withVia m (resetOf (m .via))) linesOff)
-actedOf m (Power w s) = didOf (passed (off s) (withDisk (withVia m freshVia) linesOff))
+actedOf m (WriteVia w r v) = noValue (withVia m (written r v (m .via)))
+actedOf m (WriteIwm w k v) = noValue (withDisk m (accessed k (m .disk)))
+actedOf m (Blank w) = noValue (withVia m (raisedOf 2 (m .via)))
+actedOf m (Second w) = noValue (passed second (withVia m (raisedOf 1 (m .via))))
+actedOf m (Line w l v) = noValue (withInputs m (set (m .inputs) l v))
+actedOf m (Sense w d r v) = noValue (withSense m (set (m .sense) (16 * d + r) v))
+actedOf m (Reset w) = noValue (withDisk (withVia m (resetOf (m .via))) linesOff)
+actedOf m (Power w s) = noValue (passed (off s) (withDisk (withVia m freshVia) linesOff))
 
 -- "Compare the levels of enable, data-clock and data before and after each item."
 abbrev pub compared : Wires → Did → Did

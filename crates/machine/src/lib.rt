@@ -3,18 +3,15 @@ ghost use mathlib.Core.Path.{_≡_};
 ghost use mathlib.Core.Bool.{Bool, true, false};
 ghost use Prim.Native.Nat.{_+_, _*_, _<_};
 ghost use Rattle.levels.specs.Levels.{allLevels};
-ghost use Rattle.clock.specs.Wire.{bit};
 ghost use Rattle.clock.specs.Step.{shown};
 ghost use Rattle.items.specs.Items.{InRange};
-ghost use Rattle.machine.specs.Machine.{pin, wiresOf, wires, selOf, inputsOf, acceptedOf, freshMachine};
-ghost use Rattle.machine.specs.Step.{didOf, waitOf, viaRead, iwmRead, actedOf, stepOf, refusesOf, answerOf};
+ghost use Rattle.machine.specs.Machine.{wires, acceptedOf, Levels, freshMachine};
+ghost use Rattle.machine.specs.Step.{noValue, waitOf, viaRead, iwmRead, actedOf, stepOf, refusesOf, answerOf};
 use clock::Clock;
 use clock::Wires;
-use iwm::DiskLines;
 use items::Item;
+use iwm::DiskLines;
 use record::Answer;
-use via::Inputs;
-use via::Ports;
 use via::Via;
 
 pub struct Machine {
@@ -42,78 +39,6 @@ pub fn fresh() -> Machine
         disk: iwm::off(),
         inputs: [1; 5],
         sense: [1; 32],
-    }
-}
-
-// One line of a port, by its weight in the port's byte: the output bit where its direction is 1, else the input.
-fn pin_level(out: u8, dir: u8, weight: u8, input: bool) -> bool
-    requires { ⌜ 0 < weight ⌝ }
-    ensures { λ r. ⌜ r ≡ pin out dir weight input ⌝ }
-{
-    if dir / weight % 2 == 1 {
-        out / weight % 2 == 1
-    } else {
-        input
-    }
-}
-
-// The clock's three wires; `line` is the level that the chip gives its data line.
-pub fn wires_of(p: Ports, line: bool) -> Wires
-    ensures { λ r. ⌜ r ≡ wiresOf p line ⌝ }
-{
-    Wires {
-        enable: pin_level(p.outb, p.dirb, 4, true),
-        dataclock: pin_level(p.outb, p.dirb, 2, true),
-        dataline: pin_level(p.outb, p.dirb, 1, line),
-    }
-}
-
-// The level of PA5.
-pub fn sel_of(p: Ports) -> u8
-    ensures { λ r. ⌜ r ≡ selOf p ⌝ }
-{
-    level_of(pin_level(p.outa, p.dira, 32, true))
-}
-
-fn level_of(on: bool) -> u8
-    ensures { λ r. ⌜ (r ≡ bit on) × (r < 2) ⌝ }
-{
-    if on { 1 } else { 0 }
-}
-
-// Four levels as bits 3 to 6.
-fn middle(a: u8, b: u8, c: u8, d: u8) -> u8
-    requires { ⌜ (a < 2) × (b < 2) × (c < 2) × (d < 2) ⌝ }
-    ensures { λ r. ⌜ (r ≡ 8 * a + 16 * b + 32 * c + 64 * d) × (r < 121) ⌝ }
-{
-    8 * a + 16 * b + 32 * c + 64 * d
-}
-
-// PB0 the clock's data line, PB3 to PB6 IN lines 0 to 3, the rest undriven.
-fn inputs_b(line: u8, lines: u8) -> u8
-    requires { ⌜ (line < 2) × (lines < 121) ⌝ }
-    ensures { λ r. ⌜ r ≡ line + 2 + 4 + lines + 128 ⌝ }
-{
-    line + 2 + 4 + lines + 128
-}
-
-// PA7 IN line 4, the rest undriven.
-fn inputs_a(line: u8) -> u8
-    requires { ⌜ line < 2 ⌝ }
-    ensures { λ r. ⌜ r ≡ 127 + 128 * line ⌝ }
-{
-    127 + 128 * line
-}
-
-// What the outside gives the ports; `line` is the level that the chip gives its data line.
-pub fn inputs_of(line: bool, lines: [u8; 5]) -> Inputs
-    requires { ⌜ allLevels lines ≡ true ⌝ }
-    ensures { λ r. ⌜ r ≡ inputsOf line lines ⌝ }
-{
-    let between = middle(lines[0], lines[1], lines[2], lines[3]);
-    Inputs {
-        b: inputs_b(level_of(line), between),
-        a: inputs_a(lines[4]),
     }
 }
 
@@ -172,7 +97,7 @@ impl Machine {
     fn wires(self) -> Wires
         ensures { λ r. ⌜ r ≡ wires self ⌝ }
     {
-        wires_of(self.via.ports, self.clock.data_line())
+        wiring::wires_of(self.via.ports, self.shown())
     }
 
     // Whether a run takes this state.
@@ -196,12 +121,13 @@ impl Machine {
     // A VIA register read.
     fn read_via(self, register: u8) -> Did
         requires { ⌜ register < 16 ⌝ }
-        requires { ⌜ allLevels (self .inputs) ≡ true ⌝ }
+        requires { ⌜ Levels self ⌝ }
         ensures { λ r. ⌜ r ≡ viaRead register self ⌝ }
     {
         let mut m = self;
         let lines = self.inputs;
-        let a = self.via.read(register, inputs_of(self.clock.data_line(), lines));
+        let a = self.via
+            .read(register, wiring::inputs_of(self.shown(), lines));
         let v = a.via;
         m.via = v;
         Did {
@@ -213,12 +139,12 @@ impl Machine {
     // An IWM location read.
     fn read_iwm(self, location: u8) -> Did
         requires { ⌜ location < 16 ⌝ }
-        requires { ⌜ allLevels (self .disk .lines) ≡ true ⌝ }
+        requires { ⌜ Levels self ⌝ }
         ensures { λ r. ⌜ r ≡ iwmRead location self ⌝ }
     {
         let mut m = self;
         let d = self.disk.access(location);
-        let at = d.sense_at(sel_of(self.via.ports)) as usize;
+        let at = d.sense_at(wiring::sel_of(self.via.ports)) as usize;
         let sense = self.sense[at];
         m.disk = d;
         Did {
@@ -228,8 +154,8 @@ impl Machine {
     }
 }
 
-fn did(m: Machine) -> Did
-    ensures { λ r. ⌜ r ≡ didOf m ⌝ }
+fn no_value(m: Machine) -> Did
+    ensures { λ r. ⌜ r ≡ noValue m ⌝ }
 {
     Did {
         machine: m,
@@ -241,8 +167,7 @@ impl Machine {
     // The action of an item, its wait having passed.
     fn act(self, item: Item) -> Did
         requires { ⌜ InRange item ⌝ }
-        requires { ⌜ allLevels (self .inputs) ≡ true ⌝ }
-        requires { ⌜ allLevels (self .disk .lines) ≡ true ⌝ }
+        requires { ⌜ Levels self ⌝ }
         ensures { λ r. ⌜ r ≡ actedOf self item ⌝ }
     {
         let mut m = self;
@@ -255,7 +180,7 @@ impl Machine {
                 value,
             } => {
                 m.via = m.via.write(register, value);
-                did(m)
+                no_value(m)
             }
             Item::WriteIwm {
                 wait: _,
@@ -263,16 +188,16 @@ impl Machine {
                 value: _,
             } => {
                 m.disk = m.disk.access(location);
-                did(m)
+                no_value(m)
             }
             Item::Blank { wait: _ } => {
                 m.via = m.via.raise(2);
-                did(m)
+                no_value(m)
             }
             Item::Second { wait: _ } => {
                 m.via = m.via.raise(1);
                 m.clock = m.clock.second();
-                did(m)
+                no_value(m)
             }
             Item::Line {
                 wait: _,
@@ -281,7 +206,7 @@ impl Machine {
             } => {
                 let at = line as usize;
                 m.inputs[at] = level;
-                did(m)
+                no_value(m)
             }
             Item::Sense {
                 wait: _,
@@ -291,18 +216,18 @@ impl Machine {
             } => {
                 let at = sense_index(drive, register);
                 m.sense[at] = level;
-                did(m)
+                no_value(m)
             }
             Item::Reset { wait: _ } => {
                 m.via = m.via.reset();
                 m.disk = iwm::off();
-                did(m)
+                no_value(m)
             }
             Item::Power { wait: _, seconds } => {
                 m.via = via::fresh();
                 m.disk = iwm::off();
                 m.clock = m.clock.time_off(seconds);
-                did(m)
+                no_value(m)
             }
         }
     }
@@ -345,6 +270,6 @@ pub fn answer(d: Did) -> Answer
         value: d.value,
         level: m.via.level(),
         lines: m.disk.byte(),
-        sel: sel_of(m.via.ports),
+        sel: wiring::sel_of(m.via.ports),
     }
 }
