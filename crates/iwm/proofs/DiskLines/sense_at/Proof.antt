@@ -18,7 +18,7 @@ array-read-nibble-3 : tie.Need-array-read-nibble-3
 array-read-nibble-3 c = search needs
 
 nibble-requires : tie.Need-nibble-requires
-nibble-requires c κs = (c .before .pre .1, level-at (c .before .args .self .lines) 0 (c .before .pre .0), level-at (c .before .args .self .lines) 1 (c .before .pre .0), level-at (c .before .args .self .lines) 2 (c .before .pre .0))
+nibble-requires c κs = omega (arith, level-at (c .before .args .self .lines) 0 (c .before .pre .0), level-at (c .before .args .self .lines) 1 (c .before .pre .0), level-at (c .before .args .self .lines) 2 (c .before .pre .0))
 
 array-read-drive : tie.Need-array-read-drive
 array-read-drive c = search needs
