@@ -1,6 +1,6 @@
 -- The commands of the chip with 20 cells, all 256 bytes, against document 01's table.
 use mathlib.Core.Path.{_≡_, refl}
-use mathlib.Core.Bool.{Bool, true, false, cond}
+use mathlib.Core.Bool.{Bool, true, false}
 use mathlib.Core.List.{List, [], _∷_}
 use Prim.Native.Nat.{ℕ, zero, suc, _+_, _<_}
 use native.Mathlib.Omega.{arith}
@@ -8,8 +8,7 @@ use lib.Dec.{eqb}
 use borrow.Author.Tests.{eqb-true, eqb-false}
 use Rattle.clock.specs.Wire.{decode, named}
 use Rattle.clock.specs.Patterns.{meant}
-use Rattle.clock.specs.declared.Target.{Target}
-use Rattle.clock.specs.declared.Target.the-variants.{Seconds, Test, Protect, Cell}
+use Rattle.clock.specs.declared.Target.the-variants.{Cell}
 use Rattle.clock.specs.declared.Command.{Command}
 use Rattle.clock.specs.declared.Command.the-variants.{Write, Read, Illegal}
 

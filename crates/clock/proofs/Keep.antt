@@ -1,6 +1,6 @@
 -- The step keeps an accepted state accepted, and wires that stay as they are change nothing.
-use mathlib.Core.Path.{_≡_, refl, sym, ap, ap₂, _∙_}
-use mathlib.Core.Bool.{Bool, true, false, cond, not, _&&_, false≢true}
+use mathlib.Core.Path.{_≡_, refl, ap, ap₂}
+use mathlib.Core.Bool.{Bool, true, false, cond, _&&_, false≢true}
 use mathlib.Core.Option.{Option, none}
 use Prim.Native.Nat.{ℕ, suc, _+_, _*_, _^_, _<_}
 use native.Mathlib.Omega.{arith}
@@ -8,7 +8,7 @@ use native.Mathlib.Numerals.{add-one}
 use lib.Dec.{ltb, eqb}
 use borrow.Author.Tests.{ltb-true, lt-ltb, eqb-false}
 use Rattle.clock.specs.Wire.{Written, decode, bit}
-use Rattle.clock.specs.Step.{edgeOf, between, judged, shifted, listened, taken, next, acts, act, stepWires, fewBits, isWrite, acceptedPhase}
+use Rattle.clock.specs.Step.{edgeOf, between, judged, next, acts, act, stepWires, fewBits, isWrite, acceptedPhase}
 use Rattle.clock.specs.declared.Command.{Command}
 use Rattle.clock.specs.declared.Command.the-variants.{Write, Read, Illegal}
 use Rattle.clock.specs.declared.Phase.{Phase}

@@ -6,7 +6,7 @@ use mathlib.Core.Option.{Option}
 use Prim.Native.Nat.{ℕ, _+_, _*_}
 use lib.Dec.{eqb}
 use Rattle.clock.specs.Wire.{Written, decode, bit}
-use Rattle.clock.specs.Step.{edgeOf, between, judged, listened, taken, next, acts, act, stepWires, shown}
+use Rattle.clock.specs.Step.{edgeOf, between, judged, next, acts, act, stepWires, shown}
 use Rattle.clock.specs.Parts.{withLine}
 use Rattle.clock.specs.declared.Command.{Command}
 use Rattle.clock.specs.declared.Command.the-variants.{Write, Read, Illegal}

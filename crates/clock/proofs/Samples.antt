@@ -5,12 +5,10 @@ use mathlib.Core.List.{List, [], _∷_, _++_}
 use Prim.Native.Nat.{ℕ, _/_}
 use lib.ListN.{getD}
 use Rattle.clock.specs.Wire.{decode, named, replace}
-use Rattle.clock.specs.Step.{freshClock, between, fetch, next, acts, put, act, stepWires, shown}
+use Rattle.clock.specs.Step.{freshClock, between, fetch, next, acts, put, act, stepWires}
 use Rattle.clock.specs.Patterns.{bitsOf}
-use Rattle.clock.specs.declared.Phase.{Phase}
-use Rattle.clock.specs.declared.Phase.the-variants.{Idle, Listening, Taking, Sending, Ignoring}
+use Rattle.clock.specs.declared.Phase.the-variants.{Listening, Sending, Ignoring}
 use Rattle.clock.specs.declared.Wires.{Wires}
-use Rattle.clock.specs.declared.Store.{Store}
 use Rattle.clock.specs.declared.Clock.{Clock}
 
 abbrev levels : Bool → Bool → Bool → Wires

@@ -7,7 +7,7 @@ use Rattle.clock.specs.Wire.{either, bit}
 use Rattle.clock.specs.declared.Target.{Target}
 use Rattle.clock.specs.declared.Target.the-variants.{Seconds, Test, Protect, Cell}
 use Rattle.clock.specs.declared.Command.{Command}
-use Rattle.clock.specs.declared.Command.the-variants.{Write, Read, Illegal}
+use Rattle.clock.specs.declared.Command.the-variants.{Illegal}
 
 -- A place of a pattern: 0, 1, z ("z=1 for read"), or a digit of a cell's number.
 pub data Mark : Type 0 where

@@ -4,9 +4,6 @@ use Rattle.iwm.specs.Lines.{lineByteOf}
 use borrow.Author.Needs.{needs}
 use Rattle.iwm.proofs.DiskLines.byte.Statement.{statement}
 use Rattle.iwm.proofs.DiskLines.byte.Tie as tie
-use Rattle.iwm.proofs.DiskLines.byte.Reads as reads
-use Rattle.iwm.proofs.DiskLines.byte.Lts as lts
-use Rattle.iwm.proofs.nibble.Reads as nibble-reads
 
 array-read-nibble : tie.Need-array-read-nibble
 array-read-nibble c = search needs

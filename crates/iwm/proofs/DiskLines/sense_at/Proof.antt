@@ -4,9 +4,6 @@ use Rattle.iwm.specs.Lines.{senseAt}
 use borrow.Author.Needs.{needs}
 use Rattle.iwm.proofs.DiskLines.sense_at.Statement.{statement}
 use Rattle.iwm.proofs.DiskLines.sense_at.Tie as tie
-use Rattle.iwm.proofs.DiskLines.sense_at.Reads as reads
-use Rattle.iwm.proofs.DiskLines.sense_at.Lts as lts
-use Rattle.iwm.proofs.nibble.Reads as nibble-reads
 
 array-read-nibble : tie.Need-array-read-nibble
 array-read-nibble c = search needs
