@@ -15,7 +15,7 @@ pub struct Ports {
     pub dira: u8,
 }
 
-// T1: counter, latches, whether its passage sets flag 6, whether the next tick loads the latches.
+// T1: counter in VIA ticks, latches, whether its passage sets flag 6, whether the next tick loads the latches.
 pub struct Timer1 {
     pub counter: u16,
     pub low: u8,
@@ -24,7 +24,7 @@ pub struct Timer1 {
     pub due: bool,
 }
 
-// T2: counter, low latch, whether its passage sets flag 5.
+// T2: counter in VIA ticks, low latch, whether its passage sets flag 5.
 pub struct Timer2 {
     pub counter: u16,
     pub low: u8,
