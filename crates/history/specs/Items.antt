@@ -1,0 +1,55 @@
+-- Demand 3 of a machine that holds the chip and carries out items: "every list", "each other the state that the one before left".
+-- An item has a list of entries, the newest first, as with the wires "an entry for each" item answered.
+use mathlib.Core.Path.{_≡_}
+use mathlib.Core.Bool.{true}
+use mathlib.Core.List.{List, [], _∷_, _++_}
+use Prim.Native.Nat.{ℕ, _+_, _<_}
+use lib.ListN.{getD}
+use Rattle.clock.specs.Wire.{wrap}
+use Rattle.clock.specs.declared.Wires.{Wires}
+use Rattle.clock.specs.declared.Clock.{Clock}
+use Rattle.history.specs.History.{Start, Entry, History, wiresAt, cellAt, testAt, protectAt, secondsAt, gained, Kept}
+use Rattle.history.specs.Start.{startOf, Accepted}
+use Rattle.history.specs.Demand3.{clockAfter}
+
+-- The items met, the newest first.
+module _ {M I : Type 0} (step : I → M → M) (trace : I → M → List Entry) where
+  -- The state after them.
+  unfoldable pub stateAfter : M → List I → M
+  stateAfter m [] = m
+  stateAfter m (i ∷ is) = step i (stateAfter m is)
+
+  -- The entries of the items js after the items is.
+  unfoldable pub entriesSince : M → List I → List I → List Entry
+  entriesSince m is [] = []
+  entriesSince m is (j ∷ js) = trace j (stateAfter m (js ++ is)) ++ entriesSince m is js
+
+  -- Their history: the entries from the start.
+  unfoldable pub historyOf : M → List I → History
+  historyOf m [] = []
+  historyOf m (i ∷ is) = trace i (stateAfter m is) ++ historyOf m is
+
+-- What is asked of a machine: a state that is Ok stays so and its chip is accepted; there an item acts on the chip as its entries do and leaves
+-- the wires of the newest of them.
+pub record Drives {M I : Type 0} (N : ℕ) (Ok : M → Type 0) (clock : M → Clock) (wires : M → Wires) (step : I → M → M) (trace : I → M → List Entry) : Type 0 where
+  pub accepted : (m : M) → Ok m → Accepted N (clock m) (wires m)
+  pub keeps : (i : I) (m : M) → Ok m → Ok (step i m)
+  pub clock-is : (i : I) (m : M) → Ok m → clock (step i m) ≡ clockAfter N (clock m) (wires m) (trace i m)
+  pub wires-are : (i : I) (m : M) → Ok m → wires (step i m) ≡ wiresAt N (startOf (clock m) (wires m)) (trace i m)
+
+module _ {M I : Type 0} (N : ℕ) (clock : M → Clock) (wires : M → Wires) (step : I → M → M) (trace : I → M → List Entry) where
+  abbrev pub start : M → Start
+  start m = startOf (clock m) (wires m)
+
+  abbrev pub after : M → List I → Clock
+  after m is = clock (stateAfter step trace m is)
+
+  -- Demand 3 of the machine m after the items is, by their history from what m starts with; under protect, up to any items js later.
+  pub record Machine3 (m : M) (is : List I) : Type 0 where
+    pub cells : (i : ℕ) → i < N → getD (after m is .store .cells) i 0 ≡ cellAt N (start m) i (historyOf step trace m is)
+    pub seconds : after m is .store .seconds ≡ secondsAt N (start m) (historyOf step trace m is)
+    pub protect : after m is .store .protect ≡ protectAt N (start m) (historyOf step trace m is)
+    pub test : after m is .store .test ≡ testAt N (start m) (historyOf step trace m is)
+    pub underProtect : (js : List I) → after m is .store .protect ≡ true → Kept N (start m) (historyOf step trace m is) (entriesSince step trace m is js)
+        → (after m (js ++ is) .store .cells ≡ after m is .store .cells)
+        × (after m (js ++ is) .store .seconds ≡ wrap (after m is .store .seconds + gained (entriesSince step trace m is js)))
