@@ -1,2 +1,3 @@
 pub mod Wire
 pub mod Step
+pub mod Parts

@@ -1,0 +1,83 @@
+use mathlib.Core.Path.{sym, ap, subst, _∙_}
+use Rattle.clock.specs.Step.{next, acts, act, stepWires}
+use Rattle.clock.specs.Parts.{edged}
+use Rattle.clock.proofs.Range.{accepted-counts}
+use borrow.Author.Needs.{needs}
+use Rattle.clock.proofs.Clock.step.Statement.{statement}
+use Rattle.clock.proofs.Clock.step.Tie as tie
+use Rattle.clock.proofs.Clock.step.Reads as reads
+use Rattle.clock.proofs.Clock.step.Lts as lts
+use Rattle.clock.proofs.Clock.fall.Reads as fall-reads
+use Rattle.clock.proofs.Clock.rise.Reads as rise-reads
+use Rattle.clock.proofs.Clock.with_phase.Reads as with-phase-reads
+use Rattle.clock.proofs.edge_between.Reads as edge-between-reads
+
+edge-between-requires : tie.Need-edge-between-requires
+edge-between-requires c κs = search needs
+
+enum-told : tie.Need-enum-told
+enum-told c = search needs
+
+with-phase-requires : tie.Need-with-phase-requires
+with-phase-requires c κs = search needs
+
+enum-told-2 : tie.Need-enum-told-2
+enum-told-2 c = search needs
+
+with-phase-requires-2 : tie.Need-with-phase-requires-2
+with-phase-requires-2 c κs = search needs
+
+enum-told-3 : tie.Need-enum-told-3
+enum-told-3 c = search needs
+
+enum-told-4 : tie.Need-enum-told-4
+enum-told-4 c = search needs
+
+fall-requires : tie.Need-fall-requires
+fall-requires c κs = accepted-counts 20 _ _ (c .before .before .before .pre)
+
+enum-known-b : tie.Need-enum-known-b
+enum-known-b c = search needs
+
+rise-requires : tie.Need-rise-requires
+rise-requires c κs = accepted-counts 20 _ _ (c .before .before .before .before .pre)
+
+returns : tie.Need-returns
+unfolding stepWires edged next acts act
+returns c = c .with-phase .ensures ∙ ap (edged 20 (c .before .before .before .before .args .self)) (sym (c .before .enum-told .given .1) ∙ c .before .before .before .edge-between .ensures)
+
+returns-2 : tie.Need-returns-2
+unfolding stepWires edged next acts act
+returns-2 c = c .with-phase2 .ensures ∙ ap (edged 20 (c .before .before .before .before .args .self)) (sym (c .before .enum-told2 .given .1) ∙ c .before .before .before .edge-between .ensures)
+
+returns-3 : tie.Need-returns-3
+unfolding stepWires edged next acts act
+returns-3 c = ap (edged 20 (c .before .before .before .args .self)) (sym (c .enum-told3 .given .1) ∙ c .before .before .edge-between .ensures)
+
+returns-4 : tie.Need-returns-4
+unfolding stepWires edged
+returns-4 c = c .fall .ensures ∙ ap (edged 20 (c .before .before .before .before .args .self)) (sym (c .before .enum-told4 .given .1) ∙ c .before .before .before .edge-between .ensures)
+
+returns-5 : tie.Need-returns-5
+unfolding stepWires edged
+returns-5 c = c .rise .ensures ∙ ap (edged 20 (c .before .before .before .before .before .args .self)) (sym (c .before .before .b .given .1) ∙ c .before .before .before .before .edge-between .ensures)
+
+pub step-spec : {M : Type 1} → statement M
+step-spec =
+    tie.close
+    (tie.spec
+    edge-between-requires
+    enum-told
+    with-phase-requires
+    enum-told-2
+    with-phase-requires-2
+    enum-told-3
+    enum-told-4
+    fall-requires
+    enum-known-b
+    rise-requires
+    returns
+    returns-2
+    returns-3
+    returns-4
+    returns-5)

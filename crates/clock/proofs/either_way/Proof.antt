@@ -1,0 +1,13 @@
+use Rattle.clock.proofs.either_way.Statement.{statement}
+use Rattle.clock.proofs.either_way.Tie as tie
+use Rattle.clock.proofs.either_way.Reads as reads
+use Rattle.clock.proofs.either_way.Lts as lts
+
+returns : tie.Need-returns
+returns c = cc
+
+returns-2 : tie.Need-returns-2
+returns-2 c = cc
+
+pub either-way-spec : {M : Type 1} → statement M
+either-way-spec = tie.close (tie.spec returns returns-2)

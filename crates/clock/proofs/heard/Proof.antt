@@ -1,0 +1,29 @@
+use mathlib.Core.Path.{sym, ap, subst, _∙_}
+use native.Mathlib.Omega.{arith}
+use borrow.Author.Tests.{lt-ltb, le-ltb, le-leb, lt-leb, eq-eqb, ne-eqb}
+use Rattle.clock.proofs.Range.{few-count, few-small}
+use borrow.Author.Needs.{needs}
+use Rattle.clock.proofs.heard.Statement.{statement}
+use Rattle.clock.proofs.heard.Tie as tie
+use Rattle.clock.proofs.heard.Reads as reads
+use Rattle.clock.proofs.heard.Lts as lts
+use Rattle.clock.proofs.judged_by.Reads as judged-by-reads
+use Rattle.clock.proofs.pushed.Reads as pushed-reads
+
+pushed-requires : tie.Need-pushed-requires
+pushed-requires c κs = few-small (c .args .n) (c .args .v) (c .pre)
+
+judged-by-requires : tie.Need-judged-by-requires
+judged-by-requires c κs = search needs
+
+returns : tie.Need-returns
+returns c = c .judged-by .ensures ∙ simp (eq-eqb _ _ (c .before .if1 .taken), c .before .before .pushed .ensures)
+
+add-t7 : tie.Need-add-t7
+add-t7 c = omega (arith, few-count (c .before .before .args .n) (c .before .before .args .v) (c .before .before .pre))
+
+returns-2 : tie.Need-returns-2
+returns-2 c = simp (ne-eqb _ _ (c .if1 .left), c .before .pushed .ensures)
+
+pub heard-spec : {M : Type 1} → statement M
+heard-spec = tie.close (tie.spec pushed-requires judged-by-requires returns add-t7 returns-2)

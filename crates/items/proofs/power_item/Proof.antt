@@ -1,0 +1,28 @@
+use borrow.Author.Needs.{needs}
+use Rattle.items.specs.Items.{powerOf}
+use native.Mathlib.Omega.{arith}
+use mathlib.Core.Path.{_≡_, sym, ap, _∙_}
+use borrow.Author.Tests.{lt-ltb, le-ltb, le-leb, lt-leb, eq-eqb, ne-eqb}
+use Rattle.items.proofs.power_item.Statement.{statement}
+use Rattle.items.proofs.power_item.Tie as tie
+use Rattle.items.proofs.power_item.Reads as reads
+use Rattle.items.proofs.power_item.Lts as lts
+use Rattle.record.proofs.le16.Reads as le16-reads
+use Rattle.record.proofs.le32.Reads as le32-reads
+
+returns : tie.Need-returns
+unfolding powerOf
+returns c = simp (ne-eqb _ _ (c .if1 .taken))
+
+le16-requires : tie.Need-le16-requires
+le16-requires c κs = search needs
+
+le32-requires : tie.Need-le32-requires
+le32-requires c κs = search needs
+
+returns-2 : tie.Need-returns-2
+unfolding powerOf
+returns-2 c = simp (eq-eqb _ _ (c .before .before .if1 .left), ← c .before .le16 .ensures, ← c .le32 .ensures)
+
+pub power-item-spec : {M : Type 1} → statement M
+power-item-spec = tie.close (tie.spec returns le16-requires le32-requires returns-2)

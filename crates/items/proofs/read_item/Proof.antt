@@ -1,0 +1,59 @@
+use borrow.Author.Needs.{needs}
+use Rattle.items.specs.Items.{readOf}
+use borrow.Author.Tests.{lt-ltb, le-ltb, le-leb, lt-leb, eq-eqb, ne-eqb}
+use Rattle.items.proofs.read_item.Statement.{statement}
+use Rattle.items.proofs.read_item.Tie as tie
+use Rattle.items.proofs.read_item.Reads as reads
+use Rattle.items.proofs.read_item.Lts as lts
+use Rattle.items.proofs.find.Reads as find-reads
+use Rattle.record.proofs.le16.Reads as le16-reads
+use Rattle.record.proofs.le32.Reads as le32-reads
+
+returns : tie.Need-returns
+unfolding readOf
+returns c = simp (ne-eqb _ _ (c .if1 .taken))
+
+le16-requires : tie.Need-le16-requires
+le16-requires c κs = search needs
+
+le32-requires : tie.Need-le32-requires
+le32-requires c κs = search needs
+
+find-requires : tie.Need-find-requires
+find-requires c κs = search needs
+
+enum-known-register : tie.Need-enum-known-register
+enum-known-register c = search needs
+
+enum-known-location : tie.Need-enum-known-location
+enum-known-location c = search needs
+
+enum-told : tie.Need-enum-told
+enum-told c = search needs
+
+returns-2 : tie.Need-returns-2
+unfolding readOf
+returns-2 c = simp (eq-eqb _ _ (c .before .before .before .before .before .before .if1 .left), ← c .before .before .before .before .before .le16 .ensures, ← c .before .before .before .before .le32 .ensures, ← c .before .before .before .find .ensures, c .before .register .given .1)
+
+returns-3 : tie.Need-returns-3
+unfolding readOf
+returns-3 c = simp (eq-eqb _ _ (c .before .before .before .before .before .before .if1 .left), ← c .before .before .before .before .before .le16 .ensures, ← c .before .before .before .before .le32 .ensures, ← c .before .before .before .find .ensures, c .before .location .given .1)
+
+returns-4 : tie.Need-returns-4
+unfolding readOf
+returns-4 c = simp (eq-eqb _ _ (c .before .before .before .before .before .if1 .left), ← c .before .before .before .before .le16 .ensures, ← c .before .before .before .le32 .ensures, ← c .before .before .find .ensures, c .enum-told .given .1)
+
+pub read-item-spec : {M : Type 1} → statement M
+read-item-spec =
+    tie.close
+    (tie.spec
+    returns
+    le16-requires
+    le32-requires
+    find-requires
+    enum-known-register
+    enum-known-location
+    enum-told
+    returns-2
+    returns-3
+    returns-4)

@@ -1,0 +1,129 @@
+-- What the bytes of a record, its kind first, ask for: document 01, "Items and answers as bytes" and refusals 2 to 5.
+use Prim.Native.Nat.{ℕ, _+_, _-_, _*_, _/_, _%_, _<_}
+use mathlib.Core.Bool.{Bool, true, false, cond, _&&_}
+use mathlib.Core.List.{List, [], _∷_}
+use lib.ListN.{length, getD}
+use lib.Dec.{ltb, eqb}
+use Rattle.record.specs.Record.{le16Of, le32Of}
+use Rattle.items.specs.declared.Item.{Item}
+use Rattle.items.specs.declared.Item.the-variants.{ReadVia, ReadIwm, WriteVia, WriteIwm, Line, Sense, Power}
+use Rattle.items.specs.declared.Decoded.{Decoded}
+use Rattle.items.specs.declared.Decoded.the-variants.{Done, Refused}
+use Rattle.items.specs.declared.Plain.{Plain}
+use Rattle.items.specs.declared.Place.{Place}
+use Rattle.items.specs.declared.Place.the-variants.{At, Off}
+use Rattle.items.specs.declared.Found.{Found}
+use Rattle.items.specs.declared.Found.the-variants.{Via, Iwm, Nowhere}
+
+-- "For an answer that is an enum, a definition gives this paper's number": the refusal's number, 0 of an item.
+abbrev pub refusalOf : Decoded → ℕ
+refusalOf (Done x) = 0
+refusalOf (Refused n) = n
+
+-- "The kinds are compared as two fixed bytes of ASCII."
+unfoldable pub isKind : List ℕ → List ℕ → Bool
+isKind s k = eqb (getD s 0 0) (getD k 0 0) && eqb (getD s 1 0) (getD k 1 0)
+
+-- Which of the sixteen addresses base + 512r, r from 0 to 15.
+unfoldable pub placeFrom : ℕ → ℕ → Place
+placeFrom a base =
+    cond (ltb a base) Off
+    (cond (ltb (15 * 512) (a - base)) Off
+    (cond (eqb ((a - base) % 512) 0) (At ((a - base) / 512)) Off))
+
+abbrev pub eitherOf : Place → Place → Found
+eitherOf (At r) y = Via r
+eitherOf Off (At k) = Iwm k
+eitherOf Off Off = Nowhere
+
+-- "Register r (0 to 15) is at $EFE1FE + 512r", "location k (0 to 15) is at $DFE1FF + 512k".
+unfoldable pub foundOf : ℕ → Found
+foundOf a = eitherOf (placeFrom a 0xefe1fe) (placeFrom a 0xdfe1ff)
+
+-- Refusal 3, "length wrong for the kind".
+abbrev pub sized : List ℕ → ℕ → Decoded → Decoded
+sized s n x = cond (eqb (length s) n) x (Refused 3)
+
+-- Refusal 4, "address is none of the 32".
+abbrev pub placed : Found → (ℕ → Item) → (ℕ → Item) → Decoded
+placed (Via r) f g = Done (f r)
+placed (Iwm k) f g = Done (g k)
+placed Nowhere f g = Refused 4
+
+-- Refusal 5, "line, drive, register or level out of range".
+abbrev pub upTo : ℕ → ℕ → Decoded → Decoded
+upTo v most x = cond (ltb most v) (Refused 5) x
+
+-- "Every item's body begins with a wait in VIA ticks (2 bytes)."
+abbrev pub waitOf : List ℕ → ℕ
+waitOf s = le16Of s 2
+
+-- RD, 8: "address (4): read".
+unfoldable pub readOf : List ℕ → Decoded
+readOf s = sized s 8 (placed (foundOf (le32Of s 4)) (λ r. ReadVia (waitOf s) r) (λ k. ReadIwm (waitOf s) k))
+
+-- WR, 9: "address (4), value (1)".
+unfoldable pub writeOf : List ℕ → Decoded
+writeOf s =
+    sized s 9 (placed (foundOf (le32Of s 4)) (λ r. WriteVia (waitOf s) r (getD s 8 0)) (λ k. WriteIwm (waitOf s) k (getD s 8 0)))
+
+-- IN, 6: "line 0 to 4, level 0 or 1".
+unfoldable pub lineOf : List ℕ → Decoded
+lineOf s = sized s 6 (upTo (getD s 4 0) 4 (upTo (getD s 5 0) 1 (Done (Line (waitOf s) (getD s 4 0) (getD s 5 0)))))
+
+-- SN, 7: "drive 0 internal or 1 external, register 0 to 15, level".
+unfoldable pub senseOf : List ℕ → Decoded
+senseOf s =
+    sized s 7 (upTo (getD s 4 0) 1 (upTo (getD s 5 0) 15 (upTo (getD s 6 0) 1 (Done (Sense (waitOf s) (getD s 4 0) (getD s 5 0) (getD s 6 0))))))
+
+-- PW, 8: "power cut: seconds off (4)".
+unfoldable pub powerOf : List ℕ → Decoded
+powerOf s = sized s 8 (Done (Power (waitOf s) (le32Of s 4)))
+
+-- VB, SE, RS, 4: nothing after the wait.
+abbrev pub plainItem : Plain → ℕ → Item
+plainItem Plain.Blank w = Item.Blank w
+plainItem Plain.Second w = Item.Second w
+plainItem Plain.Reset w = Item.Reset w
+
+unfoldable pub plainOf : List ℕ → Plain → Decoded
+plainOf s k = sized s 4 (Done (plainItem k (waitOf s)))
+
+-- The table of kinds; refusal 2, "unknown kind", comes before 3, 4 and 5.
+unfoldable pub decodedOf : List ℕ → Decoded
+decodedOf s =
+    cond (isKind s (82 ∷ 68 ∷ [])) (readOf s)
+    (cond (isKind s (87 ∷ 82 ∷ [])) (writeOf s)
+    (cond (isKind s (86 ∷ 66 ∷ [])) (plainOf s Plain.Blank)
+    (cond (isKind s (83 ∷ 69 ∷ [])) (plainOf s Plain.Second)
+    (cond (isKind s (73 ∷ 78 ∷ [])) (lineOf s)
+    (cond (isKind s (83 ∷ 78 ∷ [])) (senseOf s)
+    (cond (isKind s (82 ∷ 83 ∷ [])) (plainOf s Plain.Reset)
+    (cond (isKind s (80 ∷ 87 ∷ [])) (powerOf s)
+    (Refused 2))))))))
+
+-- The numbers of an item are within document 01's ranges.
+abbrev pub InRange : Item → Type 0
+InRange (ReadVia w r) = r < 16
+InRange (ReadIwm w k) = k < 16
+InRange (WriteVia w r v) = r < 16
+InRange (WriteIwm w k v) = k < 16
+InRange (Item.Blank w) = Unit {0}
+InRange (Item.Second w) = Unit {0}
+InRange (Line w l v) = (l < 5) × (v < 2)
+InRange (Sense w d r v) = (d < 2) × (r < 16) × (v < 2)
+InRange (Item.Reset w) = Unit {0}
+InRange (Power w t) = Unit {0}
+
+-- The numbers of an item are within their widths: a wait of two bytes, a value of one, seconds of four.
+abbrev pub InWidth : Item → Type 0
+InWidth (ReadVia w r) = w < 65536
+InWidth (ReadIwm w k) = w < 65536
+InWidth (WriteVia w r v) = (w < 65536) × (v < 256)
+InWidth (WriteIwm w k v) = (w < 65536) × (v < 256)
+InWidth (Item.Blank w) = w < 65536
+InWidth (Item.Second w) = w < 65536
+InWidth (Line w l v) = w < 65536
+InWidth (Sense w d r v) = w < 65536
+InWidth (Item.Reset w) = w < 65536
+InWidth (Power w t) = (w < 65536) × (t < 4294967296)

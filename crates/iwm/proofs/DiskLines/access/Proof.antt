@@ -1,0 +1,20 @@
+use mathlib.Core.Path.{refl}
+use Rattle.iwm.specs.Lines.{accessed}
+use borrow.Author.Needs.{needs}
+use Rattle.iwm.proofs.DiskLines.access.Statement.{statement}
+use Rattle.iwm.proofs.DiskLines.access.Tie as tie
+use Rattle.iwm.proofs.DiskLines.access.Reads as reads
+use Rattle.iwm.proofs.DiskLines.access.Lts as lts
+
+cast-i : tie.Need-cast-i
+cast-i c = search needs
+
+element-write-d : tie.Need-element-write-d
+element-write-d c = search needs
+
+returns : tie.Need-returns
+unfolding accessed
+returns c = refl
+
+pub access-spec : {M : Type 1} → statement M
+access-spec = tie.close (tie.spec cast-i element-write-d returns)
