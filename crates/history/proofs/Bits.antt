@@ -10,12 +10,9 @@ use lib.ListN.{length, take, drop, length-append}
 use lib.Seq.{append-snoc, drop-at}
 use borrow.Author.Tests.{eqb-true, eqb-false, eq-eqb, ne-eqb}
 use Rattle.clock.specs.Wire.{decode, Written, writeBy, bit, num}
+use Rattle.clock.proofs.Range.{bit-le}
 use Rattle.history.specs.History.{complete}
 use Rattle.history.specs.Start.{bitsOf}
-
-pub bit-le : (b : Bool) → bit b ≤ 1
-bit-le true = omega arith
-bit-le false = omega arith
 
 pub num-bound : (n : ℕ) (bs : List Bool) → num (take n bs) < 2 ^ n
 num-bound zero bs = omega arith

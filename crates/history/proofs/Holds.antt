@@ -79,7 +79,7 @@ module _ (N : ℕ) (c : Clock) (w : Wires) (ok : Accepted N c w) where
       ∙ seconds-act (ended N S (e ∷ h)) (counted (e .event) (storeAfter N c w h))
       ∙ ap₂ replaced (clear-is e h) (ap (elapse (e .event)) (seconds-is h) ∙ elapse-gain (e .event) (secondsAt N S h) (seconds-small N S h (ok .seconds)))
 
-  cells-are : (h : History) → length (storeAfter N c w h .cells) ≡ N
+  pub cells-are : (h : History) → length (storeAfter N c w h .cells) ≡ N
   unfolding clockAfter
   cells-are [] = ok .cells
   cells-are (e ∷ h) =
@@ -96,7 +96,7 @@ module _ (N : ℕ) (c : Clock) (w : Wires) (ok : Accepted N c w) where
       ∙ cell-act i (ended N S (e ∷ h)) (counted (e .event) (storeAfter N c w h)) k
       ∙ ap₂ (byteTo (Cell i)) (clear-is e h) (cell-is h i l)
 
-  small : (h : History) → storeAfter N c w h .seconds < 2 ^ 32
+  pub small : (h : History) → storeAfter N c w h .seconds < 2 ^ 32
   small h = rw seconds-is (seconds-small N S h (ok .seconds))
 
   still-protected : (h : History) (es : List Entry) → protectAt N S h ≡ true → Kept N S h es → protectAt N S (es ++ h) ≡ true

@@ -5,13 +5,11 @@ use mathlib.Core.List.{List, [], _∷_}
 use mathlib.Core.Option.{Option, none, some}
 use Prim.Native.Nat.{ℕ, suc, _+_, _*_, _^_, _<_}
 use native.Mathlib.Omega.{arith}
-use native.Mathlib.Nat.{mod-lt}
 use native.Mathlib.Numerals.{add-one}
 use lib.Dec.{eqb}
-use lib.ListN.{length}
-use borrow.Author.Tests.{eqb-true, eqb-false}
-use Rattle.clock.specs.Wire.{Event, quiet, second, off, elapse, decode, Written, writeBy, bit}
-use Rattle.clock.specs.Step.{isWrite, edgeOf, between, judged, next, acts, act, counted, stepWires, stepClock, withStore}
+use borrow.Author.Tests.{eqb-false}
+use Rattle.clock.specs.Wire.{Event, quiet, decode, Written, bit}
+use Rattle.clock.specs.Step.{isWrite, edgeOf, between, judged, next, acts, act, counted, stepWires, stepClock, acceptedPhase}
 use Rattle.clock.specs.declared.Command.{Command}
 use Rattle.clock.specs.declared.Command.the-variants.{Write, Read, Illegal}
 use Rattle.clock.specs.declared.Phase.{Phase}
@@ -19,13 +17,12 @@ use Rattle.clock.specs.declared.Phase.the-variants.{Idle, Listening, Taking, Se
 use Rattle.clock.specs.declared.Wires.{Wires}
 use Rattle.clock.specs.declared.Store.{Store}
 use Rattle.clock.specs.declared.Clock.{Clock}
-use Rattle.history.specs.History.{History, replaced, wiresAt}
+use Rattle.history.specs.History.{Start, History, wiresAt}
 use Rattle.history.specs.Start.{startOf, Accepted}
 use Rattle.history.specs.Demand3.{clockAfter}
-use Rattle.history.proofs.Phases.{cond-case, Parts, parts, accepts}
-use Rattle.history.proofs.Bits.{bit-le}
-use Rattle.history.proofs.Range.{Fine, write-fine, decode-legal, replaced-small}
-use Rattle.history.proofs.Stores.{seconds-act, length-act}
+use Rattle.clock.proofs.Range.{bit-le}
+use Rattle.history.proofs.Phases.{Parts, parts, accepts}
+use Rattle.history.proofs.Holds.{cells-are, small}
 
 judged-ok : (N : ℕ) (s : Store) (c : ℕ) (k : Command) → decode N c ≡ k → Parts N (judged s c k) false
 judged-ok N s c (Write t) e = (refl, ap isWrite e, omega arith, omega arith)
@@ -36,12 +33,6 @@ judged-ok N s c Illegal e = refl
 more-bits : (n v : ℕ) (b : Bool) → eqb n 7 ≡ false → n < 8 → v < 2 ^ n → (n + 1 < 8) × (2 * v + bit b < 2 ^ (n + 1))
 more-bits n v b q l u =
     (omega (arith, eqb-false n 7 q), subst (λ (k : ℕ). 2 * v + bit b < 2 ^ k) (sym (add-one n)) (omega (arith, bit-le b)))
-
-eight-bits : (n v : ℕ) (b : Bool) → eqb n 7 ≡ true → v < 2 ^ n → 2 * v + bit b < 256
-eight-bits n v b q u =
-    let m : n ≡ 7 = eqb-true n 7 q in
-    let u7 : v < 2 ^ 7 = rw m at u in
-    omega (arith, bit-le b)
 
 listening-ok : (N : ℕ) (s : Store) (n v : ℕ) (b : Bool) (t : Bool) → eqb n 7 ≡ t → Parts N (Listening n v) false
     → Parts N (cond t (judged s (2 * v + bit b) (decode N (2 * v + bit b))) (Listening (n + 1) (2 * v + bit b))) false
@@ -74,49 +65,25 @@ phase-ok N s (Taking y n v) false false false true d k = taking-ok N y n v d (eq
 phase-ok N s (Sending y n) false false false true d k = k
 phase-ok N s Ignoring false false false true d k = k
 
-acts-fine : (N : ℕ) (p : Phase) (e′ e c c′ d : Bool) → Parts N p e → Fine (acts N p (edgeOf e′ e c c′ d))
-unfolding acts
-acts-fine N p true e c c′ d k = tt
-acts-fine N p false true c c′ d k = tt
-acts-fine N p false false false false d k = tt
-acts-fine N p false false true true d k = tt
-acts-fine N p false false true false d k = tt
-acts-fine N Idle false false false true d k = tt
-acts-fine N (Listening n v) false false false true d k = tt
-acts-fine N (Taking y n v) false false false true d (e, g, l, u) =
-    cond-case Fine (eqb n 7) (λ q. write-fine (decode N y) (2 * v + bit d) (decode-legal N y) (eight-bits n v d q u)) (λ q. tt)
-acts-fine N (Sending y n) false false false true d k = tt
-acts-fine N Ignoring false false false true d k = tt
-
-either-fine : (p : Bool) (o : Option Written) → Fine o → Fine (cond p none o)
-either-fine true o f = tt
-either-fine false o f = f
-
-elapse-small : (e : Event) (s : ℕ) → s < 2 ^ 32 → elapse e s < 2 ^ 32
-elapse-small quiet s l = l
-elapse-small second s l = mod-lt (s + 1) (omega arith)
-elapse-small (off n) s l = mod-lt (s + n) (omega arith)
-
-pub accepted-step : (N : ℕ) (e : Event) (c : Clock) (w w′ : Wires) → Accepted N c w → Accepted N (stepClock N e c w w′) w′
-unfolding stepWires between
-accepted-step N e c w w′ ok =
-    let s : Store = counted e (c .store) in
-    let o : Option Written = acts N (c .phase) (between w w′) in
-    let k : Parts N (c .phase) (w .enable) = parts N (c .phase) (w .enable) (ok .phase) in
-    let f : Fine o = acts-fine N (c .phase) (w′ .enable) (w .enable) (w .dataclock) (w′ .dataclock) (w′ .dataline) k in
-    record {
-      phase = accepts N (next N s (c .phase) (between w w′)) (w′ .enable)
-          (phase-ok N s (c .phase) (w′ .enable) (w .enable) (w .dataclock) (w′ .dataclock) (w′ .dataline) k);
-      cells = length-act o s ∙ ok .cells;
-      seconds = rw (seconds-act o s) (replaced-small (cond (s .protect) none o) (s .seconds) (either-fine (s .protect) o f)
-          (elapse-small e (c .store .seconds) (ok .seconds)));
-    }
-
 -- So it is after every history.
 pub accepted-after : (N : ℕ) (c : Clock) (w : Wires) → Accepted N c w → (h : History) → Accepted N (clockAfter N c w h) (wiresAt N (startOf c w) h)
+unfolding clockAfter wiresAt stepWires between
+accepted-after N c w ok h = record { phase = go h; cells = cells-are N c w ok h; seconds = small N c w ok h }
+  where
+    S : Start
+    S = startOf c w
+
+    go : (h : History) → acceptedPhase N (clockAfter N c w h .phase) (wiresAt N S h .enable) ≡ true
+    go [] = ok .phase
+    go (e ∷ h) =
+        accepts N (clockAfter N c w (e ∷ h) .phase) (e .wires .enable)
+        (phase-ok N (counted (e .event) (clockAfter N c w h .store)) (clockAfter N c w h .phase) (e .wires .enable) (wiresAt N S h .enable)
+        (wiresAt N S h .dataclock) (e .wires .dataclock) (e .wires .dataline) (parts N (clockAfter N c w h .phase) (wiresAt N S h .enable) (go h)))
+
+-- And after one step.
+pub accepted-step : (N : ℕ) (e : Event) (c : Clock) (w w′ : Wires) → Accepted N c w → Accepted N (stepClock N e c w w′) w′
 unfolding clockAfter wiresAt
-accepted-after N c w ok [] = ok
-accepted-after N c w ok (e ∷ h) = accepted-step N (e .event) (clockAfter N c w h) (wiresAt N (startOf c w) h) (e .wires) (accepted-after N c w ok h)
+accepted-step N e c w w′ ok = accepted-after N c w ok (record { wires = w′; event = e } ∷ [])
 
 still-phase : (N : ℕ) (s : Store) (p : Phase) (e c d : Bool) → Parts N p e → next N s p (edgeOf e e c c d) ≡ p
 unfolding next

@@ -6,19 +6,11 @@ use lib.Dec.{ltb, leb, eqb}
 use borrow.Author.Tests.{ltb-true, lt-ltb, leb-false, not-true}
 use Rattle.clock.specs.Wire.{either, writeOnly, cellOf, named, decode}
 use Rattle.clock.specs.Step.{isWrite, fewBits, acceptedPhase}
+use Rattle.clock.proofs.Range.{cond-case, and-left, and-right, few-count, few-value}
 use Rattle.clock.specs.declared.Command.{Command}
 use Rattle.clock.specs.declared.Command.the-variants.{Write, Read, Illegal}
 use Rattle.clock.specs.declared.Phase.{Phase}
 use Rattle.clock.specs.declared.Phase.the-variants.{Idle, Listening, Taking, Sending, Ignoring}
-
--- A test's two outcomes.
-abbrev pub cond-case : {A : Type 0} (P : A → Type 0) (t : Bool) {x y : A} → (t ≡ true → P x) → (t ≡ false → P y) → P (cond t x y)
-cond-case P true f g = f refl
-cond-case P false f g = g refl
-
-both-true : (a b : Bool) → (a && b) ≡ true → (a ≡ true) × (b ≡ true)
-both-true true b h = (refl, h)
-both-true false b h = absurd (false≢true h)
 
 true-both : (a b : Bool) → a ≡ true → b ≡ true → (a && b) ≡ true
 true-both true b p q = q
@@ -32,9 +24,6 @@ Parts N (Taking c n v) e = (e ≡ false) × (isWrite (decode N c) ≡ true) × (
 Parts N (Sending y n) e = (e ≡ false) × (n < 9)
 Parts N Ignoring e = e ≡ false
 
-few : (n v : ℕ) → fewBits n v ≡ true → (n < 8) × (v < 2 ^ n)
-few n v h = let p = both-true (ltb n 8) (ltb v (2 ^ n)) h in (ltb-true n 8 (p .0), ltb-true v (2 ^ n) (p .1))
-
 is-few : (n v : ℕ) → n < 8 → v < 2 ^ n → fewBits n v ≡ true
 is-few n v l u = true-both (ltb n 8) (ltb v (2 ^ n)) (lt-ltb n 8 l) (lt-ltb v (2 ^ n) u)
 
@@ -42,15 +31,13 @@ pub parts : (N : ℕ) (p : Phase) (e : Bool) → acceptedPhase N p e ≡ true �
 unfolding acceptedPhase
 parts N Idle e h = h
 parts N (Listening n v) e h =
-    let p = both-true (not e) (fewBits n v) h in
-    let f = few n v (p .1) in
-    (not-true e (p .0), f .0, f .1)
+    let f : fewBits n v ≡ true = and-right (not e) (fewBits n v) h in
+    (not-true e (and-left (not e) (fewBits n v) h), few-count n v f, few-value n v f)
 parts N (Taking c n v) e h =
-    let p = both-true (not e) (isWrite (decode N c) && fewBits n v) h in
-    let q = both-true (isWrite (decode N c)) (fewBits n v) (p .1) in
-    let f = few n v (q .1) in
-    (not-true e (p .0), q .0, f .0, f .1)
-parts N (Sending y n) e h = let p = both-true (not e) (ltb n 9) h in (not-true e (p .0), ltb-true n 9 (p .1))
+    let r : (isWrite (decode N c) && fewBits n v) ≡ true = and-right (not e) (isWrite (decode N c) && fewBits n v) h in
+    let f : fewBits n v ≡ true = and-right (isWrite (decode N c)) (fewBits n v) r in
+    (not-true e (and-left (not e) (isWrite (decode N c) && fewBits n v) h), and-left (isWrite (decode N c)) (fewBits n v) r, few-count n v f, few-value n v f)
+parts N (Sending y n) e h = (not-true e (and-left (not e) (ltb n 9) h), ltb-true n 9 (and-right (not e) (ltb n 9) h))
 parts N Ignoring e h = not-true e h
 
 pub accepts : (N : ℕ) (p : Phase) (e : Bool) → Parts N p e → acceptedPhase N p e ≡ true
