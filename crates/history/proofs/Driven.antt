@@ -1,5 +1,5 @@
 -- From the chip to a machine: where every item drives the chip as its entries do, demand 3 holds of every list of items.
-use mathlib.Core.Path.{_≡_, refl, sym, ap, ap₂, _∙_}
+use mathlib.Core.Path.{_≡_, refl, sym, ap, ap₂, subst, _∙_}
 use mathlib.Core.Bool.{Bool, true, false}
 use mathlib.Core.List.{List, [], _∷_, _++_, append-assoc}
 use Prim.Native.Nat.{ℕ, _+_, _<_}
@@ -13,6 +13,7 @@ use Rattle.history.specs.Start.{startOf, Accepted}
 use Rattle.history.specs.Demand3.{clockAfter, Demand3}
 use Rattle.history.specs.Items.{stateAfter, historyOf, entriesSince, Drives, Machine3}
 use Rattle.history.proofs.Holds.{demand3}
+use Rattle.history.proofs.Keeps.{accepted-after}
 
 abbrev wiresAfter : ℕ → Clock → Wires → History → Wires
 wiresAfter N c w h = wiresAt N (startOf c w) h
@@ -33,24 +34,30 @@ pub history-since : {M I : Type 0} (step : I → M → M) (trace : I → M → L
 unfolding historyOf entriesSince
 history-since step trace m is [] = refl
 history-since step trace m is (j ∷ js) =
-    let t : List Entry = trace j (stateAfter step trace m (js ++ is)) in
+    let t : List Entry = trace j (stateAfter step m (js ++ is)) in
     ap (λ (l : List Entry). t ++ l) (history-since step trace m is js)
     ∙ sym (append-assoc t (entriesSince step trace m is js) (historyOf step trace m is))
 
-module _ {M I : Type 0} (N : ℕ) (Ok : M → Type 0) (clock : M → Clock) (wires : M → Wires) (step : I → M → M) (trace : I → M → List Entry)
-    (D : Drives N Ok clock wires step trace) where
-  pub ok-after : (m : M) → Ok m → (is : List I) → Ok (stateAfter step trace m is)
+module _ {M I : Type 0} (N : ℕ) (clock : M → Clock) (wires : M → Wires) (step : I → M → M) (trace : I → M → List Entry)
+    (D : Drives N clock wires step trace) where
+  pub ok-step : (i : I) (m : M) → Accepted N (clock m) (wires m) → Accepted N (clock (step i m)) (wires (step i m))
+  ok-step i m ok =
+      subst (λ (c : Clock). Accepted N c (wires (step i m))) (sym (D .clock-is i m ok))
+      (subst (λ (w : Wires). Accepted N (clockAfter N (clock m) (wires m) (trace i m)) w) (sym (D .wires-are i m ok))
+      (accepted-after N (clock m) (wires m) ok (trace i m)))
+
+  pub ok-after : (m : M) → Accepted N (clock m) (wires m) → (is : List I) → Accepted N (clock (stateAfter step m is)) (wires (stateAfter step m is))
   unfolding stateAfter
   ok-after m ok [] = ok
-  ok-after m ok (i ∷ is) = D .keeps i (stateAfter step trace m is) (ok-after m ok is)
+  ok-after m ok (i ∷ is) = ok-step i (stateAfter step m is) (ok-after m ok is)
 
-  pub driven : (m : M) → Ok m → (is : List I)
-      → (clock (stateAfter step trace m is) ≡ clockAfter N (clock m) (wires m) (historyOf step trace m is))
-      × (wires (stateAfter step trace m is) ≡ wiresAfter N (clock m) (wires m) (historyOf step trace m is))
+  pub driven : (m : M) → Accepted N (clock m) (wires m) → (is : List I)
+      → (clock (stateAfter step m is) ≡ clockAfter N (clock m) (wires m) (historyOf step trace m is))
+      × (wires (stateAfter step m is) ≡ wiresAfter N (clock m) (wires m) (historyOf step trace m is))
   unfolding stateAfter historyOf clockAfter wiresAt
   driven m ok [] = (refl, refl)
   driven m ok (i ∷ is) =
-      let m′ = stateAfter step trace m is in
+      let m′ = stateAfter step m is in
       let h = historyOf step trace m is in
       let ok′ = ok-after m ok is in
       let r = driven m ok is in
@@ -60,10 +67,10 @@ module _ {M I : Type 0} (N : ℕ) (Ok : M → Type 0) (clock : M → Clock) (wir
             ∙ sym (wires-append N (clock m) (wires m) (clockAfter N (clock m) (wires m) h) es h),
       )
 
-  pub machine3 : (m : M) → Ok m → (is : List I) → Machine3 N clock wires step trace m is
+  pub machine3 : (m : M) → Accepted N (clock m) (wires m) → (is : List I) → Machine3 N clock wires step trace m is
   machine3 m ok is =
       let h : History = historyOf step trace m is in
-      let d = demand3 N (clock m) (wires m) (D .accepted m ok) h in
+      let d = demand3 N (clock m) (wires m) ok h in
       let r = driven m ok is .0 in
       record {
         cells = λ i l. ap (λ (c : Clock). getD (c .store .cells) i 0) r ∙ d .cells i l;
@@ -72,7 +79,7 @@ module _ {M I : Type 0} (N : ℕ) (Ok : M → Type 0) (clock : M → Clock) (wir
         test = ap (λ (c : Clock). c .store .test) r ∙ d .test;
         underProtect = λ js p k.
             let es : List Entry = entriesSince step trace m is js in
-            let q : clock (stateAfter step trace m (js ++ is)) ≡ clockAfter N (clock m) (wires m) (es ++ h) =
+            let q : clock (stateAfter step m (js ++ is)) ≡ clockAfter N (clock m) (wires m) (es ++ h) =
             driven m ok (js ++ is) .0 ∙ ap (clockAfter N (clock m) (wires m)) (history-since step trace m is js) in
             let u = d .underProtect es (sym (d .protect) ∙ sym (ap (λ (c : Clock). c .store .protect) r) ∙ p) k in (
               ap (λ (c : Clock). c .store .cells) q ∙ u .0 ∙ sym (ap (λ (c : Clock). c .store .cells) r),
