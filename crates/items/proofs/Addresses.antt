@@ -1,15 +1,14 @@
 -- Document 01's 32 addresses, both ways: each is found, and nothing else is.
 use Prim.Native.Nat.{ℕ, _+_, _-_, _*_, _/_, _%_, _≤_, _<_}
-use mathlib.Core.Path.{_≡_, refl, sym, ap, _∙_}
+use mathlib.Core.Path.{_≡_, refl, _∙_}
 use mathlib.Core.Bool.{Bool, true, false, cond}
 use native.Mathlib.Omega.{arith}
 use lib.Dec.{ltb, eqb}
-use borrow.Author.Tests.{ltb-false, eqb-true, lt-ltb, le-ltb, eq-eqb}
+use borrow.Author.Tests.{ltb-false, eqb-true, lt-ltb, le-ltb}
 use Rattle.items.specs.Items.{placeFrom, eitherOf, foundOf}
 use Rattle.items.specs.declared.Place.{Place}
 use Rattle.items.specs.declared.Place.the-variants.{At, Off}
-use Rattle.items.specs.declared.Found.{Found}
-use Rattle.items.specs.declared.Found.the-variants.{Via, Iwm, Nowhere}
+use Rattle.items.specs.declared.Found.the-variants.{Via, Iwm}
 
 place-at : (base r : ℕ) → r < 16 → placeFrom (base + 512 * r) base ≡ At r
 unfolding placeFrom

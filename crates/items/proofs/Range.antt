@@ -1,5 +1,5 @@
 -- What the decoder lets through is within range, and of bytes within width.
-use Prim.Native.Nat.{ℕ, _+_, _*_, _≤_, _<_}
+use Prim.Native.Nat.{ℕ, _≤_, _<_}
 use mathlib.Core.Path.{_≡_, refl, subst}
 use mathlib.Core.Bool.{Bool, true, false, cond}
 use mathlib.Core.List.{List, [], _∷_}
@@ -7,7 +7,7 @@ use native.Mathlib.Omega.{arith}
 use lib.ListN.{length, getD}
 use lib.Dec.{ltb, eqb}
 use borrow.Author.Tests.{ltb-false}
-use Rattle.record.specs.Record.{le16Of, le32Of, Bytes}
+use Rattle.record.specs.Record.{le32Of, Bytes}
 use Rattle.record.proofs.Laws.{le16-width, le32-width}
 use Rattle.items.specs.Items.{isKind, foundOf, sized, placed, upTo, waitOf, readOf, writeOf, lineOf, senseOf, powerOf, plainItem, plainOf, decodedOf, InRange, InWidth}
 use Rattle.items.specs.declared.Item.{Item}

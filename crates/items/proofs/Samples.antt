@@ -1,11 +1,10 @@
 -- Document 01's samples of records, computed by the definition: a record's bytes after its length.
-use Prim.Native.Nat.{ℕ}
 use mathlib.Core.Path.{_≡_, refl}
-use mathlib.Core.List.{List, [], _∷_}
+use mathlib.Core.List.{[], _∷_}
 use Rattle.record.specs.Record.{le16Of, le32Of}
-use Rattle.items.specs.Items.{refusalOf, isKind, placeFrom, foundOf, plainOf, readOf, writeOf, lineOf, senseOf, powerOf, decodedOf}
+use Rattle.items.specs.Items.{isKind, placeFrom, foundOf, plainOf, readOf, writeOf, lineOf, senseOf, powerOf, decodedOf}
 use Rattle.items.specs.declared.Item.{Item}
-use Rattle.items.specs.declared.Item.the-variants.{ReadVia, ReadIwm, WriteVia, WriteIwm, Line, Sense, Power}
+use Rattle.items.specs.declared.Item.the-variants.{ReadVia, ReadIwm, WriteVia, Line, Sense, Power}
 use Rattle.items.specs.declared.Decoded.the-variants.{Done, Refused}
 
 pub record Samples : Type 0 where

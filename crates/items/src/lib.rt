@@ -2,7 +2,7 @@
 ghost use mathlib.Core.Path.{_≡_};
 ghost use Prim.Native.Nat.{_≤_};
 ghost use lib.ListN.{length};
-ghost use Rattle.items.specs.Items.{isKind, placeFrom, foundOf, plainOf, readOf, writeOf, lineOf, senseOf, powerOf, decodedOf};
+ghost use Rattle.items.specs.Items.{refusalOf, isKind, placeFrom, foundOf, plainOf, readOf, writeOf, lineOf, senseOf, powerOf, decodedOf};
 
 // The addresses of VIA register 0 and of IWM location 0; the others follow 512 apart.
 const VIA_BASE: u32 = 0xefe1fe;
@@ -89,6 +89,17 @@ pub enum Found {
     Nowhere,
 }
 
+// The refusal's number; 0 of an item.
+pub fn refusal(d: Decoded) -> u8
+    ensures { λ r. ⌜ r ≡ refusalOf d ⌝ }
+{
+    match d {
+        Decoded::Done(_) => 0,
+        Decoded::Refused(n) => n,
+    }
+}
+
+// Whether a record's kind is this one.
 fn is(s: &[u8], kind: &[u8; 2]) -> bool
     requires { ⌜ 2 ≤ length (now s) ⌝ }
     ensures { λ r. ⌜ r ≡ isKind (now (s .entry)) (now (kind .entry)) ⌝ }
@@ -96,6 +107,7 @@ fn is(s: &[u8], kind: &[u8; 2]) -> bool
     s[0] == kind[0] && s[1] == kind[1]
 }
 
+// The place of an address among the sixteen from `base` on.
 fn place_from(address: u32, base: u32) -> Place
     ensures { λ r. ⌜ r ≡ placeFrom address base ⌝ }
 {
@@ -112,7 +124,7 @@ fn place_from(address: u32, base: u32) -> Place
     Place::At((above / 512) as u8)
 }
 
-// All 32 bits of the address count.
+// What stands at an address. All 32 bits of it count.
 pub fn find(address: u32) -> Found
     ensures { λ r. ⌜ r ≡ foundOf address ⌝ }
 {
@@ -125,7 +137,7 @@ pub fn find(address: u32) -> Found
     Found::Via(register)
 }
 
-// An item that is its wait alone.
+// VB, SE, RS: an item that is its wait alone.
 fn plain_item(s: &[u8], what: Plain) -> Decoded
     requires { ⌜ 2 ≤ length (now s) ⌝ }
     ensures { λ r. ⌜ r ≡ plainOf (now (s .entry)) what ⌝ }
@@ -141,6 +153,7 @@ fn plain_item(s: &[u8], what: Plain) -> Decoded
     }
 }
 
+// RD
 fn read_item(s: &[u8]) -> Decoded
     requires { ⌜ 2 ≤ length (now s) ⌝ }
     ensures { λ r. ⌜ r ≡ readOf (now (s .entry)) ⌝ }
@@ -156,6 +169,7 @@ fn read_item(s: &[u8]) -> Decoded
     }
 }
 
+// WR
 fn write_item(s: &[u8]) -> Decoded
     requires { ⌜ 2 ≤ length (now s) ⌝ }
     ensures { λ r. ⌜ r ≡ writeOf (now (s .entry)) ⌝ }
@@ -180,6 +194,7 @@ fn write_item(s: &[u8]) -> Decoded
     }
 }
 
+// IN
 fn line_item(s: &[u8]) -> Decoded
     requires { ⌜ 2 ≤ length (now s) ⌝ }
     ensures { λ r. ⌜ r ≡ lineOf (now (s .entry)) ⌝ }
@@ -202,6 +217,7 @@ fn line_item(s: &[u8]) -> Decoded
     })
 }
 
+// SN
 fn sense_item(s: &[u8]) -> Decoded
     requires { ⌜ 2 ≤ length (now s) ⌝ }
     ensures { λ r. ⌜ r ≡ senseOf (now (s .entry)) ⌝ }
@@ -229,6 +245,7 @@ fn sense_item(s: &[u8]) -> Decoded
     })
 }
 
+// PW
 fn power_item(s: &[u8]) -> Decoded
     requires { ⌜ 2 ≤ length (now s) ⌝ }
     ensures { λ r. ⌜ r ≡ powerOf (now (s .entry)) ⌝ }

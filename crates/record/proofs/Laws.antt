@@ -1,15 +1,14 @@
 -- Laws of the definitions of `specs/Record.antt` that callers cite.
-use Prim.Native.Nat.{ℕ, zero, suc, _+_, _-_, _*_, _≤_, _<_}
+use Prim.Native.Nat.{ℕ, zero, suc, _+_, _-_, _≤_, _<_}
 use mathlib.Core.Path.{_≡_, refl, sym, ap, _∙_}
 use mathlib.Core.Bool.{Bool, true, false, cond}
 use mathlib.Core.List.{List, [], _∷_, _++_}
 use native.Mathlib.Omega.{arith}
 use lib.ListN.{length, getD, take, drop, length-append, length-drop, List·getD-append, drop-of-length-le}
-use lib.Seq.{drop-cons, take-at, drop-at, take-append-le, length-take-le, getD-drop}
+use lib.Seq.{drop-cons, take-at, drop-at, length-take-le, getD-drop}
 use lib.Dec.{ltb}
 use borrow.Author.Tests.{ltb-false, le-ltb}
 use Rattle.record.specs.Record.{le16Of, le32Of, frameOf, answerBytes, putAt, Bytes}
-use Rattle.record.specs.declared.Framed.{Framed}
 use Rattle.record.specs.declared.Framed.the-variants.{Whole, Cut}
 use Rattle.record.specs.declared.Answer.{Answer}
 

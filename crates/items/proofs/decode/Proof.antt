@@ -1,17 +1,7 @@
 use borrow.Author.Needs.{needs}
 use Rattle.items.specs.Items.{decodedOf}
-use borrow.Author.Tests.{lt-ltb, le-ltb, le-leb, lt-leb, eq-eqb, ne-eqb}
 use Rattle.items.proofs.decode.Statement.{statement}
 use Rattle.items.proofs.decode.Tie as tie
-use Rattle.items.proofs.decode.Reads as reads
-use Rattle.items.proofs.decode.Lts as lts
-use Rattle.items.proofs.is.Reads as is-reads
-use Rattle.items.proofs.line_item.Reads as line-item-reads
-use Rattle.items.proofs.plain_item.Reads as plain-item-reads
-use Rattle.items.proofs.power_item.Reads as power-item-reads
-use Rattle.items.proofs.read_item.Reads as read-item-reads
-use Rattle.items.proofs.sense_item.Reads as sense-item-reads
-use Rattle.items.proofs.write_item.Reads as write-item-reads
 
 is-requires : tie.Need-is-requires
 is-requires c κs = search needs

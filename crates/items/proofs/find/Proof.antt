@@ -1,11 +1,7 @@
 use borrow.Author.Needs.{needs}
 use Rattle.items.specs.Items.{foundOf}
-use borrow.Author.Tests.{lt-ltb, le-ltb, le-leb, lt-leb, eq-eqb, ne-eqb}
 use Rattle.items.proofs.find.Statement.{statement}
 use Rattle.items.proofs.find.Tie as tie
-use Rattle.items.proofs.find.Reads as reads
-use Rattle.items.proofs.find.Lts as lts
-use Rattle.items.proofs.place_from.Reads as place-from-reads
 
 place-from-requires : tie.Need-place-from-requires
 place-from-requires c κs = search needs

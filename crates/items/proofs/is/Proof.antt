@@ -1,12 +1,8 @@
 use borrow.Author.Needs.{needs}
 use Rattle.items.specs.Items.{isKind}
-use native.Mathlib.Omega.{arith}
-use borrow.Author.Tests.{lt-ltb, le-ltb, le-leb, lt-leb, eq-eqb, ne-eqb}
-use mathlib.Core.Path.{_≡_, sym, ap, _∙_}
+use borrow.Author.Tests.{eq-eqb, ne-eqb}
 use Rattle.items.proofs.is.Statement.{statement}
 use Rattle.items.proofs.is.Tie as tie
-use Rattle.items.proofs.is.Reads as reads
-use Rattle.items.proofs.is.Lts as lts
 
 shared-slice-read-if1 : tie.Need-shared-slice-read-if1
 shared-slice-read-if1 c = search needs

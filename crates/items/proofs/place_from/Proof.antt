@@ -1,10 +1,8 @@
 use borrow.Author.Needs.{needs}
 use Rattle.items.specs.Items.{placeFrom}
-use borrow.Author.Tests.{lt-ltb, le-ltb, le-leb, lt-leb, eq-eqb, ne-eqb}
+use borrow.Author.Tests.{lt-ltb, le-ltb, eq-eqb, ne-eqb}
 use Rattle.items.proofs.place_from.Statement.{statement}
 use Rattle.items.proofs.place_from.Tie as tie
-use Rattle.items.proofs.place_from.Reads as reads
-use Rattle.items.proofs.place_from.Lts as lts
 
 returns : tie.Need-returns
 unfolding placeFrom

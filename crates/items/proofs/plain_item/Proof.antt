@@ -1,13 +1,8 @@
 use borrow.Author.Needs.{needs}
 use Rattle.items.specs.Items.{plainOf}
-use native.Mathlib.Omega.{arith}
-use mathlib.Core.Path.{_≡_, sym, ap, _∙_}
-use borrow.Author.Tests.{lt-ltb, le-ltb, le-leb, lt-leb, eq-eqb, ne-eqb}
+use borrow.Author.Tests.{eq-eqb, ne-eqb}
 use Rattle.items.proofs.plain_item.Statement.{statement}
 use Rattle.items.proofs.plain_item.Tie as tie
-use Rattle.items.proofs.plain_item.Reads as reads
-use Rattle.items.proofs.plain_item.Lts as lts
-use Rattle.record.proofs.le16.Reads as le16-reads
 
 returns : tie.Need-returns
 unfolding plainOf

@@ -1,13 +1,8 @@
 use borrow.Author.Needs.{needs}
 use Rattle.items.specs.Items.{readOf}
-use borrow.Author.Tests.{lt-ltb, le-ltb, le-leb, lt-leb, eq-eqb, ne-eqb}
+use borrow.Author.Tests.{eq-eqb, ne-eqb}
 use Rattle.items.proofs.read_item.Statement.{statement}
 use Rattle.items.proofs.read_item.Tie as tie
-use Rattle.items.proofs.read_item.Reads as reads
-use Rattle.items.proofs.read_item.Lts as lts
-use Rattle.items.proofs.find.Reads as find-reads
-use Rattle.record.proofs.le16.Reads as le16-reads
-use Rattle.record.proofs.le32.Reads as le32-reads
 
 returns : tie.Need-returns
 unfolding readOf

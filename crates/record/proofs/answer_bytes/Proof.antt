@@ -2,8 +2,6 @@ use borrow.Author.Needs.{needs}
 use Rattle.record.specs.Record.{answerBytes}
 use Rattle.record.proofs.answer_bytes.Statement.{statement}
 use Rattle.record.proofs.answer_bytes.Tie as tie
-use Rattle.record.proofs.answer_bytes.Reads as reads
-use Rattle.record.proofs.answer_bytes.Lts as lts
 
 array-read-t7 : tie.Need-array-read-t7
 array-read-t7 c = search needs

@@ -1,6 +1,6 @@
 -- The invariant is `lib.Seq`'s `paste`.
 use borrow.Author.Needs.{needs}
-use Prim.Native.Nat.{ℕ, _+_, _-_, _≤_, _<_}
+use Prim.Native.Nat.{ℕ, _+_, _-_, _≤_}
 use mathlib.Core.Path.{_≡_, refl, ap, _∙_}
 use mathlib.Core.List.{List, _++_}
 use native.Mathlib.Omega.{arith}
@@ -10,8 +10,6 @@ use lib.Seq.{paste, paste-zero, paste-suc, take-length}
 use denote.Ref.{now}
 use Rattle.record.proofs.copy.Statement.{statement}
 use Rattle.record.proofs.copy.Tie as tie
-use Rattle.record.proofs.copy.Reads as reads
-use Rattle.record.proofs.copy.Lts as lts
 
 abbrev Inv-loop : tie.InvT-loop
 Inv-loop d₀ at x j₀ d j = (j ≤ length x) × (length d ≡ length d₀) × (d ≡ paste d₀ at x j)

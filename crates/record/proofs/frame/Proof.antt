@@ -3,9 +3,6 @@ use borrow.Author.Tests.{lt-ltb, le-ltb}
 use Rattle.record.specs.Record.{frameOf}
 use Rattle.record.proofs.frame.Statement.{statement}
 use Rattle.record.proofs.frame.Tie as tie
-use Rattle.record.proofs.frame.Reads as reads
-use Rattle.record.proofs.frame.Lts as lts
-use Rattle.record.proofs.le16.Reads as le16-reads
 
 returns : tie.Need-returns
 unfolding frameOf

@@ -2,9 +2,6 @@ use borrow.Author.Needs.{needs}
 use Rattle.record.specs.Record.{le16Of}
 use Rattle.record.proofs.le16.Statement.{statement}
 use Rattle.record.proofs.le16.Tie as tie
-use Rattle.record.proofs.le16.Reads as reads
-use Rattle.record.proofs.le16.Lts as lts
-use Rattle.record.proofs.half.Reads as half-reads
 
 shared-slice-read-half : tie.Need-shared-slice-read-half
 shared-slice-read-half c = search needs

@@ -2,9 +2,6 @@ use borrow.Author.Needs.{needs}
 use Rattle.record.specs.Record.{le32Of}
 use Rattle.record.proofs.le32.Statement.{statement}
 use Rattle.record.proofs.le32.Tie as tie
-use Rattle.record.proofs.le32.Reads as reads
-use Rattle.record.proofs.le32.Lts as lts
-use Rattle.record.proofs.word.Reads as word-reads
 
 shared-slice-read-word : tie.Need-shared-slice-read-word
 shared-slice-read-word c = search needs

@@ -2,17 +2,15 @@ use borrow.Author.Needs.{needs}
 use native.Mathlib.Omega.{arith}
 use native.Mathlib.Numerals.{unary-clauses}
 use Prim.Native.Nat.{ℕ, _+_, _≤_}
-use mathlib.Core.Path.{_≡_, refl, sym, ap, _∙_}
-use mathlib.Core.List.{List, [], _∷_, _++_}
-use lib.ListN.{length, getD, set, take, drop, length-set}
+use mathlib.Core.Path.{_≡_, ap, _∙_}
+use mathlib.Core.List.{List}
+use lib.ListN.{length, getD, set, length-set}
 use lib.Seq.{sets, sets-eq}
 use Rattle.record.proofs.Laws.{elements}
 use denote.Ref.{now}
 use Rattle.record.specs.Record.{putAt}
 use Rattle.record.proofs.put.Statement.{statement}
 use Rattle.record.proofs.put.Tie as tie
-use Rattle.record.proofs.put.Reads as reads
-use Rattle.record.proofs.put.Lts as lts
 
 put-at : (d : List ℕ) (at : ℕ) (x : List ℕ) → length x ≡ 8 → at + 8 ≤ length d
     → set (set (set (set (set (set (set (set d at (getD x 0 0)) (at + 1) (getD x 1 0)) (at + 2) (getD x 2 0)) (at + 3) (getD x 3 0)) (at + 4) (getD x 4 0)) (at + 5) (getD x 5 0)) (at + 6) (getD x 6 0)) (at + 7) (getD x 7 0) ≡ putAt d at x

@@ -1,0 +1,8 @@
+pub mod Accepted
+pub mod Bits
+pub mod Exact
+pub mod Flags
+pub mod Kept
+pub mod Rest
+pub mod Tests
+pub mod Waits

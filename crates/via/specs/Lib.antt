@@ -1,0 +1,4 @@
+pub mod Setters
+pub mod Via
+pub mod Registers
+pub mod Samples
