@@ -1,5 +1,5 @@
 -- That the history's definitions say what document 01 says, in other words: a stretch as the list of its entries; a complete write as what the whole
--- stretch holds; the last write as a place in the history.
+-- stretch holds; the last write, and the last to protect, as a place in the history.
 use mathlib.Core.Path.{_≡_, refl, sym, ap, ap₂, _∙_}
 use mathlib.Core.Bool.{Bool, true, false, cond, not, _&&_, false≢true}
 use mathlib.Core.List.{List, [], _∷_, _++_, append-nil}
@@ -10,11 +10,11 @@ use lib.Dec.{eqb, leb}
 use lib.ListN.{length, take, drop, length-append}
 use lib.Seq.{drop-at, drop-drop}
 use borrow.Author.Tests.{eq-eqb, le-leb}
-use Rattle.clock.specs.Wire.{decode, Written, writeBy, num}
+use Rattle.clock.specs.Wire.{decode, Written, writeBy, num, bit7}
 use Rattle.clock.specs.declared.Target.{Target}
 use Rattle.clock.specs.declared.Target.the-variants.{Seconds, Test, Protect, Cell}
 use Rattle.clock.specs.declared.Wires.{Wires}
-use Rattle.history.specs.History.{Start, Entry, History, push, complete, same, byteTo, wiresAt, rises, ended, endedClear, last}
+use Rattle.history.specs.History.{Start, Entry, History, push, complete, protectBy, same, byteTo, wiresAt, rises, ended, protectAt, endedClear, last}
 use Rattle.history.specs.Start.{freshStart}
 use Rattle.history.proofs.Bits.{is-16}
 
@@ -153,3 +153,33 @@ module _ (N : ℕ) (S : Start) where
   pub last-never : (t : Target) (d : ℕ) (es : List Entry) → NoneTo t [] es → last N S t d (es ++ []) ≡ d
   unfolding last
   last-never t d es k = last-since t d [] es k
+
+-- ---- protect
+
+not-protect : (o : Option Written) (p : Bool) → goesTo Protect o ≡ false → protectBy o p ≡ p
+not-protect none p q = refl
+not-protect (some w) p q = go (w .to) q
+  where
+    go : (t : Target) → same Protect t ≡ false → protectBy (some (record { to = t; byte = w .byte })) p ≡ p
+    go (Seconds k) q = refl
+    go Test q = refl
+    go Protect q = absurd (false≢true (sym q))
+    go (Cell i) q = refl
+
+module _ (N : ℕ) (S : Start) where
+  -- No complete write to protect ends in the entries es after h, whatever protect was.
+  abbrev pub NoProtect : History → List Entry → Type 0
+  NoProtect h [] = Unit {0}
+  NoProtect h (e ∷ es) = (goesTo Protect (ended N S (e ∷ (es ++ h))) ≡ false) × NoProtect h es
+
+  -- None at all: what it was at the start, or at h.
+  pub protect-since : (h : History) (es : List Entry) → NoProtect h es → protectAt N S (es ++ h) ≡ protectAt N S h
+  unfolding protectAt
+  protect-since h [] q = refl
+  protect-since h (e ∷ es) (q, k) = not-protect (ended N S (e ∷ (es ++ h))) (protectAt N S (es ++ h)) q ∙ protect-since h es k
+
+  -- A write of b to protect that ended at an entry, and none since: bit 7 of b.
+  pub protect-is-last : (b : ℕ) (e : Entry) (h : History) (es : List Entry)
+      → ended N S (e ∷ h) ≡ some (record { to = Protect; byte = b }) → NoProtect (e ∷ h) es → protectAt N S (es ++ (e ∷ h)) ≡ bit7 b
+  unfolding protectAt
+  protect-is-last b e h es q k = protect-since (e ∷ h) es k ∙ ap (λ (o : Option Written). protectBy o (protectAt N S h)) q

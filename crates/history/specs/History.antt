@@ -14,7 +14,7 @@ use Rattle.clock.specs.declared.Wires.{Wires}
 
 -- "It has an entry for the start and for each item answered: enable, data-clock and data after it, unchanged by a refused one."
 -- The start's entry has with the wires what is known there. `begun` is the stretch that is open at the start: the bits of the rises already
--- taken, or none where it "holds no complete write, where the chip sends or ignores".
+-- taken, or none where the stretch "holds no complete write".
 pub record Start : Type 0 where
   pub wires : Wires
   pub begun : Option (List Bool)

@@ -1,5 +1,5 @@
--- Demand 3 of a machine that holds the chip and carries out items: "every list", "each other the state that the one before left".
--- An item has a list of entries, the newest first, as with the wires "an entry for each" item answered.
+-- Demand 3 of a machine that holds the chip: items carried out one after the other, "each other the state that the one before left", each with
+-- its entries, the newest first; an item of document 01 has one.
 use mathlib.Core.Path.{_≡_}
 use mathlib.Core.Bool.{true}
 use mathlib.Core.List.{List, [], _∷_, _++_}
