@@ -1,0 +1,18 @@
+use borrow.Author.Needs.{needs}
+use borrow.Author.Tests.{lt-ltb, le-ltb, le-leb, lt-leb, eq-eqb, ne-eqb}
+use Rattle.drive.proofs.Drive.finish.Statement.{statement}
+use Rattle.drive.proofs.Drive.finish.Tie as tie
+use Rattle.drive.proofs.Drive.finish.Reads as reads
+use Rattle.drive.proofs.Drive.finish.Lts as lts
+use Rattle.drive.proofs.neighbour_of.Reads as neighbour-of-reads
+
+-- src/lib.rt:162:13
+neighbour-of-requires : tie.Need-neighbour-of-requires
+neighbour-of-requires c κs = search needs
+
+-- src/lib.rt:159:5
+returns : tie.Need-returns
+returns c = simp (← c .neighbour-of .ensures)
+
+pub finish-spec : {M : Type 1} → statement M
+finish-spec = tie.close (tie.spec neighbour-of-requires returns)
