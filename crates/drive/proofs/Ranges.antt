@@ -3,9 +3,9 @@ use Prim.Native.Nat.{ℕ, zero, suc, _+_, _-_, _≤_, _<_}
 use mathlib.Core.Path.{_≡_, refl, sym, ap, _∙_}
 use mathlib.Core.Bool.{Bool, true, false, cond, not, _&&_, _||_, or-true}
 use native.Mathlib.Omega.{arith}
-use borrow.Author.Tests.{lt-ltb, ltb-true, ltb-false, le-leb, leb-true, eqb-true, eqb-false, ne-eqb}
+use borrow.Author.Tests.{lt-ltb, ltb-true, le-leb, leb-true, eqb-false, ne-eqb}
 use lib.Dec.{eqb, ltb, leb}
-use Rattle.levels.proofs.Laws.{no, both, joined}
+use Rattle.levels.proofs.Laws.{both}
 use Rattle.drive.specs.Drive.{withDirection, withMotor, withStep, moved, tickBy, tickDrive, driveTicks, neighbour, stepAsked, stepWritten, motorOn, motorWritten, ejected, ejectWritten, registerWritten, inserted, removed, powered, freshDrive, acceptedDrive}
 use Rattle.drive.specs.declared.Drive.{Drive}
 

@@ -1,12 +1,12 @@
 -- What a drive promises its users: steps, the motor, and a disk that leaves.
-use Prim.Native.Nat.{ℕ, zero, suc, _+_, _-_, _≤_, _<_}
+use Prim.Native.Nat.{ℕ, zero, suc, _+_, _-_, _<_}
 use mathlib.Core.Path.{_≡_, refl, sym, ap, _∙_}
-use mathlib.Core.Bool.{Bool, true, false, cond, not, _&&_, _||_}
+use mathlib.Core.Bool.{Bool, true, false}
 use native.Mathlib.Omega.{arith}
 use borrow.Author.Tests.{eq-eqb, ne-eqb, lt-ltb}
-use lib.Dec.{eqb, ltb}
+use lib.Dec.{eqb}
 use Rattle.drive.proofs.Ticks.{driveTicks-add, early, late}
-use Rattle.drive.specs.Drive.{withDirection, withStep, withTrack, moved, tickBy, tickDrive, driveTicks, neighbour, stepAsked, stepWritten, motorOn, ejected, registerWritten, senseOf, level, removed, freshDrive}
+use Rattle.drive.specs.Drive.{withDirection, withStep, withTrack, tickBy, tickDrive, driveTicks, neighbour, motorOn, ejected, registerWritten, senseOf, removed, freshDrive}
 use Rattle.drive.specs.declared.Drive.{Drive}
 
 -- ---- the neighbouring track, within 0 to 79

@@ -1,12 +1,12 @@
 -- Every step keeps the strobe in its ranges.
-use Prim.Native.Nat.{ℕ, zero, suc, _+_, _≤_, _<_}
-use mathlib.Core.Path.{_≡_, refl, sym, ap, _∙_}
+use Prim.Native.Nat.{ℕ, zero, suc, _+_, _≤_}
+use mathlib.Core.Path.{_≡_, refl, ap}
 use mathlib.Core.Bool.{Bool, true, false, not, _&&_, _||_, or-true}
 use native.Mathlib.Omega.{arith}
-use borrow.Author.Tests.{ltb-true, le-leb, leb-true, eqb-true}
+use borrow.Author.Tests.{ltb-true, le-leb, leb-true}
 use lib.Dec.{eqb, ltb, leb}
-use Rattle.levels.proofs.Laws.{no, both, joined}
-use Rattle.strobe.specs.Strobe.{quiet, withTicks, tickBy, tickStrobe, strobeTicks, heldStill, unspoilt, afterBy, strobeAfter, acceptedStrobe}
+use Rattle.levels.proofs.Laws.{no, both}
+use Rattle.strobe.specs.Strobe.{quiet, tickBy, tickStrobe, strobeTicks, heldStill, unspoilt, afterBy, strobeAfter, acceptedStrobe}
 use Rattle.strobe.specs.declared.Strobe.{Strobe}
 use Rattle.strobe.specs.declared.Watched.{Watched}
 

@@ -1,13 +1,13 @@
 -- What a strobe promises its users: which pulses of LSTRB write, and what spoils one.
-use Prim.Native.Nat.{ℕ, zero, suc, _+_, _≤_, _<_}
+use Prim.Native.Nat.{ℕ, _≤_}
 use mathlib.Core.Path.{_≡_, refl, sym, ap, _∙_}
-use mathlib.Core.Bool.{Bool, true, false, cond, not, _&&_, _||_, and-false, Bool·beq}
+use mathlib.Core.Bool.{Bool, true, false, not, _&&_, _||_, and-false, Bool·beq}
 use native.Mathlib.Nat.{zero-add}
 use native.Mathlib.Omega.{arith}
 use borrow.Author.Tests.{eqb-true}
 use lib.Dec.{eqb}
 use Rattle.levels.proofs.Laws.{no}
-use Rattle.strobe.proofs.Ticks.{unsteady, counts, strobeTicks-add}
+use Rattle.strobe.proofs.Ticks.{unsteady, counts}
 use Rattle.strobe.proofs.Bounds.{Ranges, ranges}
 use Rattle.strobe.specs.Strobe.{quiet, withTicks, strobeTicks, heldStill, unspoilt, afterBy, strobeAfter, registerOf, longEnough, strobeWrites, acceptedStrobe}
 use Rattle.strobe.specs.declared.Strobe.{Strobe}

@@ -1,12 +1,11 @@
 -- The ticks of a strobe, in closed form, and the ranges that every step keeps.
 use Prim.Native.Nat.{ℕ, zero, suc, _+_, _-_, _≤_, _<_}
 use mathlib.Core.Path.{_≡_, refl, sym, ap, _∙_}
-use mathlib.Core.Bool.{Bool, true, false, not, _&&_, _||_}
+use mathlib.Core.Bool.{Bool, true, false}
 use native.Mathlib.Nat.{add-zero, add-suc}
 use native.Mathlib.Omega.{arith}
-use borrow.Author.Tests.{lt-ltb, le-ltb, ltb-true, le-leb, leb-true}
-use lib.Dec.{eqb, ltb, leb}
-use Rattle.levels.proofs.Laws.{both, joined}
+use borrow.Author.Tests.{lt-ltb, le-ltb}
+use lib.Dec.{ltb}
 use Rattle.strobe.specs.Strobe.{withTicks, tickBy, tickStrobe, strobeTicks}
 use Rattle.strobe.specs.declared.Strobe.{Strobe}
 

@@ -1,11 +1,11 @@
 -- Laws of the turn from microseconds to VIA ticks.
-use Prim.Native.Nat.{ℕ, _+_, _*_, _/_, _%_, _≤_, _<_}
+use Prim.Native.Nat.{ℕ, _+_, _*_, _/_, _%_, _≤_}
 use mathlib.Core.Path.{_≡_, refl}
 use mathlib.Core.Bool.{Bool, true, false, cond}
 use native.Mathlib.Omega.{arith}
 use borrow.Author.Tests.{eqb-true, eqb-false}
 use lib.Dec.{eqb}
-use Rattle.units.specs.Units.{dividedUp, ticksOf}
+use Rattle.units.specs.Units.{ticksOf}
 
 -- Rounded up: the ticks are as long as the microseconds, and no fewer ticks are.
 upBy : (left : Bool) (a : ℕ) → eqb (a % 1000000) 0 ≡ left

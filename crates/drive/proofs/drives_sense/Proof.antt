@@ -6,7 +6,6 @@ use Rattle.drive.proofs.drives_sense.Reads as reads
 use Rattle.drive.proofs.drives_sense.Lts as lts
 
 -- src/lib.rt:49:1
--- tried: search needs
 returns : tie.Need-returns
 unfolding drivesSense
 returns c = refl

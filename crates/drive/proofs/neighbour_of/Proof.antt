@@ -1,6 +1,6 @@
 use borrow.Author.Needs.{needs}
 use Rattle.drive.specs.Drive.{neighbour}
-use borrow.Author.Tests.{lt-ltb, le-ltb, le-leb, lt-leb, eq-eqb, ne-eqb}
+use borrow.Author.Tests.{lt-ltb, le-ltb, eq-eqb, ne-eqb}
 use Rattle.drive.proofs.neighbour_of.Statement.{statement}
 use Rattle.drive.proofs.neighbour_of.Tie as tie
 use Rattle.drive.proofs.neighbour_of.Reads as reads

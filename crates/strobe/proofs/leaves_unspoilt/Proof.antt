@@ -1,6 +1,5 @@
 use borrow.Author.Needs.{needs}
 use Rattle.strobe.specs.Strobe.{unspoilt}
-use borrow.Author.Tests.{lt-ltb, le-ltb, le-leb, lt-leb, eq-eqb, ne-eqb}
 use Rattle.strobe.proofs.leaves_unspoilt.Statement.{statement}
 use Rattle.strobe.proofs.leaves_unspoilt.Tie as tie
 use Rattle.strobe.proofs.leaves_unspoilt.Reads as reads

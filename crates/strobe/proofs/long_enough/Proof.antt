@@ -1,6 +1,6 @@
 use Rattle.strobe.proofs.long_enough.Statement.{statement}
 use Rattle.strobe.specs.Strobe.{longEnough}
-use borrow.Author.Tests.{lt-ltb, le-ltb, le-leb, lt-leb, eq-eqb, ne-eqb}
+use borrow.Author.Tests.{eq-eqb, ne-eqb}
 use Rattle.strobe.proofs.long_enough.Tie as tie
 use Rattle.strobe.proofs.long_enough.Reads as reads
 use Rattle.strobe.proofs.long_enough.Lts as lts

@@ -1,6 +1,6 @@
 use borrow.Author.Needs.{needs}
 use Rattle.units.specs.Units.{ticksOf}
-use borrow.Author.Tests.{lt-ltb, le-ltb, le-leb, lt-leb, eq-eqb, ne-eqb}
+use borrow.Author.Tests.{eq-eqb, ne-eqb}
 use Rattle.units.proofs.ticks_of_micros.Statement.{statement}
 use Rattle.units.proofs.ticks_of_micros.Tie as tie
 use Rattle.units.proofs.ticks_of_micros.Reads as reads

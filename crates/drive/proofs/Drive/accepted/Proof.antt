@@ -6,7 +6,6 @@ use Rattle.drive.proofs.Drive.accepted.Reads as reads
 use Rattle.drive.proofs.Drive.accepted.Lts as lts
 
 -- src/lib.rt:226:5
--- tried: search needs
 returns : tie.Need-returns
 unfolding acceptedDrive
 returns c = refl

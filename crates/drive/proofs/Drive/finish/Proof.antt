@@ -1,5 +1,4 @@
 use borrow.Author.Needs.{needs}
-use borrow.Author.Tests.{lt-ltb, le-ltb, le-leb, lt-leb, eq-eqb, ne-eqb}
 use Rattle.drive.proofs.Drive.finish.Statement.{statement}
 use Rattle.drive.proofs.Drive.finish.Tie as tie
 use Rattle.drive.proofs.Drive.finish.Reads as reads

@@ -1,6 +1,6 @@
 use borrow.Author.Needs.{needs}
 use Rattle.drive.specs.Drive.{senseOf}
-use borrow.Author.Tests.{lt-ltb, le-ltb, le-leb, lt-leb, eq-eqb, ne-eqb}
+use borrow.Author.Tests.{eq-eqb, ne-eqb}
 use Rattle.drive.proofs.Drive.sense.Statement.{statement}
 use Rattle.drive.proofs.Drive.sense.Tie as tie
 use Rattle.drive.proofs.Drive.sense.Reads as reads

@@ -1,6 +1,5 @@
 use borrow.Author.Needs.{needs}
 use Rattle.drive.specs.Drive.{shownOf}
-use borrow.Author.Tests.{lt-ltb, le-ltb, le-leb, lt-leb, eq-eqb, ne-eqb}
 use Rattle.drive.proofs.Drive.shown.Statement.{statement}
 use Rattle.drive.proofs.Drive.shown.Tie as tie
 use Rattle.drive.proofs.Drive.shown.Reads as reads

@@ -1,5 +1,4 @@
 use borrow.Author.Needs.{needs}
-use borrow.Author.Tests.{lt-ltb, le-ltb, le-leb, lt-leb, eq-eqb, ne-eqb}
 use Rattle.drive.proofs.Drive.write_motor.Statement.{statement}
 use Rattle.drive.proofs.Drive.write_motor.Tie as tie
 use Rattle.drive.proofs.Drive.write_motor.Reads as reads

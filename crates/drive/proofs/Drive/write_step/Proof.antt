@@ -1,5 +1,5 @@
 use borrow.Author.Needs.{needs}
-use borrow.Author.Tests.{lt-ltb, le-ltb, le-leb, lt-leb, eq-eqb, ne-eqb}
+use borrow.Author.Tests.{eq-eqb, ne-eqb}
 use Rattle.drive.proofs.Drive.write_step.Statement.{statement}
 use Rattle.drive.proofs.Drive.write_step.Tie as tie
 use Rattle.drive.proofs.Drive.write_step.Reads as reads

@@ -1,6 +1,5 @@
 use borrow.Author.Needs.{needs}
 use Rattle.strobe.specs.Strobe.{strobeAfter}
-use borrow.Author.Tests.{lt-ltb, le-ltb, le-leb, lt-leb, eq-eqb, ne-eqb}
 use Rattle.strobe.proofs.Strobe.after.Statement.{statement}
 use Rattle.strobe.proofs.Strobe.after.Tie as tie
 use Rattle.strobe.proofs.Strobe.after.Reads as reads

@@ -1,6 +1,5 @@
 use borrow.Author.Needs.{needs}
 use Rattle.strobe.specs.Strobe.{strobeWrites}
-use borrow.Author.Tests.{lt-ltb, le-ltb, le-leb, lt-leb, eq-eqb, ne-eqb}
 use Rattle.strobe.proofs.Strobe.writes.Statement.{statement}
 use Rattle.strobe.proofs.Strobe.writes.Tie as tie
 use Rattle.strobe.proofs.Strobe.writes.Reads as reads

@@ -1,6 +1,5 @@
 use Rattle.strobe.proofs.Watched.register.Statement.{statement}
 use Rattle.strobe.specs.Strobe.{registerOf}
-use borrow.Author.Tests.{lt-ltb, le-ltb, le-leb, lt-leb, eq-eqb, ne-eqb}
 use Rattle.strobe.proofs.Watched.register.Tie as tie
 use Rattle.strobe.proofs.Watched.register.Reads as reads
 use Rattle.strobe.proofs.Watched.register.Lts as lts
