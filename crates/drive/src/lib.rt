@@ -115,6 +115,7 @@ impl Drive {
         Drive {
             disk: false,
             locked: false,
+            sides: self.sides,
             motor: false,
             ..self
         }
@@ -208,7 +209,7 @@ impl Drive {
     {
         Drive {
             motor: false,
-            pending: 0,
+            pending: 0, // no step
             heading: false,
             ..self
         }

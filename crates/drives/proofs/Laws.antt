@@ -1,6 +1,6 @@
--- Laws of the two drives and their strobe: waits add up, and every step keeps the ranges.
+-- Laws of the two drives and their strobe: waits add up, every step keeps the ranges, and levels that stay change nothing.
 use Prim.Native.Nat.{ℕ, _+_}
-use mathlib.Core.Path.{_≡_}
+use mathlib.Core.Path.{_≡_, refl, ap, _∙_}
 use mathlib.Core.Bool.{Bool, true, false, _&&_}
 use Rattle.levels.proofs.Laws.{both}
 use Rattle.drive.specs.declared.Drive.{Drive}
@@ -8,17 +8,23 @@ use Rattle.drive.specs.Drive.{registerWritten, acceptedDrive}
 use Rattle.drive.proofs.Ticks.{driveTicks-add}
 use Rattle.drive.proofs.Ranges.{fresh-accepted, inserted-accepted, removed-accepted, powered-accepted, registerWritten-accepted, driveTicks-accepted}
 use Rattle.strobe.specs.declared.Watched.{Watched}
-use Rattle.strobe.specs.Strobe.{registerOf, strobeWrites, acceptedStrobe}
+use Rattle.strobe.specs.Strobe.{registerOf, strobeAfter, strobeWrites, acceptedStrobe}
 use Rattle.strobe.proofs.Ticks.{strobeTicks-add}
+use Rattle.strobe.proofs.Pulses.{level-writes-nothing, untouched}
 use Rattle.strobe.proofs.Bounds.{quiet-accepted, strobeTicks-accepted, strobeAfter-accepted}
 use Rattle.drives.specs.declared.Drives.{Drives}
-use Rattle.drives.specs.Drives.{selected, withSelected, freshDrives, drivesTicks, diskMoved, placed, drivesPowered, writtenBy, drivesAfter, acceptedDrives}
+use Rattle.drives.specs.Drives.{withStrobe, selected, withSelected, freshDrives, drivesTicks, diskMoved, placed, drivesPowered, writtenBy, drivesAfter, acceptedDrives}
 
 -- Waiting a ticks and then b, for all whole numbers.
 pub drivesTicks-add : (a b : ℕ) (d : Drives) → drivesTicks (a + b) d ≡ drivesTicks b (drivesTicks a d)
 unfolding drivesTicks
 drivesTicks-add a b d =
     simp (driveTicks-add a b (d .internal), driveTicks-add a b (d .external), strobeTicks-add a b (d .strobe))
+
+-- A second power cut changes nothing more.
+pub powered-twice : (d : Drives) → drivesPowered (drivesPowered d) ≡ drivesPowered d
+unfolding drivesPowered
+powered-twice d = refl
 
 -- ---- the ranges
 
@@ -108,3 +114,10 @@ drivesAfter-accepted before after d h =
       outside = q .outside;
       strobing = strobeAfter-accepted before after (d .strobe) (p .strobing);
     })
+
+-- An item that leaves every level as it is changes nothing of the drives.
+pub drives-untouched : (w : Watched) (d : Drives) → acceptedDrives w d ≡ true → drivesAfter w w d ≡ d
+unfolding drivesAfter
+drives-untouched w d h =
+    ap (λ (b : Bool). withStrobe (writtenBy b w d) (strobeAfter w w (d .strobe))) (level-writes-nothing w w (d .strobe) refl)
+    ∙ ap (withStrobe d) (untouched w (d .strobe) (parts w d h .strobing))

@@ -1,7 +1,7 @@
 -- What a strobe promises its users: which pulses of LSTRB write, and what spoils one.
 use Prim.Native.Nat.{ℕ, _≤_}
 use mathlib.Core.Path.{_≡_, refl, sym, ap, _∙_}
-use mathlib.Core.Bool.{Bool, true, false, not, _&&_, _||_, and-false, Bool·beq}
+use mathlib.Core.Bool.{Bool, true, false, not, _&&_, _||_, and-false, and-not-self, Bool·beq}
 use native.Mathlib.Nat.{zero-add}
 use native.Mathlib.Omega.{arith}
 use borrow.Author.Tests.{eqb-true}
@@ -81,6 +81,11 @@ spoilt-writes-nothing n before after =
 pub reset-writes-nothing : (before after : Watched) (s : Strobe) → after .enable ≡ false → strobeWrites before after s ≡ false
 unfolding strobeWrites unspoilt
 reset-writes-nothing before after s e = simp (e, and-false)
+
+-- An item that leaves LSTRB as it is writes nothing.
+pub level-writes-nothing : (before after : Watched) (s : Strobe) → before .lstrb ≡ after .lstrb → strobeWrites before after s ≡ false
+unfolding strobeWrites
+level-writes-nothing before after s e = simp (e, and-not-self (after .lstrb))
 
 -- An item that leaves every level as it is spoils nothing and does not begin anew.
 quiet-is : (s : Strobe) → s .steady ≡ false → (s .steady || eqb (s .ticks) 0) ≡ true → s ≡ quiet
