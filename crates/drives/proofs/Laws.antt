@@ -1,10 +1,12 @@
--- Laws of the two drives and their strobe: waits add up, every step keeps the ranges, and levels that stay change nothing.
-use Prim.Native.Nat.{ℕ, _+_}
+-- Laws of the two drives and their strobe: waits add up, every step keeps the ranges, levels that stay change nothing, and a sense is a level.
+use Prim.Native.Nat.{ℕ, _+_, _/_, _%_, _<_}
 use mathlib.Core.Path.{_≡_, refl, ap, _∙_}
-use mathlib.Core.Bool.{Bool, true, false, _&&_}
+use mathlib.Core.Bool.{Bool, true, false, cond, not, _&&_}
+use native.Mathlib.Omega.{arith}
+use lib.Dec.{eqb}
 use Rattle.levels.proofs.Laws.{both}
 use Rattle.drive.specs.declared.Drive.{Drive}
-use Rattle.drive.specs.Drive.{registerWritten, acceptedDrive}
+use Rattle.drive.specs.Drive.{registerWritten, level, drivesSense, senseOf, shownOf, acceptedDrive}
 use Rattle.drive.proofs.Ticks.{driveTicks-add}
 use Rattle.drive.proofs.Ranges.{fresh-accepted, inserted-accepted, removed-accepted, powered-accepted, registerWritten-accepted, driveTicks-accepted}
 use Rattle.strobe.specs.declared.Watched.{Watched}
@@ -13,7 +15,7 @@ use Rattle.strobe.proofs.Ticks.{strobeTicks-add}
 use Rattle.strobe.proofs.Pulses.{level-writes-nothing, untouched}
 use Rattle.strobe.proofs.Bounds.{quiet-accepted, strobeTicks-accepted, strobeAfter-accepted}
 use Rattle.drives.specs.declared.Drives.{Drives}
-use Rattle.drives.specs.Drives.{withStrobe, selected, withSelected, freshDrives, drivesTicks, diskMoved, placed, drivesPowered, writtenBy, drivesAfter, acceptedDrives}
+use Rattle.drives.specs.Drives.{withStrobe, selected, withSelected, freshDrives, drivesTicks, diskMoved, placed, drivesPowered, writtenBy, drivesAfter, drivesShown, acceptedDrives}
 
 -- Waiting a ticks and then b, for all whole numbers.
 pub drivesTicks-add : (a b : ℕ) (d : Drives) → drivesTicks (a + b) d ≡ drivesTicks b (drivesTicks a d)
@@ -121,3 +123,29 @@ unfolding drivesAfter
 drives-untouched w d h =
     ap (λ (b : Bool). withStrobe (writtenBy b w d) (strobeAfter w w (d .strobe))) (level-writes-nothing w w (d .strobe) refl)
     ∙ ap (withStrobe d) (untouched w (d .strobe) (parts w d h .strobing))
+
+-- ---- the sense
+
+level-below : (b : Bool) → level b < 2
+level-below true = omega arith
+level-below false = omega arith
+
+pick-below : (t : Bool) (x y : ℕ) → x < 2 → y < 2 → cond t x y < 2
+pick-below true x y h k = h
+pick-below false x y h k = k
+
+sense-below : (register : ℕ) (d : Drive) → senseOf register d < 2
+unfolding senseOf
+sense-below r d =
+    pick-below (eqb r 0) _ _ (level-below (d .direction))
+    (pick-below (eqb r 1) _ _ (level-below (not (d .disk)))
+    (pick-below (eqb r 2) _ _ (level-below (eqb (d .pending) 0))
+    (pick-below (eqb r 3) _ _ (level-below (not (d .locked)))
+    (pick-below (eqb r 4) _ _ (level-below (not (d .motor)))
+    (pick-below (eqb r 5) _ _ (level-below (not (eqb (d .track) 0))) (pick-below (eqb r 12) _ _ (level-below (d .sides)) (omega arith)))))))
+
+-- What a sense register shows is a level, where SN stored one.
+pub shown-below : (place stored : ℕ) (d : Drives) → stored < 2 → drivesShown place stored d < 2
+unfolding drivesShown shownOf
+shown-below place stored d h =
+    pick-below (drivesSense (place % 16)) _ stored (sense-below (place % 16) (selected (eqb (place / 16) 1) d)) h
