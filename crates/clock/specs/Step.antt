@@ -5,7 +5,7 @@ use mathlib.Core.Option.{Option, none, some}
 use Prim.Native.Nat.{ℕ, suc, _+_, _-_, _*_, _/_, _%_, _^_}
 use lib.Dec.{eqb, ltb, leb}
 use lib.ListN.{getD, set, replicate}
-use Rattle.clock.specs.Wire.{Event, elapse, decode, Written, writeBy, bit, bit7, replace}
+use Rattle.clock.specs.Wire.{Event, stops, elapse, decode, Written, writeBy, bit, bit7, replace}
 use Rattle.clock.specs.declared.Target.{Target}
 use Rattle.clock.specs.declared.Target.the-variants.{Seconds, Test, Protect, Cell}
 use Rattle.clock.specs.declared.Command.{Command}
@@ -128,9 +128,9 @@ unfoldable pub act : Option Written → Store → Store
 act none s = s
 act (some w) s = cond (writable (w .to) (s .protect)) (put (w .to) (w .byte) s) s
 
--- SE and the time off move the seconds, and nothing else of the store.
+-- SE and the time off move the seconds, as the test byte lets them, and nothing else of the store.
 abbrev pub counted : Event → Store → Store
-counted e s = withSeconds s (elapse e (s .seconds))
+counted e s = withSeconds s (elapse (stops (s .test)) e (s .seconds))
 
 -- ---- one item: its event, then the levels before it and after it
 

@@ -20,11 +20,19 @@ pub data Event : Type 0 where
 abbrev pub wrap : ℕ → ℕ
 wrap n = n % 2 ^ 32
 
+-- W-204: "While either bit is 1, neither SE nor time off moves the seconds": bit 7 or bit 6 of the test byte, which is then 64 or more.
+abbrev pub stops : ℕ → Bool
+stops test = leb 64 test
+
+-- So many seconds more, unless the test byte stops them.
+abbrev pub added : Bool → ℕ → ℕ → ℕ
+added stopped n s = cond stopped s (wrap (s + n))
+
 -- The seconds after an event: "SE adds one to the seconds", "the seconds grow by the time off".
-abbrev pub elapse : Event → ℕ → ℕ
-elapse quiet s = s
-elapse second s = wrap (s + 1)
-elapse (off n) s = wrap (s + n)
+abbrev pub elapse : Bool → Event → ℕ → ℕ
+elapse stopped quiet s = s
+elapse stopped second s = added stopped 1 s
+elapse stopped (off n) s = added stopped n s
 
 -- "z=1 for read."
 abbrev pub either : Bool → Target → Command

@@ -2,7 +2,7 @@
 ghost use mathlib.Core.Path.{_≡_};
 ghost use mathlib.Core.Bool.{true};
 ghost use Prim.Native.Nat.{_<_, _+_, _*_, _/_, _%_, _^_};
-ghost use Rattle.clock.specs.Wire.{Event, second, off, wrap, either, writeOnly, cellOf, named, decode, writeBy, bit, replace};
+ghost use Rattle.clock.specs.Wire.{Event, second, off, added, stops, either, writeOnly, cellOf, named, decode, writeBy, bit, replace};
 ghost use Rattle.clock.specs.Step.{withSeconds, withStore, freshClock, between, fetch, judged, shifted, listened, taken};
 ghost use Rattle.clock.specs.Step.{put, writable, act, counted, stepWires, shown, isWrite, fewBits, acceptedPhase};
 ghost use Rattle.clock.specs.Parts.{InRange, Legal, counts, withPhase, edged};
@@ -208,10 +208,13 @@ impl Store {
         s
     }
 
-    // The seconds grow, modulo 2^32.
+    // The seconds grow by n, modulo 2^32, unless test bit 7 or 6 stops them.
     pub fn add_seconds(self, n: u32) -> Store
-        ensures { λ r. ⌜ r ≡ withSeconds self (wrap (self .seconds + n)) ⌝ }
+        ensures { λ r. ⌜ r ≡ withSeconds self (added (stops (self .test)) n (self .seconds)) ⌝ }
     {
+        if 64 <= self.test {
+            return self;
+        }
         let t = std::num::wrapping_add_u32(self.seconds, n);
         self.with_seconds(t)
     }

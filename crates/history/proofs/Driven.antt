@@ -82,6 +82,6 @@ module _ {M I : Type 0} (N : ℕ) (clock : M → Clock) (wires : M → Wires) (s
             driven m ok (js ++ is) .0 ∙ ap (clockAfter N (clock m) (wires m)) (history-since step trace m is js) in
             let u = d .underProtect es (sym (d .protect) ∙ sym (ap (λ (c : Clock). c .store .protect) r) ∙ p) k in (
               ap (λ (c : Clock). c .store .cells) q ∙ u .0 ∙ sym (ap (λ (c : Clock). c .store .cells) r),
-              ap (λ (c : Clock). c .store .seconds) q ∙ u .1 ∙ sym (ap (λ (c : Clock). wrap (c .store .seconds + gained es)) r),
+              ap (λ (c : Clock). c .store .seconds) q ∙ u .1 ∙ sym (ap (λ (c : Clock). wrap (c .store .seconds + gained N (startOf (clock m) (wires m)) h es)) r),
             );
       }

@@ -1,19 +1,19 @@
 -- Demand 3, proved over the number of cells and any accepted start; then from the fresh machine.
 use mathlib.Core.Path.{_≡_, refl, sym, ap, ap₂, _∙_}
-use mathlib.Core.Bool.{Bool, true, cond}
+use mathlib.Core.Bool.{Bool, true, false, cond}
 use mathlib.Core.List.{List, [], _∷_, _++_}
 use mathlib.Core.Option.{Option, none}
 use Prim.Native.Nat.{ℕ, _+_, _^_, _<_}
 use native.Mathlib.Omega.{arith}
 use native.Mathlib.Nat.{mod-eq-of-lt, mod-add-mod, add-zero}
 use lib.ListN.{length, getD, length-replicate, getD-replicate}
-use Rattle.clock.specs.Wire.{Event, quiet, second, off, wrap, elapse, Written}
+use Rattle.clock.specs.Wire.{Event, quiet, second, off, stops, wrap, elapse, Written}
 use Rattle.clock.specs.Step.{freshClock, between, acts, act, counted, stepWires, acceptedPhase}
 use Rattle.clock.specs.declared.Target.the-variants.{Test, Cell}
 use Rattle.clock.specs.declared.Wires.{Wires}
 use Rattle.clock.specs.declared.Store.{Store}
 use Rattle.clock.specs.declared.Clock.{Clock}
-use Rattle.history.specs.History.{Start, Entry, History, protectBy, byteTo, gain, replaced, gained, wiresAt, rises, ended, protectAt, endedClear, last, cellAt, testAt, secondsAt, Kept}
+use Rattle.history.specs.History.{Start, Entry, History, protectBy, byteTo, met, replaced, gained, wiresAt, rises, ended, protectAt, endedClear, last, cellAt, testAt, secondsAt, Kept}
 use Rattle.history.specs.Start.{startOf, Accepted, undriven, freshStart}
 use Rattle.history.specs.Demand3.{clockAfter, storeAfter, Demand3}
 use Rattle.history.proofs.Phases.{parts}
@@ -21,11 +21,17 @@ use Rattle.history.proofs.Tied.{Tie, tie-step, acts-step, tie-start}
 use Rattle.history.proofs.Range.{seconds-small}
 use Rattle.history.proofs.Stores.{protect-act, seconds-act, test-act, cell-act, length-act, kept-protect, closed}
 
--- An event adds its seconds, modulo 2 ^ 32.
-elapse-gain : (e : Event) (s : ℕ) → s < 2 ^ 32 → elapse e s ≡ wrap (s + gain e)
-elapse-gain quiet s l = sym (ap wrap (add-zero s) ∙ mod-eq-of-lt l)
-elapse-gain second s l = refl
-elapse-gain (off n) s l = refl
+-- An event adds its seconds, modulo 2 ^ 32, unless the test byte stops them.
+stays : (s : ℕ) → s < 2 ^ 32 → s ≡ wrap (s + 0)
+stays s l = sym (ap wrap (add-zero s) ∙ mod-eq-of-lt l)
+
+elapse-met : (t : Bool) (e : Event) (s : ℕ) → s < 2 ^ 32 → elapse t e s ≡ wrap (s + met t e)
+elapse-met true quiet s l = stays s l
+elapse-met true second s l = stays s l
+elapse-met true (off n) s l = stays s l
+elapse-met false quiet s l = stays s l
+elapse-met false second s l = refl
+elapse-met false (off n) s l = refl
 
 module _ (N : ℕ) (c : Clock) (w : Wires) (ok : Accepted N c w) where
   abbrev S : Start
@@ -77,7 +83,7 @@ module _ (N : ℕ) (c : Clock) (w : Wires) (ok : Accepted N c w) where
   seconds-is (e ∷ h) =
       ap (λ (s : Store). s .seconds) (store-step e h)
       ∙ seconds-act (ended N S (e ∷ h)) (counted (e .event) (storeAfter N c w h))
-      ∙ ap₂ replaced (clear-is e h) (ap (elapse (e .event)) (seconds-is h) ∙ elapse-gain (e .event) (secondsAt N S h) (seconds-small N S h (ok .seconds)))
+      ∙ ap₂ replaced (clear-is e h) (ap₂ (λ (t s : ℕ). elapse (stops t) (e .event) s) (test-is h) (seconds-is h) ∙ elapse-met (stops (testAt N S h)) (e .event) (secondsAt N S h) (seconds-small N S h (ok .seconds)))
 
   pub cells-are : (h : History) → length (storeAfter N c w h .cells) ≡ N
   unfolding clockAfter
@@ -106,9 +112,9 @@ module _ (N : ℕ) (c : Clock) (w : Wires) (ok : Accepted N c w) where
 
   under-protect : (h : History) (es : List Entry) → protectAt N S h ≡ true → Kept N S h es
       → (storeAfter N c w (es ++ h) .cells ≡ storeAfter N c w h .cells)
-      × (storeAfter N c w (es ++ h) .seconds ≡ wrap (storeAfter N c w h .seconds + gained es))
+      × (storeAfter N c w (es ++ h) .seconds ≡ wrap (storeAfter N c w h .seconds + gained N S h es))
   unfolding gained
-  under-protect h [] p k = (refl, sym (ap wrap (add-zero (storeAfter N c w h .seconds)) ∙ mod-eq-of-lt (small h)))
+  under-protect h [] p k = (refl, stays (storeAfter N c w h .seconds) (small h))
   under-protect h (e ∷ es) p (q, k) =
       let s : Store = storeAfter N c w (es ++ h) in
       let before = under-protect h es p k in
@@ -116,9 +122,10 @@ module _ (N : ℕ) (c : Clock) (w : Wires) (ok : Accepted N c w) where
       let shut = closed (ended N S (e ∷ (es ++ h))) (counted (e .event) s) (protect-is (es ++ h) ∙ still-protected h es p k) in (
         ap (λ (s : Store). s .cells) step ∙ shut .0 ∙ before .0,
         ap (λ (s : Store). s .seconds) step ∙ shut .1
-            ∙ elapse-gain (e .event) (s .seconds) (small (es ++ h))
-            ∙ ap (λ (x : ℕ). wrap (x + gain (e .event))) (before .1)
-            ∙ mod-add-mod (storeAfter N c w h .seconds + gained es) (2 ^ 32) (gain (e .event))
+            ∙ ap (λ (t : ℕ). elapse (stops t) (e .event) (s .seconds)) (test-is (es ++ h))
+            ∙ elapse-met (stops (testAt N S (es ++ h))) (e .event) (s .seconds) (small (es ++ h))
+            ∙ ap (λ (x : ℕ). wrap (x + met (stops (testAt N S (es ++ h))) (e .event))) (before .1)
+            ∙ mod-add-mod (storeAfter N c w h .seconds + gained N S h es) (2 ^ 32) (met (stops (testAt N S (es ++ h))) (e .event))
             ∙ ap wrap (omega arith),
       )
 

@@ -7,12 +7,12 @@ use native.Mathlib.Omega.{arith}
 use native.Mathlib.Nat.{mod-lt}
 use lib.Dec.{eqb}
 use lib.ListN.{length, take, drop}
-use Rattle.clock.specs.Wire.{decode, Written, writeBy, num, wrap, replace}
+use Rattle.clock.specs.Wire.{stops, decode, Written, writeBy, num, wrap, replace}
 use Rattle.clock.specs.declared.Target.{Target}
 use Rattle.clock.specs.declared.Target.the-variants.{Seconds, Test, Protect, Cell}
 use Rattle.clock.specs.declared.Command.{Command}
 use Rattle.clock.specs.declared.Command.the-variants.{Write, Read, Illegal}
-use Rattle.history.specs.History.{Start, History, rose, complete, completeIn, gain, replaced, wiresAt, rises, ended, protectAt, endedClear, secondsAt}
+use Rattle.history.specs.History.{Start, History, rose, complete, completeIn, met, testAt, replaced, wiresAt, rises, ended, protectAt, endedClear, secondsAt}
 use Rattle.clock.specs.Parts.{InRange, Legal}
 use Rattle.clock.proofs.Range.{cond-case, decode-legal}
 use Rattle.history.proofs.Bits.{num-bound}
@@ -60,6 +60,6 @@ pub seconds-small : (N : ℕ) (S : Start) (h : History) → S .seconds < 2 ^ 32 
 unfolding secondsAt endedClear
 seconds-small N S [] l = l
 seconds-small N S (e ∷ h) l =
-    replaced-small N (endedClear N S (e ∷ h)) (wrap (secondsAt N S h + gain (e .event)))
+    replaced-small N (endedClear N S (e ∷ h)) (wrap (secondsAt N S h + met (stops (testAt N S h)) (e .event)))
     (cond-case (Fine N) (protectAt N S h) (λ q. tt) (λ q. ended-fine N S (e ∷ h)))
-    (mod-lt (secondsAt N S h + gain (e .event)) (omega arith))
+    (mod-lt (secondsAt N S h + met (stops (testAt N S h)) (e .event)) (omega arith))

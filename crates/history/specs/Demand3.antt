@@ -31,4 +31,4 @@ pub record Demand3 (N : ℕ) (c : Clock) (w : Wires) (h : History) : Type 0 wher
   pub test : storeAfter N c w h .test ≡ testAt N (startOf c w) h
   pub underProtect : (es : List Entry) → protectAt N (startOf c w) h ≡ true → Kept N (startOf c w) h es
       → (storeAfter N c w (es ++ h) .cells ≡ storeAfter N c w h .cells)
-      × (storeAfter N c w (es ++ h) .seconds ≡ wrap (storeAfter N c w h .seconds + gained es))
+      × (storeAfter N c w (es ++ h) .seconds ≡ wrap (storeAfter N c w h .seconds + gained N (startOf c w) h es))

@@ -7,7 +7,7 @@ use mathlib.Core.Option.{Option, none, some}
 use Prim.Native.Nat.{ℕ, _+_}
 use lib.Dec.{eqb}
 use lib.ListN.{length, take, drop, getD}
-use Rattle.clock.specs.Wire.{Event, quiet, second, off, wrap, decode, Written, writeBy, num, bit7, replace}
+use Rattle.clock.specs.Wire.{Event, quiet, second, off, stops, wrap, decode, Written, writeBy, num, bit7, replace}
 use Rattle.clock.specs.declared.Target.{Target}
 use Rattle.clock.specs.declared.Target.the-variants.{Seconds, Test, Protect, Cell}
 use Rattle.clock.specs.declared.Wires.{Wires}
@@ -98,10 +98,9 @@ abbrev pub replaced : Option Written → ℕ → ℕ
 replaced none s = s
 replaced (some w) s = elim (w .to) [ Seconds k ↦ replace k (w .byte) s | Test ↦ s | Protect ↦ s | Cell i ↦ s ]
 
--- What the SE and PW done in some entries add.
-unfoldable pub gained : List Entry → ℕ
-gained [] = 0
-gained (e ∷ es) = gained es + gain (e .event)
+-- W-204: "counts only ticks and time off met with both bits clear".
+abbrev pub met : Bool → Event → ℕ
+met stopped e = cond stopped 0 (gain e)
 
 module _ (N : ℕ) (S : Start) where
   -- The wires at the newest entry.
@@ -145,10 +144,16 @@ module _ (N : ℕ) (S : Start) where
   testAt h = last Test (S .test) h
 
   -- "Seconds: from 0, through the entries in order, an SE done adds 1 and a PW done its seconds off, modulo 4,294,967,296; a complete write
-  -- to a seconds byte that ends there with protect clear replaces that byte."
+  -- to a seconds byte that ends there with protect clear replaces that byte." W-204: "the test byte being that of the last complete write to test that
+  -- ended with protect clear, or 0", or the start's.
   unfoldable pub secondsAt : History → ℕ
   secondsAt [] = S .seconds
-  secondsAt (e ∷ h) = replaced (endedClear (e ∷ h)) (wrap (secondsAt h + gain (e .event)))
+  secondsAt (e ∷ h) = replaced (endedClear (e ∷ h)) (wrap (secondsAt h + met (stops (testAt h)) (e .event)))
+
+  -- What the SE and PW done in the entries es after h add; the test byte is the one before each.
+  unfoldable pub gained : History → List Entry → ℕ
+  gained h [] = 0
+  gained h (e ∷ es) = gained h es + met (stops (testAt (es ++ h))) (e .event)
 
   -- "No clearing write having ended since": in the entries es after h.
   abbrev pub Kept : History → List Entry → Type 0

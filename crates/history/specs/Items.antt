@@ -49,4 +49,4 @@ module _ {M I : Type 0} (N : ℕ) (clock : M → Clock) (wires : M → Wires) (s
     pub test : after m is .store .test ≡ testAt N (start m) (historyOf step trace m is)
     pub underProtect : (js : List I) → after m is .store .protect ≡ true → Kept N (start m) (historyOf step trace m is) (entriesSince step trace m is js)
         → (after m (js ++ is) .store .cells ≡ after m is .store .cells)
-        × (after m (js ++ is) .store .seconds ≡ wrap (after m is .store .seconds + gained (entriesSince step trace m is js)))
+        × (after m (js ++ is) .store .seconds ≡ wrap (after m is .store .seconds + gained N (start m) (historyOf step trace m is) (entriesSince step trace m is js)))

@@ -69,4 +69,4 @@ pub record Run3 (m : Machine) (list : List ℕ) (room : ℕ) (r : Machine) : Typ
   pub underProtect : (is js ls : List Piece) → ls ++ (js ++ is) ≡ answered list room → clockMet m is .store .protect ≡ true
       → Kept cellCount (startMet m) (historyMet m is) (entriesMet m is js)
       → (clockMet m (js ++ is) .store .cells ≡ clockMet m is .store .cells)
-      × (clockMet m (js ++ is) .store .seconds ≡ wrap (clockMet m is .store .seconds + gained (entriesMet m is js)))
+      × (clockMet m (js ++ is) .store .seconds ≡ wrap (clockMet m is .store .seconds + gained cellCount (startMet m) (historyMet m is) (entriesMet m is js)))

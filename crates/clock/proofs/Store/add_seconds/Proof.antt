@@ -1,6 +1,10 @@
 use borrow.Author.Needs.{needs}
+use borrow.Author.Tests.{le-leb, lt-leb}
 use Rattle.clock.proofs.Store.add_seconds.Statement.{statement}
 use Rattle.clock.proofs.Store.add_seconds.Tie as tie
+
+returns : tie.Need-returns
+returns c = simp (le-leb _ _ (c .if1 .taken))
 
 wrapping-add-u32-requires : tie.Need-wrapping-add-u32-requires
 wrapping-add-u32-requires c κs = search needs
@@ -8,8 +12,8 @@ wrapping-add-u32-requires c κs = search needs
 with-seconds-requires : tie.Need-with-seconds-requires
 with-seconds-requires c κs = search needs
 
-returns : tie.Need-returns
-returns c = simp (c .with-seconds .ensures, c .before .wrapping-add-u32 .ensures)
+returns-2 : tie.Need-returns-2
+returns-2 c = simp (lt-leb _ _ (c .before .before .if1 .left), c .with-seconds .ensures, c .before .wrapping-add-u32 .ensures)
 
 pub add-seconds-spec : {M : Type 1} → statement M
-add-seconds-spec = tie.close (tie.spec wrapping-add-u32-requires with-seconds-requires returns)
+add-seconds-spec = tie.close (tie.spec returns wrapping-add-u32-requires with-seconds-requires returns-2)
