@@ -1,0 +1,11 @@
+pub mod Phases
+pub mod Bits
+pub mod Tied
+pub mod Range
+pub mod Stores
+pub mod Holds
+pub mod Faithful
+pub mod Keeps
+pub mod Line
+pub mod Driven
+pub mod Examples

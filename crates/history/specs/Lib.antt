@@ -1,0 +1,4 @@
+pub mod History
+pub mod Start
+pub mod Demand3
+pub mod Items

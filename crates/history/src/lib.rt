@@ -1,0 +1,1 @@
+// Demand 3: the clock's store told by the history of its wires.

@@ -1,0 +1,65 @@
+-- The machine's state by document 01: its lines, the fresh machine, and which states are accepted.
+use Prim.Native.Nat.{ℕ}
+use mathlib.Core.Path.{_≡_}
+use mathlib.Core.Bool.{Bool, true, _&&_}
+use mathlib.Core.List.{List}
+use lib.ListN.{replicate}
+use Rattle.levels.specs.Levels.{allLevels}
+use Rattle.via.specs.declared.Via.{Via}
+use Rattle.via.specs.Via.{freshVia, acceptedVia}
+use Rattle.clock.specs.declared.Wires.{Wires}
+use Rattle.clock.specs.declared.Clock.{Clock}
+use Rattle.clock.specs.Step.{freshClock, shown, acceptedPhase}
+use Rattle.wiring.specs.Wiring.{wiresOf}
+use Rattle.iwm.specs.declared.DiskLines.{DiskLines}
+use Rattle.iwm.specs.Lines.{linesOff}
+use Rattle.machine.specs.declared.Machine.{Machine}
+
+-- ---- the state, field by field
+
+abbrev pub withVia : Machine → Via → Machine
+withVia m x = record { via = x; clock = m .clock; disk = m .disk; inputs = m .inputs; sense = m .sense }
+
+abbrev pub withClock : Machine → Clock → Machine
+withClock m x = record { via = m .via; clock = x; disk = m .disk; inputs = m .inputs; sense = m .sense }
+
+abbrev pub withDisk : Machine → DiskLines → Machine
+withDisk m x = record { via = m .via; clock = m .clock; disk = x; inputs = m .inputs; sense = m .sense }
+
+abbrev pub withInputs : Machine → List ℕ → Machine
+withInputs m x = record { via = m .via; clock = m .clock; disk = m .disk; inputs = x; sense = m .sense }
+
+abbrev pub withSense : Machine → List ℕ → Machine
+withSense m x = record { via = m .via; clock = m .clock; disk = m .disk; inputs = m .inputs; sense = x }
+
+-- "The clock chip with its 20 cells."
+abbrev pub cellCount : ℕ
+cellCount = 20
+
+-- "Fresh: all zero, timers disarmed, no load due, IN lines and sense levels 1, chip idle, protect clear."
+abbrev pub freshMachine : Machine
+freshMachine =
+    record {
+      via = freshVia;
+      clock = freshClock cellCount;
+      disk = linesOff;
+      inputs = replicate 5 1;
+      sense = replicate 32 1;
+    }
+
+-- ---- the lines
+
+abbrev pub wires : Machine → Wires
+wires m = wiresOf (m .via .ports) (shown (m .clock .phase))
+
+-- ---- accepted states
+
+-- "Every line level is 0 or 1."
+abbrev pub Levels : Machine → Type 0
+Levels m = (allLevels (m .disk .lines) ≡ true) × (allLevels (m .inputs) ≡ true) × (allLevels (m .sense) ≡ true)
+
+-- "Every line level is 0 or 1, the chip is idle exactly while enable is 1, .. room not in use holds 0."
+unfoldable pub acceptedOf : Machine → Bool
+acceptedOf m =
+    (((allLevels (m .disk .lines) && allLevels (m .inputs)) && allLevels (m .sense)) && acceptedVia (m .via))
+    && acceptedPhase cellCount (m .clock .phase) (wires m .enable)

@@ -1,0 +1,275 @@
+// The machine: the whole state by value, which states are accepted, and one item carried out.
+ghost use mathlib.Core.Path.{_≡_};
+ghost use mathlib.Core.Bool.{Bool, true, false};
+ghost use Prim.Native.Nat.{_+_, _*_, _<_};
+ghost use Rattle.levels.specs.Levels.{allLevels};
+ghost use Rattle.clock.specs.Step.{shown};
+ghost use Rattle.items.specs.Items.{InRange};
+ghost use Rattle.machine.specs.Machine.{wires, acceptedOf, Levels, freshMachine};
+ghost use Rattle.machine.specs.Step.{noValue, waitOf, viaRead, iwmRead, actedOf, stepOf, refusesOf, answerOf};
+use clock::Clock;
+use clock::Wires;
+use items::Item;
+use iwm::DiskLines;
+use record::Answer;
+use via::Via;
+
+pub struct Machine {
+    pub via: Via,
+    pub clock: Clock,
+    pub disk: DiskLines,
+    // IN lines 0 to 4: mouse switch, X2, Y2, H4, port A's bit 7.
+    pub inputs: [u8; 5],
+    // Sense registers 0 to 15 of the internal drive, then of the external one.
+    pub sense: [u8; 32],
+}
+
+// What an item leaves: the next state and the value read.
+pub struct Did {
+    pub machine: Machine,
+    pub value: u8,
+}
+
+pub fn fresh() -> Machine
+    ensures { λ r. ⌜ r ≡ freshMachine ⌝ }
+{
+    Machine {
+        via: via::fresh(),
+        clock: clock::fresh(),
+        disk: iwm::off(),
+        inputs: [1; 5],
+        sense: [1; 32],
+    }
+}
+
+// The item's wait, in VIA ticks.
+pub fn wait_of(item: Item) -> u16
+    ensures { λ r. ⌜ r ≡ waitOf item ⌝ }
+{
+    match item {
+        Item::ReadVia { wait, register: _ } => wait,
+        Item::ReadIwm { wait, location: _ } => wait,
+        Item::WriteVia {
+            wait,
+            register: _,
+            value: _,
+        } => wait,
+        Item::WriteIwm {
+            wait,
+            location: _,
+            value: _,
+        } => wait,
+        Item::Blank { wait } => wait,
+        Item::Second { wait } => wait,
+        Item::Line {
+            wait,
+            line: _,
+            level: _,
+        } => wait,
+        Item::Sense {
+            wait,
+            drive: _,
+            register: _,
+            level: _,
+        } => wait,
+        Item::Reset { wait } => wait,
+        Item::Power { wait, seconds: _ } => wait,
+    }
+}
+
+fn sense_index(drive: u8, register: u8) -> usize
+    requires { ⌜ (drive < 2) × (register < 16) ⌝ }
+    ensures { λ r. ⌜ (r ≡ 16 * drive + register) × (r < 32) ⌝ }
+{
+    (16 * drive + register) as usize
+}
+
+impl Machine {
+    // The level that the chip gives the data line.
+    fn shown(self) -> bool
+        ensures { λ r. ⌜ r ≡ shown (self .clock .phase) ⌝ }
+    {
+        let c = self.clock;
+        let p = c.phase;
+        clock::shown_line(p)
+    }
+
+    fn wires(self) -> Wires
+        ensures { λ r. ⌜ r ≡ wires self ⌝ }
+    {
+        wiring::wires_of(self.via.ports, self.shown())
+    }
+
+    // Whether a run takes this state.
+    pub fn accepted(self) -> bool
+        ensures { λ r. ⌜ r ≡ acceptedOf self ⌝ }
+    {
+        let lines = self.disk.lines;
+        let inputs = self.inputs;
+        let sense = self.sense;
+        let c = self.clock;
+        let p = c.phase;
+        let w = self.wires();
+        let a = levels::all_levels(&lines);
+        let b = levels::all_levels(&inputs);
+        let s = levels::all_levels(&sense);
+        let v = self.via.accepted();
+        let k = clock::accepted_phase(p, w.enable);
+        a & b & s & v & k
+    }
+
+    // A VIA register read.
+    fn read_via(self, register: u8) -> Did
+        requires { ⌜ register < 16 ⌝ }
+        requires { ⌜ Levels self ⌝ }
+        ensures { λ r. ⌜ r ≡ viaRead register self ⌝ }
+    {
+        let mut m = self;
+        let lines = self.inputs;
+        let a = self.via
+            .read(register, wiring::inputs_of(self.shown(), lines));
+        let v = a.via;
+        m.via = v;
+        Did {
+            machine: m,
+            value: a.value,
+        }
+    }
+
+    // An IWM location read.
+    fn read_iwm(self, location: u8) -> Did
+        requires { ⌜ location < 16 ⌝ }
+        requires { ⌜ Levels self ⌝ }
+        ensures { λ r. ⌜ r ≡ iwmRead location self ⌝ }
+    {
+        let mut m = self;
+        let d = self.disk.access(location);
+        let at = d.sense_at(wiring::sel_of(self.via.ports)) as usize;
+        let sense = self.sense[at];
+        m.disk = d;
+        Did {
+            machine: m,
+            value: d.read(location, sense),
+        }
+    }
+}
+
+fn no_value(m: Machine) -> Did
+    ensures { λ r. ⌜ r ≡ noValue m ⌝ }
+{
+    Did {
+        machine: m,
+        value: 0,
+    }
+}
+
+impl Machine {
+    // The action of an item, its wait having passed.
+    fn act(self, item: Item) -> Did
+        requires { ⌜ InRange item ⌝ }
+        requires { ⌜ Levels self ⌝ }
+        ensures { λ r. ⌜ r ≡ actedOf self item ⌝ }
+    {
+        let mut m = self;
+        match item {
+            Item::ReadVia { wait: _, register } => self.read_via(register),
+            Item::ReadIwm { wait: _, location } => self.read_iwm(location),
+            Item::WriteVia {
+                wait: _,
+                register,
+                value,
+            } => {
+                m.via = m.via.write(register, value);
+                no_value(m)
+            }
+            Item::WriteIwm {
+                wait: _,
+                location,
+                value: _,
+            } => {
+                m.disk = m.disk.access(location);
+                no_value(m)
+            }
+            Item::Blank { wait: _ } => {
+                m.via = m.via.raise(2);
+                no_value(m)
+            }
+            Item::Second { wait: _ } => {
+                m.via = m.via.raise(1);
+                m.clock = m.clock.second();
+                no_value(m)
+            }
+            Item::Line {
+                wait: _,
+                line,
+                level,
+            } => {
+                let at = line as usize;
+                m.inputs[at] = level;
+                no_value(m)
+            }
+            Item::Sense {
+                wait: _,
+                drive,
+                register,
+                level,
+            } => {
+                let at = sense_index(drive, register);
+                m.sense[at] = level;
+                no_value(m)
+            }
+            Item::Reset { wait: _ } => {
+                m.via = m.via.reset();
+                m.disk = iwm::off();
+                no_value(m)
+            }
+            Item::Power { wait: _, seconds } => {
+                m.via = via::fresh();
+                m.disk = iwm::off();
+                m.clock = m.clock.time_off(seconds);
+                no_value(m)
+            }
+        }
+    }
+
+    // The item refused by this state: its number, or 0.
+    pub fn refuses(self, item: Item) -> u8
+        ensures { λ r. ⌜ r ≡ refusesOf self item ⌝ }
+    {
+        0
+    }
+
+    // One item: its wait, then its action, then the clock compares its wires.
+    pub fn step(self, item: Item) -> Did
+        requires { ⌜ acceptedOf self ≡ true ⌝ }
+        requires { ⌜ InRange item ⌝ }
+        ensures { λ r. ⌜ r ≡ stepOf self item ⌝ }
+    {
+        let before = self.wires();
+        let mut m = self;
+        m.via = m.via.wait(wait_of(item));
+        let d = m.act(item);
+        let mut next = d.machine;
+        let after = next.wires();
+        next.clock = next.clock.step(before, after);
+        Did {
+            machine: next,
+            value: d.value,
+        }
+    }
+}
+
+// The answer to an item that was carried out.
+pub fn answer(d: Did) -> Answer
+    requires { ⌜ allLevels (d .machine .disk .lines) ≡ true ⌝ }
+    ensures { λ r. ⌜ r ≡ answerOf d ⌝ }
+{
+    let m = d.machine;
+    Answer {
+        ok: true,
+        value: d.value,
+        level: m.via.level(),
+        lines: m.disk.byte(),
+        sel: wiring::sel_of(m.via.ports),
+    }
+}

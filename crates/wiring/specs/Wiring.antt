@@ -1,0 +1,36 @@
+-- How the board wires the VIA's ports: document 01, "VIA".
+use Prim.Native.Nat.{ℕ, _+_, _*_, _/_, _%_}
+use mathlib.Core.Bool.{Bool, true, false, cond}
+use mathlib.Core.List.{List}
+use lib.Dec.{eqb}
+use lib.ListN.{getD}
+use Rattle.via.specs.declared.Ports.{Ports}
+use Rattle.via.specs.declared.Inputs.{Inputs}
+use Rattle.clock.specs.declared.Wires.{Wires}
+use Rattle.clock.specs.Wire.{bit}
+
+-- One line of a port, by its weight in the port's byte: "the output bit where its direction is 1. Otherwise it is the input."
+abbrev pub pin : ℕ → ℕ → ℕ → Bool → Bool
+pin out dir weight input = cond (eqb (dir / weight % 2) 1) (eqb (out / weight % 2) 1) input
+
+-- "PB2 is clock enable, low active; PB1 is the clock's data-clock", PB0 "the clock's data line". "Undriven lines are 1."
+-- `line` is the level that the chip gives the data line.
+unfoldable pub wiresOf : Ports → Bool → Wires
+wiresOf p line =
+    record {
+      enable = pin (p .outb) (p .dirb) 4 true;
+      dataclock = pin (p .outb) (p .dirb) 2 true;
+      dataline = pin (p .outb) (p .dirb) 1 line;
+    }
+
+-- "SEL is the level of PA5."
+unfoldable pub selOf : Ports → ℕ
+selOf p = bit (pin (p .outa) (p .dira) 32 true)
+
+-- What the outside gives port B and port A: "PB0 the clock's data line, PB3 to PB6 the IN lines 0 to 3, PA7 IN line 4. Undriven lines are 1."
+unfoldable pub inputsOf : Bool → List ℕ → Inputs
+inputsOf line lines =
+    record {
+      b = bit line + 2 + 4 + (8 * getD lines 0 0 + 16 * getD lines 1 0 + 32 * getD lines 2 0 + 64 * getD lines 3 0) + 128;
+      a = 127 + 128 * getD lines 4 0;
+    }
