@@ -12,8 +12,6 @@ use Rattle.clock.specs.Step.{fewBits, acceptedPhase, isWrite}
 use Rattle.clock.specs.Parts.{InRange, Legal, counts, withPhase, edged}
 use Rattle.clock.specs.declared.Target.{Target}
 use Rattle.clock.specs.declared.Target.the-variants.{Seconds, Test, Protect, Cell}
-use Rattle.clock.specs.declared.Command.{Command}
-use Rattle.clock.specs.declared.Command.the-variants.{Write, Read, Illegal}
 use Rattle.clock.specs.declared.Phase.{Phase}
 use Rattle.clock.specs.declared.Phase.the-variants.{Idle, Listening, Taking, Sending, Ignoring}
 use Rattle.clock.specs.declared.Edge.{Edge}

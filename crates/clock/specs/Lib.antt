@@ -1,3 +1,4 @@
 pub mod Wire
 pub mod Step
 pub mod Parts
+pub mod Patterns

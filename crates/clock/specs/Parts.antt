@@ -10,6 +10,7 @@ use Rattle.clock.specs.declared.Command.the-variants.{Write, Read, Illeg
 use Rattle.clock.specs.declared.Phase.{Phase}
 use Rattle.clock.specs.declared.Phase.the-variants.{Idle, Listening, Taking, Sending, Ignoring}
 use Rattle.clock.specs.declared.Edge.{Edge}
+use Rattle.clock.specs.declared.Wires.{Wires}
 use Rattle.clock.specs.declared.Clock.{Clock}
 
 -- A seconds byte 0 to 3, a cell that the chip has.
@@ -35,6 +36,9 @@ counts Ignoring = true
 
 abbrev pub withPhase : Clock → Phase → Clock
 withPhase c x = record { phase = x; store = c .store }
+
+abbrev pub withLine : Wires → Bool → Wires
+withLine w x = record { enable = w .enable; dataclock = w .dataclock; dataline = x }
 
 -- The clock after an edge.
 unfoldable pub edged : ℕ → Clock → Edge → Clock

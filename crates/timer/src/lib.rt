@@ -4,7 +4,7 @@ ghost use mathlib.Core.Bool.{true, false};
 ghost use Prim.Native.Nat.{_+_, _<_};
 ghost use Rattle.timer.specs.Timer.{at, steps};
 
-// What a tick changes of a timer, and whether the timer has fired since the wait began.
+// What a VIA tick changes of a timer, and whether the timer has fired since the wait began.
 pub struct Counter {
     pub value: u16,
     pub armed: bool,

@@ -2,6 +2,7 @@
 ghost use mathlib.Core.Path.{_≡_};
 ghost use mathlib.Core.Bool.{cond, true, false};
 ghost use Prim.Native.Nat.{_<_, _+_, _*_, _/_, _%_};
+ghost use Rattle.timer.specs.Timer.{steps};
 ghost use Rattle.via.specs.Setters.{withOutb, withOuta, withDirb, withDira, withCounter1, withLow1, withHigh1, withArmed1, withDue1, withCounter2, withLow2, withArmed2, withPorts, withT1, withT2, withSr, withAcr, withPcr, withFlags, withEnables};
 ghost use Rattle.via.specs.Via.{freshVia, clear, portLevel, latchOf, counter1, counter2, settled, ticks, raisedOf, asking, levelOf, resetOf, acceptedVia};
 ghost use Rattle.via.specs.Registers.{portAFlags, enabledBy, written, flagsByte, valueRead, flagsRead, readOf};
@@ -15,7 +16,7 @@ pub struct Ports {
     pub dira: u8,
 }
 
-// T1: counter, latches, whether its passage sets flag 6, whether the next tick loads the latches.
+// T1: counter in VIA ticks, latches, whether its passage sets flag 6, whether the next tick loads the latches.
 pub struct Timer1 {
     pub counter: u16,
     pub low: u8,
@@ -24,7 +25,7 @@ pub struct Timer1 {
     pub due: bool,
 }
 
-// T2: counter, low latch, whether its passage sets flag 5.
+// T2: counter in VIA ticks, low latch, whether its passage sets flag 5.
 pub struct Timer2 {
     pub counter: u16,
     pub low: u8,
@@ -93,32 +94,34 @@ pub fn port(out: u8, dir: u8, input: u8) -> u8
     out & dir | input & !dir
 }
 
-// What T1's latches load.
-fn latch_of(t: Timer1) -> u16
-    ensures { λ r. ⌜ r ≡ latchOf t ⌝ }
+// n VIA ticks of T1, in free run or not.
+fn run1(t: Timer1, free: bool, n: u16) -> Counter
+    ensures { λ r. ⌜ r ≡ steps n free (latchOf t) (counter1 t) ⌝ }
 {
-    (t.high as u16) * 256 + (t.low as u16)
-}
-
-fn count1(t: Timer1) -> Counter
-    ensures { λ r. ⌜ r ≡ counter1 t ⌝ }
-{
-    Counter {
+    let latch = (t.high as u16) * 256 + (t.low as u16);
+    let counter = Counter {
         value: t.counter,
         armed: t.armed,
         due: t.due,
         fired: false,
-    }
+    };
+    counter.run(free, latch, n)
 }
 
-fn count2(t: Timer2) -> Counter
-    ensures { λ r. ⌜ r ≡ counter2 t ⌝ }
+// n VIA ticks of T2, standing still or not.
+fn run2(t: Timer2, still: bool, n: u16) -> Counter
+    ensures { λ r. ⌜ r ≡ cond still (counter2 t) (steps n false 0 (counter2 t)) ⌝ }
 {
-    Counter {
+    let counter = Counter {
         value: t.counter,
         armed: t.armed,
         due: false,
         fired: false,
+    };
+    if still {
+        counter
+    } else {
+        counter.run(false, 0, n)
     }
 }
 
@@ -148,13 +151,9 @@ impl Via {
     pub fn wait(self, n: u16) -> Via
         ensures { λ r. ⌜ r ≡ ticks n self ⌝ }
     {
-        let a = count1(self.t1).run(self.acr / 64 % 2 == 1, latch_of(self.t1), n);
-        let still = count2(self.t2);
-        if self.acr / 32 % 2 == 1 {
-            self.settle(a, still)
-        } else {
-            self.settle(a, still.run(false, 0, n))
-        }
+        let a = run1(self.t1, self.acr / 64 % 2 == 1, n);
+        let b = run2(self.t2, self.acr / 32 % 2 == 1, n);
+        self.settle(a, b)
     }
 
     // The flags of the mask are set: 2 for vertical blanking, 1 for a second.

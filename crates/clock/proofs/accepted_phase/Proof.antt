@@ -1,13 +1,7 @@
-use mathlib.Core.Path.{sym, ap, subst, _∙_}
 use Rattle.clock.specs.Step.{acceptedPhase}
 use borrow.Author.Needs.{needs}
 use Rattle.clock.proofs.accepted_phase.Statement.{statement}
 use Rattle.clock.proofs.accepted_phase.Tie as tie
-use Rattle.clock.proofs.accepted_phase.Reads as reads
-use Rattle.clock.proofs.accepted_phase.Lts as lts
-use Rattle.clock.proofs.decoded.Reads as decoded-reads
-use Rattle.clock.proofs.few_bits.Reads as few-bits-reads
-use Rattle.clock.proofs.is_write.Reads as is-write-reads
 
 enum-told : tie.Need-enum-told
 enum-told c = search needs

@@ -1,5 +1,5 @@
 use native.Mathlib.Omega.{arith}
-use borrow.Author.Tests.{lt-ltb, le-ltb, le-leb, lt-leb, eq-eqb, ne-eqb}
+use borrow.Author.Tests.{eq-eqb, ne-eqb}
 use mathlib.Core.Path.{_≡_}
 use Prim.Native.Nat.{_-_}
 use native.Mathlib.Nat.{div-one}
@@ -7,8 +7,6 @@ use Rattle.clock.specs.Step.{shown}
 use borrow.Author.Needs.{needs}
 use Rattle.clock.proofs.bit_shown.Statement.{statement}
 use Rattle.clock.proofs.bit_shown.Tie as tie
-use Rattle.clock.proofs.bit_shown.Reads as reads
-use Rattle.clock.proofs.bit_shown.Lts as lts
 
 returns : tie.Need-returns
 unfolding shown

@@ -1,12 +1,9 @@
 use native.Mathlib.Omega.{arith}
-use mathlib.Core.Path.{sym, ap, subst, _∙_}
 use mathlib.Core.Path.{_≡_}
 use native.Mathlib.Nat.{div-one}
 use borrow.Author.Needs.{needs}
 use Rattle.clock.proofs.byte_at.Statement.{statement}
 use Rattle.clock.proofs.byte_at.Tie as tie
-use Rattle.clock.proofs.byte_at.Reads as reads
-use Rattle.clock.proofs.byte_at.Lts as lts
 
 cast-result : tie.Need-cast-result
 cast-result c = search needs

@@ -1,11 +1,8 @@
-use mathlib.Core.Path.{sym, ap, subst, _∙_}
-use borrow.Author.Tests.{lt-ltb, le-ltb, le-leb, lt-leb, eq-eqb, ne-eqb}
+use mathlib.Core.Path.{_∙_}
+use borrow.Author.Tests.{lt-ltb, le-ltb}
 use borrow.Author.Needs.{needs}
 use Rattle.clock.proofs.cell_command.Statement.{statement}
 use Rattle.clock.proofs.cell_command.Tie as tie
-use Rattle.clock.proofs.cell_command.Reads as reads
-use Rattle.clock.proofs.cell_command.Lts as lts
-use Rattle.clock.proofs.either_way.Reads as either-way-reads
 
 either-way-requires : tie.Need-either-way-requires
 either-way-requires c κs = search needs

@@ -1,12 +1,9 @@
-use mathlib.Core.Path.{sym, ap, subst, _∙_}
-use borrow.Author.Tests.{lt-ltb, le-ltb, le-leb, lt-leb, eq-eqb, ne-eqb}
+use mathlib.Core.Path.{_∙_}
+use borrow.Author.Tests.{eq-eqb, ne-eqb}
 use Rattle.clock.specs.Wire.{decode}
 use borrow.Author.Needs.{needs}
 use Rattle.clock.proofs.decoded.Statement.{statement}
 use Rattle.clock.proofs.decoded.Tie as tie
-use Rattle.clock.proofs.decoded.Reads as reads
-use Rattle.clock.proofs.decoded.Lts as lts
-use Rattle.clock.proofs.named_by.Reads as named-by-reads
 
 named-by-requires : tie.Need-named-by-requires
 named-by-requires c κs = search needs

@@ -1,8 +1,6 @@
 use Rattle.clock.specs.Step.{between}
 use Rattle.clock.proofs.edge_between.Statement.{statement}
 use Rattle.clock.proofs.edge_between.Tie as tie
-use Rattle.clock.proofs.edge_between.Reads as reads
-use Rattle.clock.proofs.edge_between.Lts as lts
 
 returns : tie.Need-returns
 unfolding between

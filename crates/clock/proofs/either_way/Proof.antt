@@ -1,7 +1,5 @@
 use Rattle.clock.proofs.either_way.Statement.{statement}
 use Rattle.clock.proofs.either_way.Tie as tie
-use Rattle.clock.proofs.either_way.Reads as reads
-use Rattle.clock.proofs.either_way.Lts as lts
 
 returns : tie.Need-returns
 returns c = cc

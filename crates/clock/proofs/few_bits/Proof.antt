@@ -1,12 +1,9 @@
-use mathlib.Core.Path.{sym, ap, subst, _∙_}
-use native.Mathlib.Omega.{arith}
-use borrow.Author.Tests.{lt-ltb, le-ltb, le-leb, lt-leb, eq-eqb, ne-eqb}
+use mathlib.Core.Path.{_∙_}
+use borrow.Author.Tests.{lt-ltb, le-ltb}
 use Rattle.clock.proofs.Range.{below-shift}
 use borrow.Author.Needs.{needs}
 use Rattle.clock.proofs.few_bits.Statement.{statement}
 use Rattle.clock.proofs.few_bits.Tie as tie
-use Rattle.clock.proofs.few_bits.Reads as reads
-use Rattle.clock.proofs.few_bits.Lts as lts
 
 shr-result : tie.Need-shr-result
 shr-result c = search needs

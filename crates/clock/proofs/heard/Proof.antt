@@ -1,14 +1,10 @@
-use mathlib.Core.Path.{sym, ap, subst, _∙_}
+use mathlib.Core.Path.{_∙_}
 use native.Mathlib.Omega.{arith}
-use borrow.Author.Tests.{lt-ltb, le-ltb, le-leb, lt-leb, eq-eqb, ne-eqb}
+use borrow.Author.Tests.{eq-eqb, ne-eqb}
 use Rattle.clock.proofs.Range.{few-count, few-small}
 use borrow.Author.Needs.{needs}
 use Rattle.clock.proofs.heard.Statement.{statement}
 use Rattle.clock.proofs.heard.Tie as tie
-use Rattle.clock.proofs.heard.Reads as reads
-use Rattle.clock.proofs.heard.Lts as lts
-use Rattle.clock.proofs.judged_by.Reads as judged-by-reads
-use Rattle.clock.proofs.pushed.Reads as pushed-reads
 
 pushed-requires : tie.Need-pushed-requires
 pushed-requires c κs = few-small (c .args .n) (c .args .v) (c .pre)

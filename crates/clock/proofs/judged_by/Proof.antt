@@ -5,10 +5,6 @@ use Rattle.clock.proofs.Range.{decode-legal}
 use borrow.Author.Needs.{needs}
 use Rattle.clock.proofs.judged_by.Statement.{statement}
 use Rattle.clock.proofs.judged_by.Tie as tie
-use Rattle.clock.proofs.judged_by.Reads as reads
-use Rattle.clock.proofs.judged_by.Lts as lts
-use Rattle.clock.proofs.Store.fetch.Reads as fetch-reads
-use Rattle.clock.proofs.decoded.Reads as decoded-reads
 
 decoded-requires : tie.Need-decoded-requires
 decoded-requires c κs = search needs

@@ -1,14 +1,9 @@
-use mathlib.Core.Path.{sym, ap, subst, _∙_}
-use borrow.Author.Tests.{lt-ltb, le-ltb, le-leb, lt-leb, eq-eqb, ne-eqb}
+use mathlib.Core.Path.{_∙_}
+use borrow.Author.Tests.{lt-ltb, le-ltb, eq-eqb, ne-eqb}
 use Rattle.clock.specs.Wire.{named}
 use borrow.Author.Needs.{needs}
 use Rattle.clock.proofs.named_by.Statement.{statement}
 use Rattle.clock.proofs.named_by.Tie as tie
-use Rattle.clock.proofs.named_by.Reads as reads
-use Rattle.clock.proofs.named_by.Lts as lts
-use Rattle.clock.proofs.cell_command.Reads as cell-command-reads
-use Rattle.clock.proofs.either_way.Reads as either-way-reads
-use Rattle.clock.proofs.write_only.Reads as write-only-reads
 
 either-way-requires : tie.Need-either-way-requires
 either-way-requires c κs = search needs

@@ -1,11 +1,9 @@
 use native.Mathlib.Omega.{arith}
-use mathlib.Core.Path.{sym, ap, subst, _∙_}
+use mathlib.Core.Path.{ap}
 use Rattle.clock.specs.Wire.{bit}
 use borrow.Author.Needs.{needs}
 use Rattle.clock.proofs.pushed.Statement.{statement}
 use Rattle.clock.proofs.pushed.Tie as tie
-use Rattle.clock.proofs.pushed.Reads as reads
-use Rattle.clock.proofs.pushed.Lts as lts
 
 mul-result : tie.Need-mul-result
 mul-result c = search needs

@@ -1,12 +1,9 @@
 use native.Mathlib.Omega.{arith}
-use mathlib.Core.Path.{sym, ap, subst, _∙_}
 use mathlib.Core.Path.{_≡_}
 use Rattle.clock.specs.Wire.{replace}
 use borrow.Author.Needs.{needs}
 use Rattle.clock.proofs.replaced.Statement.{statement}
 use Rattle.clock.proofs.replaced.Tie as tie
-use Rattle.clock.proofs.replaced.Reads as reads
-use Rattle.clock.proofs.replaced.Lts as lts
 
 mul-result : tie.Need-mul-result
 mul-result c = search needs

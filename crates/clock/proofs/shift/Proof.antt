@@ -1,9 +1,7 @@
-use borrow.Author.Tests.{lt-ltb, le-ltb, le-leb, lt-leb, eq-eqb, ne-eqb}
+use borrow.Author.Tests.{eq-eqb, ne-eqb}
 use borrow.Author.Needs.{needs}
 use Rattle.clock.proofs.shift.Statement.{statement}
 use Rattle.clock.proofs.shift.Tie as tie
-use Rattle.clock.proofs.shift.Reads as reads
-use Rattle.clock.proofs.shift.Lts as lts
 
 returns : tie.Need-returns
 returns c = simp (eq-eqb _ _ (c .if1 .taken))

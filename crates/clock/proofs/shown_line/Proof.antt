@@ -1,11 +1,8 @@
-use mathlib.Core.Path.{sym, ap, subst, _∙_}
+use mathlib.Core.Path.{sym, ap, _∙_}
 use Rattle.clock.specs.Step.{shown}
 use borrow.Author.Needs.{needs}
 use Rattle.clock.proofs.shown_line.Statement.{statement}
 use Rattle.clock.proofs.shown_line.Tie as tie
-use Rattle.clock.proofs.shown_line.Reads as reads
-use Rattle.clock.proofs.shown_line.Lts as lts
-use Rattle.clock.proofs.bit_shown.Reads as bit-shown-reads
 
 enum-told : tie.Need-enum-told
 enum-told c = search needs

@@ -1,8 +1,6 @@
 use borrow.Author.Needs.{needs}
 use Rattle.clock.proofs.write_only.Statement.{statement}
 use Rattle.clock.proofs.write_only.Tie as tie
-use Rattle.clock.proofs.write_only.Reads as reads
-use Rattle.clock.proofs.write_only.Lts as lts
 
 returns : tie.Need-returns
 returns c = search needs

@@ -2,8 +2,6 @@ use mathlib.Core.Path.{refl}
 use Rattle.iwm.specs.Lines.{linesOff}
 use Rattle.iwm.proofs.off.Statement.{statement}
 use Rattle.iwm.proofs.off.Tie as tie
-use Rattle.iwm.proofs.off.Reads as reads
-use Rattle.iwm.proofs.off.Lts as lts
 
 returns : tie.Need-returns
 unfolding linesOff

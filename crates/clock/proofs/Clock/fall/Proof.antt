@@ -1,17 +1,12 @@
-use mathlib.Core.Path.{refl}
+use mathlib.Core.Path.{refl, sym, ap, _∙_}
 use Rattle.clock.specs.declared.Edge.the-variants.{Fall}
 use Rattle.clock.proofs.Range.{stays}
-use mathlib.Core.Path.{sym, ap, subst, _∙_}
 use borrow.Author.Tests.{ltb-true}
 use Rattle.clock.specs.Step.{next, acts, act}
 use Rattle.clock.specs.Parts.{counts, edged}
 use borrow.Author.Needs.{needs}
 use Rattle.clock.proofs.Clock.fall.Statement.{statement}
 use Rattle.clock.proofs.Clock.fall.Tie as tie
-use Rattle.clock.proofs.Clock.fall.Reads as reads
-use Rattle.clock.proofs.Clock.fall.Lts as lts
-use Rattle.clock.proofs.Clock.with_phase.Reads as with-phase-reads
-use Rattle.clock.proofs.shift.Reads as shift-reads
 
 enum-told : tie.Need-enum-told
 enum-told c = search needs

@@ -1,19 +1,11 @@
-use mathlib.Core.Path.{refl}
+use mathlib.Core.Path.{refl, sym, ap, _∙_}
 use Rattle.clock.specs.declared.Edge.the-variants.{Rise}
 use Rattle.clock.proofs.Range.{stays}
-use mathlib.Core.Path.{sym, ap, subst, _∙_}
-use mathlib.Core.Path.{_≡_}
-use mathlib.Core.Bool.{true}
 use Rattle.clock.specs.Step.{next, acts, act}
 use Rattle.clock.specs.Parts.{counts, edged}
 use borrow.Author.Needs.{needs}
 use Rattle.clock.proofs.Clock.rise.Statement.{statement}
 use Rattle.clock.proofs.Clock.rise.Tie as tie
-use Rattle.clock.proofs.Clock.rise.Reads as reads
-use Rattle.clock.proofs.Clock.rise.Lts as lts
-use Rattle.clock.proofs.Clock.take.Reads as take-reads
-use Rattle.clock.proofs.Clock.with_phase.Reads as with-phase-reads
-use Rattle.clock.proofs.heard.Reads as heard-reads
 
 enum-told : tie.Need-enum-told
 enum-told c = search needs

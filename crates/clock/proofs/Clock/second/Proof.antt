@@ -1,10 +1,6 @@
-use mathlib.Core.Path.{sym, ap, subst, _∙_}
 use borrow.Author.Needs.{needs}
 use Rattle.clock.proofs.Clock.second.Statement.{statement}
 use Rattle.clock.proofs.Clock.second.Tie as tie
-use Rattle.clock.proofs.Clock.second.Reads as reads
-use Rattle.clock.proofs.Clock.second.Lts as lts
-use Rattle.clock.proofs.Store.add_seconds.Reads as add-seconds-reads
 
 add-seconds-requires : tie.Need-add-seconds-requires
 add-seconds-requires c κs = search needs

@@ -1,16 +1,10 @@
-use mathlib.Core.Path.{sym, ap, subst, _∙_}
+use mathlib.Core.Path.{sym, ap, _∙_}
 use Rattle.clock.specs.Step.{next, acts, act, stepWires}
 use Rattle.clock.specs.Parts.{edged}
 use Rattle.clock.proofs.Range.{accepted-counts}
 use borrow.Author.Needs.{needs}
 use Rattle.clock.proofs.Clock.step.Statement.{statement}
 use Rattle.clock.proofs.Clock.step.Tie as tie
-use Rattle.clock.proofs.Clock.step.Reads as reads
-use Rattle.clock.proofs.Clock.step.Lts as lts
-use Rattle.clock.proofs.Clock.fall.Reads as fall-reads
-use Rattle.clock.proofs.Clock.rise.Reads as rise-reads
-use Rattle.clock.proofs.Clock.with_phase.Reads as with-phase-reads
-use Rattle.clock.proofs.edge_between.Reads as edge-between-reads
 
 edge-between-requires : tie.Need-edge-between-requires
 edge-between-requires c κs = search needs

@@ -1,17 +1,12 @@
-use mathlib.Core.Path.{sym, ap, subst, _∙_}
+use mathlib.Core.Path.{sym, subst}
 use native.Mathlib.Omega.{arith}
-use borrow.Author.Tests.{lt-ltb, le-ltb, le-leb, lt-leb, eq-eqb, ne-eqb}
+use borrow.Author.Tests.{eq-eqb, ne-eqb}
 use Rattle.clock.specs.Step.{next, acts, act}
 use Rattle.clock.specs.Parts.{Legal, edged}
 use Rattle.clock.proofs.Range.{few-count, few-small, decode-legal}
 use borrow.Author.Needs.{needs}
 use Rattle.clock.proofs.Clock.take.Statement.{statement}
 use Rattle.clock.proofs.Clock.take.Tie as tie
-use Rattle.clock.proofs.Clock.take.Reads as reads
-use Rattle.clock.proofs.Clock.take.Lts as lts
-use Rattle.clock.proofs.Store.act.Reads as act-reads
-use Rattle.clock.proofs.decoded.Reads as decoded-reads
-use Rattle.clock.proofs.pushed.Reads as pushed-reads
 
 pushed-requires : tie.Need-pushed-requires
 pushed-requires c κs = few-small (c .args .n) (c .args .v) (c .pre)

@@ -1,10 +1,6 @@
-use mathlib.Core.Path.{sym, ap, subst, _∙_}
 use borrow.Author.Needs.{needs}
 use Rattle.clock.proofs.Clock.time_off.Statement.{statement}
 use Rattle.clock.proofs.Clock.time_off.Tie as tie
-use Rattle.clock.proofs.Clock.time_off.Reads as reads
-use Rattle.clock.proofs.Clock.time_off.Lts as lts
-use Rattle.clock.proofs.Store.add_seconds.Reads as add-seconds-reads
 
 add-seconds-requires : tie.Need-add-seconds-requires
 add-seconds-requires c κs = search needs

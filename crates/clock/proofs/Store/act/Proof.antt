@@ -1,14 +1,9 @@
-use mathlib.Core.Path.{sym, ap, subst, _∙_}
+use mathlib.Core.Path.{subst}
 use Rattle.clock.specs.Parts.{Legal}
-use Rattle.clock.specs.Wire.{writeBy}
 use Rattle.clock.specs.Step.{act}
 use borrow.Author.Needs.{needs}
 use Rattle.clock.proofs.Store.act.Statement.{statement}
 use Rattle.clock.proofs.Store.act.Tie as tie
-use Rattle.clock.proofs.Store.act.Reads as reads
-use Rattle.clock.proofs.Store.act.Lts as lts
-use Rattle.clock.proofs.Store.put.Reads as put-reads
-use Rattle.clock.proofs.may_write.Reads as may-write-reads
 
 enum-known-c : tie.Need-enum-known-c
 enum-known-c c = search needs

@@ -1,11 +1,6 @@
-use mathlib.Core.Path.{sym, ap, subst, _∙_}
 use borrow.Author.Needs.{needs}
 use Rattle.clock.proofs.Store.add_seconds.Statement.{statement}
 use Rattle.clock.proofs.Store.add_seconds.Tie as tie
-use Rattle.clock.proofs.Store.add_seconds.Reads as reads
-use Rattle.clock.proofs.Store.add_seconds.Lts as lts
-use Rattle.clock.proofs.Store.with_seconds.Reads as with-seconds-reads
-use Rattle.std.proofs.num.wrapping_add_u32.Reads as wrapping-add-u32-reads
 
 wrapping-add-u32-requires : tie.Need-wrapping-add-u32-requires
 wrapping-add-u32-requires c κs = search needs

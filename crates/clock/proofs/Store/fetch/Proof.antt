@@ -1,12 +1,9 @@
-use mathlib.Core.Path.{sym, ap, subst, _∙_}
+use mathlib.Core.Path.{subst}
 use Rattle.clock.specs.Parts.{InRange}
 use Rattle.clock.specs.Step.{fetch}
 use borrow.Author.Needs.{needs}
 use Rattle.clock.proofs.Store.fetch.Statement.{statement}
 use Rattle.clock.proofs.Store.fetch.Tie as tie
-use Rattle.clock.proofs.Store.fetch.Reads as reads
-use Rattle.clock.proofs.Store.fetch.Lts as lts
-use Rattle.clock.proofs.byte_at.Reads as byte-at-reads
 
 enum-known-t : tie.Need-enum-known-t
 enum-known-t c = search needs
@@ -43,7 +40,7 @@ returns-3 c = simp (c .enum-told2 .given .1)
 
 returns-4 : tie.Need-returns-4
 unfolding fetch
-returns-4 c = simp (c .before .before .t2 .given .1, c .result .given)
+returns-4 c = simp (c .before .before .t2 .given .1)
 
 pub fetch-spec : {M : Type 1} → statement M
 fetch-spec =

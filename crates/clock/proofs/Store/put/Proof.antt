@@ -1,12 +1,9 @@
-use mathlib.Core.Path.{sym, ap, subst, _∙_}
+use mathlib.Core.Path.{subst}
 use Rattle.clock.specs.Parts.{InRange}
 use Rattle.clock.specs.Step.{put}
 use borrow.Author.Needs.{needs}
 use Rattle.clock.proofs.Store.put.Statement.{statement}
 use Rattle.clock.proofs.Store.put.Tie as tie
-use Rattle.clock.proofs.Store.put.Reads as reads
-use Rattle.clock.proofs.Store.put.Lts as lts
-use Rattle.clock.proofs.replaced.Reads as replaced-reads
 
 enum-known-t : tie.Need-enum-known-t
 enum-known-t c = search needs

@@ -3,8 +3,6 @@ use Rattle.iwm.specs.Lines.{accessed}
 use borrow.Author.Needs.{needs}
 use Rattle.iwm.proofs.DiskLines.access.Statement.{statement}
 use Rattle.iwm.proofs.DiskLines.access.Tie as tie
-use Rattle.iwm.proofs.DiskLines.access.Reads as reads
-use Rattle.iwm.proofs.DiskLines.access.Lts as lts
 
 cast-i : tie.Need-cast-i
 cast-i c = search needs

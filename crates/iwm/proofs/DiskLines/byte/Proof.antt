@@ -4,9 +4,6 @@ use Rattle.iwm.specs.Lines.{lineByteOf}
 use borrow.Author.Needs.{needs}
 use Rattle.iwm.proofs.DiskLines.byte.Statement.{statement}
 use Rattle.iwm.proofs.DiskLines.byte.Tie as tie
-use Rattle.iwm.proofs.DiskLines.byte.Reads as reads
-use Rattle.iwm.proofs.DiskLines.byte.Lts as lts
-use Rattle.iwm.proofs.nibble.Reads as nibble-reads
 
 array-read-nibble : tie.Need-array-read-nibble
 array-read-nibble c = search needs
@@ -21,7 +18,7 @@ array-read-nibble-4 : tie.Need-array-read-nibble-4
 array-read-nibble-4 c = search needs
 
 nibble-requires : tie.Need-nibble-requires
-nibble-requires c κs = (level-at (c .before .args .self .lines) 0 (c .before .pre), level-at (c .before .args .self .lines) 1 (c .before .pre), level-at (c .before .args .self .lines) 2 (c .before .pre), level-at (c .before .args .self .lines) 3 (c .before .pre))
+nibble-requires c κs = omega (arith, level-at (c .before .args .self .lines) 0 (c .before .pre), level-at (c .before .args .self .lines) 1 (c .before .pre), level-at (c .before .args .self .lines) 2 (c .before .pre), level-at (c .before .args .self .lines) 3 (c .before .pre))
 
 array-read-nibble-5 : tie.Need-array-read-nibble-5
 array-read-nibble-5 c = search needs
@@ -36,7 +33,7 @@ array-read-nibble-8 : tie.Need-array-read-nibble-8
 array-read-nibble-8 c = search needs
 
 nibble-requires-2 : tie.Need-nibble-requires-2
-nibble-requires-2 c κs = (level-at (c .before .before .args .self .lines) 4 (c .before .before .pre), level-at (c .before .before .args .self .lines) 5 (c .before .before .pre), level-at (c .before .before .args .self .lines) 6 (c .before .before .pre), level-at (c .before .before .args .self .lines) 7 (c .before .before .pre))
+nibble-requires-2 c κs = omega (arith, level-at (c .before .before .args .self .lines) 4 (c .before .before .pre), level-at (c .before .before .args .self .lines) 5 (c .before .before .pre), level-at (c .before .before .args .self .lines) 6 (c .before .before .pre), level-at (c .before .before .args .self .lines) 7 (c .before .before .pre))
 
 mul-result : tie.Need-mul-result
 mul-result c = search needs

@@ -1,10 +1,8 @@
-use borrow.Author.Tests.{lt-ltb, le-ltb, le-leb, lt-leb, eq-eqb, ne-eqb}
+use borrow.Author.Tests.{eq-eqb, ne-eqb}
 use Rattle.iwm.specs.Lines.{readLine}
 use borrow.Author.Needs.{needs}
 use Rattle.iwm.proofs.DiskLines.read.Statement.{statement}
 use Rattle.iwm.proofs.DiskLines.read.Tie as tie
-use Rattle.iwm.proofs.DiskLines.read.Reads as reads
-use Rattle.iwm.proofs.DiskLines.read.Lts as lts
 
 array-read-if2 : tie.Need-array-read-if2
 array-read-if2 c = search needs

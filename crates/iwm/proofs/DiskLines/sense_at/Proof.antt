@@ -4,9 +4,6 @@ use Rattle.iwm.specs.Lines.{senseAt}
 use borrow.Author.Needs.{needs}
 use Rattle.iwm.proofs.DiskLines.sense_at.Statement.{statement}
 use Rattle.iwm.proofs.DiskLines.sense_at.Tie as tie
-use Rattle.iwm.proofs.DiskLines.sense_at.Reads as reads
-use Rattle.iwm.proofs.DiskLines.sense_at.Lts as lts
-use Rattle.iwm.proofs.nibble.Reads as nibble-reads
 
 array-read-nibble : tie.Need-array-read-nibble
 array-read-nibble c = search needs
@@ -18,7 +15,7 @@ array-read-nibble-3 : tie.Need-array-read-nibble-3
 array-read-nibble-3 c = search needs
 
 nibble-requires : tie.Need-nibble-requires
-nibble-requires c κs = (c .before .pre .1, level-at (c .before .args .self .lines) 0 (c .before .pre .0), level-at (c .before .args .self .lines) 1 (c .before .pre .0), level-at (c .before .args .self .lines) 2 (c .before .pre .0))
+nibble-requires c κs = omega (arith, level-at (c .before .args .self .lines) 0 (c .before .pre .0), level-at (c .before .args .self .lines) 1 (c .before .pre .0), level-at (c .before .args .self .lines) 2 (c .before .pre .0))
 
 array-read-drive : tie.Need-array-read-drive
 array-read-drive c = search needs

@@ -1,6 +1,6 @@
 use borrow.Author.Needs.{needs}
 use Rattle.via.specs.Registers.{flagsRead}
-use borrow.Author.Tests.{lt-ltb, le-ltb, le-leb, lt-leb, eq-eqb, ne-eqb}
+use borrow.Author.Tests.{eq-eqb, ne-eqb}
 use Rattle.via.proofs.Via.flags_read.Statement.{statement}
 use Rattle.via.proofs.Via.flags_read.Tie as tie
 use Rattle.via.proofs.Via.flags_read.Reads as reads

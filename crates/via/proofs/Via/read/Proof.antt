@@ -1,6 +1,5 @@
 use borrow.Author.Needs.{needs}
 use Rattle.via.specs.Registers.{readOf}
-use borrow.Author.Tests.{lt-ltb, le-ltb, le-leb, lt-leb, eq-eqb, ne-eqb}
 use Rattle.via.proofs.Via.read.Statement.{statement}
 use Rattle.via.proofs.Via.read.Tie as tie
 use Rattle.via.proofs.Via.read.Reads as reads

@@ -1,0 +1,126 @@
+-- Worked examples, computed: the chip's store after some entries, and what the history says, side by side. Every list has the newest first.
+use mathlib.Core.Path.{_≡_, refl}
+use mathlib.Core.Bool.{Bool, true, false, not}
+use mathlib.Core.List.{List, [], _∷_, _++_}
+use mathlib.Core.Option.{some}
+use Prim.Native.Nat.{ℕ, zero, suc, _-_, _/_, _%_, _^_}
+use lib.Dec.{eqb}
+use lib.ListN.{getD}
+use Rattle.clock.specs.Wire.{Event, quiet, second, off, named, decode, replace}
+use Rattle.clock.specs.Step.{freshClock, between, fetch, next, acts, put, act, stepWires}
+use Rattle.clock.specs.declared.Phase.the-variants.{Taking}
+use Rattle.clock.specs.declared.Wires.{Wires}
+use Rattle.clock.specs.declared.Clock.{Clock}
+use Rattle.history.specs.History.{Entry, History, wiresAt, rises, ended, protectAt, endedClear, last, cellAt, testAt, secondsAt}
+use Rattle.history.specs.Start.{startOf, undriven, freshStart}
+use Rattle.history.specs.Demand3.{clockAfter, storeAfter}
+
+-- ---- entries
+
+abbrev at : Bool → Bool → Bool → Event → Entry
+at e c d v = record { wires = record { enable = e; dataclock = c; dataline = d }; event = v }
+
+abbrev up : List Entry
+up = at true true true quiet ∷ []
+
+abbrev down : List Entry
+down = at false true true quiet ∷ []
+
+-- A bit sent: data-clock low, then high.
+abbrev one : Bool → List Entry
+one b = at false true b quiet ∷ at false false b quiet ∷ []
+
+-- The lowest n bits of a byte.
+abbrev bits : ℕ → ℕ → List Entry
+bits zero b = []
+bits (suc n) b = one (eqb (b % 2) 1) ++ bits n (b / 2)
+
+-- A whole transaction: a command, and a byte to it.
+abbrev send : ℕ → ℕ → List Entry
+send c b = up ++ bits 8 b ++ bits 8 c ++ down
+
+-- The high n bits of the byte only, and enable up.
+abbrev part : ℕ → ℕ → ℕ → List Entry
+part n c b = up ++ bits n (b / 2 ^ (8 - n)) ++ bits 8 c ++ down
+
+-- ---- the two sides, from the fresh machine with 20 cells
+
+abbrev chipCell : ℕ → History → ℕ
+chipCell i h = getD (storeAfter 20 (freshClock 20) undriven h .cells) i 0
+
+abbrev toldCell : ℕ → History → ℕ
+toldCell i h = cellAt 20 (freshStart 20) i h
+
+-- The cell i is b by both.
+abbrev Cell-is : ℕ → History → ℕ → Type 0
+Cell-is i h b = (chipCell i h ≡ b) × (toldCell i h ≡ b)
+
+abbrev Seconds-are : History → ℕ → Type 0
+Seconds-are h n = (storeAfter 20 (freshClock 20) undriven h .seconds ≡ n) × (secondsAt 20 (freshStart 20) h ≡ n)
+
+-- $41 $AA up to the twelfth rise, then a power cut of 5 seconds, then four rises more.
+abbrev cutShort : List Entry
+cutShort = up ++ bits 4 0xA ++ (at true true true (off 5) ∷ []) ++ bits 4 0xA ++ bits 8 0x41 ++ down
+
+-- Enable, data-clock and data made by directions alone: every output bit is 0, so a line is 0 while it is driven and undriven, 1, while it is not.
+abbrev drive : Bool → Bool → Bool → Entry
+drive e c d = at (not e) (not c) (not d) quiet
+
+abbrev driveBits : ℕ → ℕ → List Entry
+driveBits zero b = []
+driveBits (suc n) b = drive true false (eqb (b % 2) 0) ∷ drive true true (eqb (b % 2) 0) ∷ driveBits n (b / 2)
+
+abbrev byDirections : List Entry
+byDirections = drive false false false ∷ driveBits 8 0xAA ++ driveBits 8 0x41 ++ (drive true false false ∷ [])
+
+-- The last rise before enable goes up, and data-clock high again in the item that drops enable: S10.
+abbrev together : List Entry
+together = at false true true quiet ∷ at true false true quiet ∷ []
+
+-- A state amid $41 $AA: the command and four data bits are taken; the seconds are one before they wrap, and protect is clear.
+abbrev amid : Clock
+amid = record {
+  phase = Taking 0x41 4 0xA;
+  store = record { cells = freshClock 20 .store .cells; seconds = 4294967295; protect = false; test = 0x11 };
+}
+
+abbrev low : Wires
+low = record { enable = false; dataclock = true; dataline = true }
+
+-- Four bits more, a second, and a power cut of 7 seconds.
+abbrev goesOn : List Entry
+goesOn = at true true true (off 7) ∷ at false true false second ∷ bits 4 0xA
+
+pub record Examples : Type 0 where
+  pub write : Cell-is 0 (send 0x41 0xAA) 0xAA
+  pub fifteenRises : Cell-is 0 (part 7 0x41 0xAA) 0
+  pub underProtect : Cell-is 0 (send 0x41 0xAA ++ send 0x35 0x80) 0
+  pub clearedAgain : Cell-is 0 (send 0x41 0xAA ++ send 0x35 0x7F ++ send 0x35 0x80) 0xAA
+  pub powerCutCell : Cell-is 0 cutShort 0
+  pub powerCutSeconds : Seconds-are cutShort 5
+  pub directions : Cell-is 0 byDirections 0xAA
+  pub halfSent : Cell-is 0 (part 4 0x41 0x55 ++ send 0x41 0xAA) 0xAA
+  pub noBit : rises 20 (freshStart 20) together ≡ some []
+  -- Seconds byte 1 is written with $12, under protect with $34 not; 3 seconds pass.
+  pub secondsWritten : Seconds-are (at true true true (off 2) ∷ send 0x05 0x34 ++ send 0x35 0x80 ++ (at true true true second ∷ send 0x05 0x12)) 0x1203
+  pub amidCell : (getD (storeAfter 20 amid low goesOn .cells) 0 0 ≡ 0xAA) × (cellAt 20 (startOf amid low) 0 goesOn ≡ 0xAA)
+  pub amidSeconds : (storeAfter 20 amid low goesOn .seconds ≡ 7) × (secondsAt 20 (startOf amid low) goesOn ≡ 7)
+  pub amidTest : (storeAfter 20 amid low goesOn .test ≡ 0x11) × (testAt 20 (startOf amid low) goesOn ≡ 0x11)
+
+pub examples : Examples
+unfolding clockAfter stepWires between next acts act put decode named fetch wiresAt rises ended protectAt endedClear last secondsAt replace
+examples = record {
+  write = (refl, refl);
+  fifteenRises = (refl, refl);
+  underProtect = (refl, refl);
+  clearedAgain = (refl, refl);
+  powerCutCell = (refl, refl);
+  powerCutSeconds = (refl, refl);
+  directions = (refl, refl);
+  halfSent = (refl, refl);
+  noBit = refl;
+  secondsWritten = (refl, refl);
+  amidCell = (refl, refl);
+  amidSeconds = (refl, refl);
+  amidTest = (refl, refl);
+}

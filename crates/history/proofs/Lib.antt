@@ -1,0 +1,12 @@
+pub mod Phases
+pub mod Bits
+pub mod Tied
+pub mod Range
+pub mod Stores
+pub mod Holds
+pub mod Faithful
+pub mod Keeps
+pub mod Driven
+pub mod Runs
+pub mod Examples
+pub mod RunExamples

@@ -1,0 +1,5 @@
+pub mod History
+pub mod Start
+pub mod Demand3
+pub mod Items
+pub mod Runs

@@ -1,0 +1,62 @@
+-- Every item keeps an accepted state accepted.
+use Prim.Native.Nat.{ℕ, _+_, _*_, _<_}
+use mathlib.Core.Path.{_≡_, refl, sym, ap, ap₂, _∙_}
+use mathlib.Core.Bool.{Bool, true}
+use native.Mathlib.Omega.{arith}
+use lib.ListN.{set}
+use Rattle.levels.proofs.Laws.{set-levels}
+use Rattle.via.specs.declared.Via.{Via}
+use Rattle.via.specs.Via.{acceptedVia, ticks}
+use Rattle.via.proofs.Accepted.{fresh-accepted, reset-accepted, raised-accepted, ticks-accepted, written-accepted, read-accepted}
+use Rattle.clock.specs.declared.Phase.{Phase}
+use Rattle.clock.specs.Step.{acceptedPhase, stepWires, shown}
+use Rattle.clock.proofs.Keep.{keeps-step}
+use Rattle.wiring.specs.Wiring.{wiresOf, inputsOf}
+use Rattle.iwm.proofs.Laws.{off-levels, access-levels}
+use Rattle.items.specs.Items.{InRange}
+use Rattle.items.specs.declared.Item.{Item}
+use Rattle.items.specs.declared.Item.the-variants.{ReadVia, ReadIwm, WriteVia, WriteIwm, Blank, Second, Line, Sense, Reset, Power}
+use Rattle.machine.specs.declared.Machine.{Machine}
+use Rattle.machine.specs.Machine.{cellCount, wires, acceptedOf, Levels}
+use Rattle.machine.specs.Step.{waitOf, waited, viaRead, iwmRead, actedOf, stepOf}
+use Rattle.machine.proofs.Laws.{Parts, parts, whole, acted-phase}
+
+-- What an action leaves of the levels and of the VIA.
+pub record Kept (m : Machine) : Type 0 where
+  pub levels : Levels m
+  pub via : acceptedVia (m .via) ≡ true
+
+pub act-keeps : (m : Machine) (i : Item) → InRange i → Kept m → Kept (actedOf m i .machine)
+unfolding actedOf viaRead iwmRead
+act-keeps m (ReadVia w r) h k = record { levels = k .levels; via = read-accepted r (inputsOf (shown (m .clock .phase)) (m .inputs)) (m .via) (k .via) }
+act-keeps m (ReadIwm w l) h k = record { levels = (access-levels l (m .disk) (k .levels .0), k .levels .1, k .levels .2); via = k .via }
+act-keeps m (WriteVia w r v) h k = record { levels = k .levels; via = written-accepted r v (m .via) (k .via) }
+act-keeps m (WriteIwm w l v) h k = record { levels = (access-levels l (m .disk) (k .levels .0), k .levels .1, k .levels .2); via = k .via }
+act-keeps m (Blank w) h k = record { levels = k .levels; via = raised-accepted 2 (m .via) (omega arith) (k .via) }
+act-keeps m (Second w) h k = record { levels = k .levels; via = raised-accepted 1 (m .via) (omega arith) (k .via) }
+act-keeps m (Line w l v) h k = record { levels = (k .levels .0, set-levels (m .inputs) l v (k .levels .1) (h .1), k .levels .2); via = k .via }
+act-keeps m (Sense w d r v) h k =
+    record { levels = (k .levels .0, k .levels .1, set-levels (m .sense) (16 * d + r) v (k .levels .2) (h .2)); via = k .via }
+act-keeps m (Reset w) h k = record { levels = (off-levels, k .levels .1, k .levels .2); via = reset-accepted (m .via) }
+act-keeps m (Power w s) h k = record { levels = (off-levels, k .levels .1, k .levels .2); via = fresh-accepted }
+
+-- Enable does not hang on what the chip shows.
+enable-same : (m : Machine) (a b : Bool) → wiresOf (m .via .ports) a .enable ≡ wiresOf (m .via .ports) b .enable
+unfolding wiresOf
+enable-same m a b = refl
+
+pub step-keeps : (m : Machine) (i : Item) → InRange i → acceptedOf m ≡ true → acceptedOf (stepOf m i .machine) ≡ true
+unfolding stepOf
+step-keeps m i h a =
+    let p = parts m a in
+    let w = waited (waitOf i) m in
+    let k = act-keeps w i h (record { levels = p .levels; via = ticks-accepted (waitOf i) (m .via) (p .via) }) in
+    let d = actedOf w i .machine in
+    let n = stepWires cellCount (d .clock) (wires m) (wires d) in
+    whole (stepOf m i .machine)
+    (record {
+      levels = k .levels;
+      via = k .via;
+      phase = ap (acceptedPhase cellCount (n .phase)) (enable-same d (shown (n .phase)) (shown (d .clock .phase)))
+          ∙ keeps-step cellCount (d .clock) (wires m) (wires d) (ap (λ (f : Phase). acceptedPhase cellCount f (wires m .enable)) (acted-phase w i) ∙ p .phase);
+    })
