@@ -28,6 +28,7 @@
 
 mod answer;
 mod chunks;
+mod command;
 mod item;
 mod machine;
 mod state;
@@ -36,6 +37,7 @@ pub mod text;
 
 pub use answer::{answers, Answer, Lines, Refusal, Seen, ANSWER_LEN};
 pub use chunks::{pieces, Chunks, Piece, Pieces, CHUNK_LEN};
+pub use command::{Command, Target};
 pub use item::{
     Address, DiskLine, Drive, InLine, Item, List, Register, Seconds, SenseRegister, ViaTicks,
     TICKS_PER_SECOND,
