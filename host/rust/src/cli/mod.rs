@@ -80,8 +80,17 @@ impl fmt::Display for Failure {
 /// An error of reading or writing `name`, which may be one of a text.
 pub fn failure(name: &str, error: io::Error) -> Failure {
     match error.downcast::<TextError>() {
-        Ok(error) => Failure::Text(name.to_string(), error),
-        Err(error) => Failure::File(name.to_string(), error),
+        Ok(error) => Failure::Text(shown(name), error),
+        Err(error) => Failure::File(shown(name), error),
+    }
+}
+
+/// A file's name in messages.
+pub fn shown(name: &str) -> String {
+    if name == "-" {
+        "standard input or output".to_string()
+    } else {
+        name.to_string()
     }
 }
 

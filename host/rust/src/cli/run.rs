@@ -173,7 +173,7 @@ impl Session {
                 self.written
             );
             if number == 1 && self.consumed == 0 && !options.text {
-                eprintln!("if {} is a list as text, give --text", options.list);
+                eprintln!("if the list is a text, give --text");
             }
         }
         Ok(number)

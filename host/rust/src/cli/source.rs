@@ -1,6 +1,6 @@
 //! Lists and images read.
 
-use super::{failure, Failure};
+use super::{failure, shown, Failure};
 use std::fs::File;
 use std::io::{self, BufRead, BufReader, Read};
 use swarmtempo::text::{assemble_line, LineError};
@@ -96,6 +96,6 @@ pub fn image(name: &str) -> Result<Machine, Failure> {
             "a field is out of its range, or the clock's command disagrees with its enable line"
                 .to_string()
         };
-        Failure::State(name.to_string(), format!("{why} (refusal {})", refusal.number()))
+        Failure::State(shown(name), format!("{why} (refusal {})", refusal.number()))
     })
 }
