@@ -478,22 +478,13 @@ fn some_case(seed: u64) -> Case {
 
 /// The smallest case found that still differs.
 fn shrink(mut case: Case, differs: impl Fn(&Case) -> bool) -> Case {
-    let mut tries: Vec<Box<dyn Fn(&Case) -> Option<Case>>> = Vec::new();
-    tries.push(Box::new(|case| {
-        let image = model::fresh_image().to_vec();
-        (case.image != image).then(|| Case { image, ..case.clone() })
-    }));
-    tries.push(Box::new(|case| {
-        let room = 8 * (case.parts.len() + 2);
-        (case.room != room).then(|| Case { room, ..case.clone() })
-    }));
+    let fresh = model::fresh_image().to_vec();
     loop {
-        let mut better = None;
-        for make in &tries {
-            better = make(&case).filter(&differs);
-            if better.is_some() {
-                break;
-            }
+        let plain = Case { image: fresh.clone(), ..case.clone() };
+        let mut better = Some(plain).filter(|it| it.image != case.image && differs(it));
+        if better.is_none() {
+            let wide = Case { room: 8 * (case.parts.len() + 2), ..case.clone() };
+            better = Some(wide).filter(|it| it.room != case.room && differs(it));
         }
         // Parts left out, many at a time and then one by one.
         let mut width = case.parts.len();

@@ -128,7 +128,8 @@ fn disk(state: &State, out: &mut String) {
 fn date(seconds: u32) -> String {
     let (mut days, time) = (seconds / 86_400, seconds % 86_400);
     let mut year = 1904;
-    let leap = |year: u32| year % 4 == 0 && (year % 100 != 0 || year % 400 == 0);
+    // 1904 to 2040: 2000, the only century year, is a leap year.
+    let leap = |year: u32| year.is_multiple_of(4);
     while days >= 365 + u32::from(leap(year)) {
         days -= 365 + u32::from(leap(year));
         year += 1;
