@@ -446,6 +446,14 @@ fn some_image(random: &mut Random) -> Vec<u8> {
     image
 }
 
+/// A command under way, at or past the edges of its ranges.
+fn odd_phase(random: &mut Random) -> [u8; 4] {
+    let bits = random.below(10) as u8;
+    let value = random.pick(&[0, 1, (1u32 << bits) - 1, 1 << bits, 255]) as u8;
+    let command = random.pick(&[0, 0, 0x41, 0x35, 0xC1, 0xB5, 0x42]);
+    [random.below(6) as u8, command, bits, value]
+}
+
 fn some_case(seed: u64) -> Case {
     let random = &mut Random(seed);
     let mut image = match random.below(4) {
@@ -459,11 +467,12 @@ fn some_case(seed: u64) -> Case {
             image
         }
     };
-    if random.one_in(25) {
+    if random.one_in(12) {
         // Mostly an image that no state has.
-        match random.below(6) {
+        match random.below(12) {
             0 => image.truncate(random.below(image.len())),
             1 => image.push(0),
+            2..=6 => image[23..27].copy_from_slice(&odd_phase(random)),
             _ => {
                 let at = random.below(image.len());
                 image[at] = random.pick(&[0, 1, 2, 3, 8, 128, 255]);
