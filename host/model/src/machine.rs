@@ -75,7 +75,8 @@ impl Machine {
         u8::from(self.via.asks())
     }
 
-    /// True where a refusal does not hinder it; all parts in range but for this are so by their types.
+    /// True for an accepted state, whose chip is idle exactly while enable is 1. The other ranges are
+    /// those of the types, and of the image's reader.
     pub fn accepted(&self) -> bool {
         (self.clock.phase == Phase::Idle) == self.wires().enable
     }

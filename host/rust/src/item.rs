@@ -279,25 +279,29 @@ impl Item {
             return Err(Refusal::Length);
         }
         let (wait, rest) = rest.split_first_chunk::<2>().ok_or(Refusal::Length)?;
-        let number = || rest.first_chunk::<4>().map(|bytes| u32::from_le_bytes(*bytes));
-        let address = || Address::from_number(number()?);
+        let number = || u32::from_le_bytes([rest[0], rest[1], rest[2], rest[3]]);
+        let address = || Address::from_number(number()).ok_or(Refusal::Address);
         let item = match kind {
             b"VB" => Item::Blank,
             b"SE" => Item::Second,
             b"RS" => Item::Reset,
-            b"PW" => Item::Power(Seconds(number().ok_or(Refusal::Length)?)),
-            b"RD" => Item::Read(address().ok_or(Refusal::Address)?),
-            b"WR" => Item::Write(address().ok_or(Refusal::Address)?, rest[4]),
-            b"IN" => (|| Some(Item::In(InLine::new(rest[0])?, level(rest[1])?)))()
-                .ok_or(Refusal::Range)?,
-            _ => (|| {
-                let register = SenseRegister::new(rest[1])?;
-                Some(Item::Sense(Drive::from_byte(rest[0])?, register, level(rest[2])?))
-            })()
-            .ok_or(Refusal::Range)?,
+            b"PW" => Item::Power(Seconds(number())),
+            b"RD" => Item::Read(address()?),
+            b"WR" => Item::Write(address()?, rest[4]),
+            b"IN" => read_in(rest).ok_or(Refusal::Range)?,
+            _ => read_sense(rest).ok_or(Refusal::Range)?,
         };
         Ok((ViaTicks(u16::from_le_bytes(*wait)), item))
     }
+}
+
+fn read_in(rest: &[u8]) -> Option<Item> {
+    Some(Item::In(InLine::new(rest[0])?, level(rest[1])?))
+}
+
+fn read_sense(rest: &[u8]) -> Option<Item> {
+    let register = SenseRegister::new(rest[1])?;
+    Some(Item::Sense(Drive::from_byte(rest[0])?, register, level(rest[2])?))
 }
 
 fn level(byte: u8) -> Option<bool> {
