@@ -47,7 +47,7 @@ pub fn run(options: Options) -> Result<u8, Failure> {
         Some(name) => Some(Vcd::new(name, machine.state())?),
         None => None,
     };
-    let mut session = Session {
+    let mut runner = Runner {
         machine,
         answers,
         table,
@@ -58,11 +58,11 @@ pub fn run(options: Options) -> Result<u8, Failure> {
         consumed: 0,
         written: 0,
     };
-    session.stream(list, &options)?;
-    session.close(&options)
+    runner.stream(list, &options)?;
+    runner.close(&options)
 }
 
-struct Session {
+struct Runner {
     machine: Machine,
     answers: Option<Out>,
     table: Option<Out>,
@@ -75,7 +75,7 @@ struct Session {
     written: u64,
 }
 
-impl Session {
+impl Runner {
     fn stream(&mut self, list: Box<dyn Read>, options: &Options) -> Result<(), Failure> {
         let mut progress = Progress::new(options);
         let mut chunks = Chunks::new(list);
