@@ -74,7 +74,7 @@ in-range s =
     (good-sized InRange s 8 _ (good-placed InRange (le32Of s 4) (λ r. ReadVia (waitOf s) r) (λ k. ReadIwm (waitOf s) k) (λ r h. h) (λ k h. h)))
     (good-sized InRange s 9 _ (good-placed InRange (le32Of s 4) (λ r. WriteVia (waitOf s) r (getD s 8 0)) (λ k. WriteIwm (waitOf s) k (getD s 8 0)) (λ r h. h) (λ k h. h)))
     (λ k. good-sized InRange s 4 _ (plain-range k (waitOf s)))
-    (good-sized InRange s 6 _ (good-upTo InRange (getD s 4 0) 4 _ (λ a. good-upTo InRange (getD s 5 0) 1 _ (λ b. (omega arith, omega arith)))))
+    (good-sized InRange s 6 _ (good-upTo InRange (getD s 4 0) 6 _ (λ a. good-upTo InRange (getD s 5 0) 1 _ (λ b. (omega arith, omega arith)))))
     (good-sized InRange s 7 _ (good-upTo InRange (getD s 4 0) 1 _ (λ a. good-upTo InRange (getD s 5 0) 15 _ (λ b. good-upTo InRange (getD s 6 0) 1 _ (λ c. (omega arith, omega arith, omega arith))))))
     (good-sized InRange s 8 _ tt)
     (good-sized InRange s 8 _
@@ -97,7 +97,7 @@ in-width s bs =
     (good-sized InWidth s 8 _ (good-placed InWidth (le32Of s 4) (λ r. ReadVia (waitOf s) r) (λ k. ReadIwm (waitOf s) k) (λ r h. w) (λ k h. w)))
     (good-sized InWidth s 9 _ (good-placed InWidth (le32Of s 4) (λ r. WriteVia (waitOf s) r (getD s 8 0)) (λ k. WriteIwm (waitOf s) k (getD s 8 0)) (λ r h. (w, bs 8)) (λ k h. (w, bs 8))))
     (λ k. good-sized InWidth s 4 _ (plain-width k (waitOf s) w))
-    (good-sized InWidth s 6 _ (good-upTo InWidth (getD s 4 0) 4 _ (λ a. good-upTo InWidth (getD s 5 0) 1 _ (λ b. w))))
+    (good-sized InWidth s 6 _ (good-upTo InWidth (getD s 4 0) 6 _ (λ a. good-upTo InWidth (getD s 5 0) 1 _ (λ b. w))))
     (good-sized InWidth s 7 _ (good-upTo InWidth (getD s 4 0) 1 _ (λ a. good-upTo InWidth (getD s 5 0) 15 _ (λ b. good-upTo InWidth (getD s 6 0) 1 _ (λ c. w)))))
     (good-sized InWidth s 8 _ (w, le32-width s 4 bs))
     (good-sized InWidth s 8 _

@@ -29,8 +29,8 @@ pub record Samples : Type 0 where
   -- $EFE1FF, and $01EFE1FE
   pub odd : decodedOf (82 ∷ 68 ∷ 0 ∷ 0 ∷ 255 ∷ 225 ∷ 239 ∷ 0 ∷ []) ≡ Refused 4
   pub high : decodedOf (82 ∷ 68 ∷ 0 ∷ 0 ∷ 254 ∷ 225 ∷ 239 ∷ 1 ∷ []) ≡ Refused 4
-  -- IN line 5
-  pub five : decodedOf (73 ∷ 78 ∷ 0 ∷ 0 ∷ 5 ∷ 1 ∷ []) ≡ Refused 5
+  -- IN line 7
+  pub seven : decodedOf (73 ∷ 78 ∷ 0 ∷ 0 ∷ 7 ∷ 1 ∷ []) ≡ Refused 5
   -- SN drive 2
   pub drive : decodedOf (83 ∷ 78 ∷ 0 ∷ 0 ∷ 2 ∷ 0 ∷ 0 ∷ []) ≡ Refused 5
   -- DI: a removal whose last value is 2, and the same with a byte too many
@@ -57,7 +57,7 @@ samples =
       stub = refl;
       odd = refl;
       high = refl;
-      five = refl;
+      seven = refl;
       drive = refl;
       sides = refl;
       sidesLong = refl;

@@ -67,9 +67,9 @@ unfoldable pub writeOf : List ℕ → Decoded
 writeOf s =
     sized s 9 (placed (foundOf (le32Of s 4)) (λ r. WriteVia (waitOf s) r (getD s 8 0)) (λ k. WriteIwm (waitOf s) k (getD s 8 0)))
 
--- IN, 6: "line 0 to 4, level 0 or 1".
+-- IN, 6: "line 0 to 4, level 0 or 1"; W-205: "IN gains line 5 (serial chip asks) and line 6 (programmer's switch)".
 unfoldable pub lineOf : List ℕ → Decoded
-lineOf s = sized s 6 (upTo (getD s 4 0) 4 (upTo (getD s 5 0) 1 (Done (Line (waitOf s) (getD s 4 0) (getD s 5 0)))))
+lineOf s = sized s 6 (upTo (getD s 4 0) 6 (upTo (getD s 5 0) 1 (Done (Line (waitOf s) (getD s 4 0) (getD s 5 0)))))
 
 -- SN, 7: "drive 0 internal or 1 external, register 0 to 15, level".
 unfoldable pub senseOf : List ℕ → Decoded
@@ -120,7 +120,7 @@ InRange (WriteVia w r v) = r < 16
 InRange (WriteIwm w k v) = k < 16
 InRange (Item.Blank w) = Unit {0}
 InRange (Item.Second w) = Unit {0}
-InRange (Line w l v) = (l < 5) × (v < 2)
+InRange (Line w l v) = (l < 7) × (v < 2)
 InRange (Sense w d r v) = (d < 2) × (r < 16) × (v < 2)
 InRange (Item.Reset w) = Unit {0}
 InRange (Power w t) = Unit {0}

@@ -212,7 +212,7 @@ fn line_item(s: &[u8]) -> Decoded
     }
     let line = s[4];
     let level = s[5];
-    if 4 < line {
+    if 6 < line {
         return Decoded::Refused(5);
     }
     if 1 < level {

@@ -1,10 +1,12 @@
 -- What an accepted state gives, and what an item's action leaves of the clock.
-use Prim.Native.Nat.{ℕ}
+use Prim.Native.Nat.{ℕ, _<_}
+use native.Mathlib.Omega.{arith}
 use mathlib.Core.Path.{_≡_, refl, sym, ap, ap₂, _∙_}
-use mathlib.Core.Bool.{Bool, true, false, _&&_}
+use mathlib.Core.Bool.{Bool, true, false, cond, _&&_}
 use Rattle.levels.specs.Levels.{allLevels}
 use Rattle.levels.proofs.Laws.{both, joined}
-use Rattle.via.specs.Via.{acceptedVia}
+use Rattle.via.specs.declared.Via.{Via}
+use Rattle.via.specs.Via.{acceptedVia, asking, levelOf}
 use Rattle.clock.specs.declared.Phase.{Phase}
 use Rattle.clock.specs.declared.Wires.{Wires}
 use Rattle.clock.specs.declared.Clock.{Clock}
@@ -80,3 +82,12 @@ met m m₁ i d w p q e a =
     (ap (λ (x : Did). x .machine .clock .phase) p ∙ acted-phase m₁ i ∙ ap (λ (c : Clock). c .phase) q)
     (ap (λ (x : Wires). x .enable) e)
     ∙ parts m a .phase
+
+-- The VIA's own level is 0 or 1.
+pub via-level : (v : Via) → levelOf v < 2
+unfolding levelOf
+via-level v = go (asking v)
+  where
+    go : (t : Bool) → cond t 1 0 < 2
+    go true = omega arith
+    go false = omega arith

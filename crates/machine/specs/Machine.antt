@@ -2,7 +2,7 @@
 use Prim.Native.Nat.{ℕ}
 use mathlib.Core.Path.{_≡_}
 use mathlib.Core.Bool.{Bool, true, _&&_}
-use mathlib.Core.List.{List}
+use mathlib.Core.List.{List, [], _∷_}
 use lib.ListN.{replicate}
 use Rattle.levels.specs.Levels.{allLevels}
 use Rattle.via.specs.declared.Via.{Via}
@@ -49,7 +49,7 @@ freshMachine =
       via = freshVia;
       clock = freshClock cellCount;
       disk = linesOff;
-      inputs = replicate 5 1;
+      inputs = 1 ∷ 1 ∷ 1 ∷ 1 ∷ 1 ∷ 0 ∷ 0 ∷ [];
       sense = replicate 32 1;
       drives = freshDrives;
     }

@@ -19,7 +19,7 @@ use Rattle.items.specs.declared.Item.the-variants.{ReadVia, ReadIwm, WriteVia, 
 use Rattle.machine.specs.declared.Machine.{Machine}
 use Rattle.machine.specs.declared.Did.{Did}
 use Rattle.machine.specs.Machine.{withVia, withClock, withDisk, withInputs, withSense, withDrives, cellCount, wires, watched}
-use Rattle.wiring.specs.Wiring.{inputsOf, selOf}
+use Rattle.wiring.specs.Wiring.{inputsOf, selOf, interruptLevel}
 
 -- "Every item's body begins with a wait in VIA ticks."
 unfoldable pub waitOf : Item → ℕ
@@ -126,7 +126,7 @@ answerOf d =
     record {
       ok = true;
       value = d .value;
-      level = levelOf (d .machine .via);
+      level = interruptLevel (levelOf (d .machine .via)) (getD (d .machine .inputs) 5 0) (getD (d .machine .inputs) 6 0);
       lines = lineByteOf (d .machine .disk);
       sel = selOf (d .machine .via .ports);
     }

@@ -20,8 +20,8 @@ pub struct Machine {
     pub via: Via,
     pub clock: Clock,
     pub disk: DiskLines,
-    // IN lines 0 to 4: mouse switch, X2, Y2, H4, port A's bit 7.
-    pub inputs: [u8; 5],
+    // IN lines 0 to 6: mouse switch, X2, Y2, H4, port A's bit 7, the serial chip asking, the programmer's switch.
+    pub inputs: [u8; 7],
     // Sense registers 0 to 15 of the internal drive, then of the external one.
     pub sense: [u8; 32],
     // The two drives behind the disk lines, and their strobe.
@@ -41,7 +41,7 @@ pub fn fresh() -> Machine
         via: via::fresh(),
         clock: clock::fresh(),
         disk: iwm::off(),
-        inputs: [1; 5],
+        inputs: [1, 1, 1, 1, 1, 0, 0],
         sense: [1; 32],
         drives: Drives::fresh(),
     }
@@ -349,14 +349,15 @@ impl Machine {
 
 // The answer to an item that was carried out.
 pub fn answer(d: Did) -> Answer
-    requires { ⌜ allLevels (d .machine .disk .lines) ≡ true ⌝ }
+    requires { ⌜ Levels (d .machine) ⌝ }
     ensures { λ r. ⌜ r ≡ answerOf d ⌝ }
 {
     let m = d.machine;
+    let inputs = m.inputs;
     Answer {
         ok: true,
         value: d.value,
-        level: m.via.level(),
+        level: wiring::interrupt_level(m.via.level(), inputs[5], inputs[6]),
         lines: m.disk.byte(),
         sel: wiring::sel_of(m.via.ports),
     }

@@ -38,6 +38,10 @@ inputsOf line lines =
       a = 127 + 128 * getD lines 4 0;
     }
 
+-- W-205: "The level becomes 4 for the switch, plus 2 for the serial chip, plus 1 for the VIA only while the serial chip isn't asking."
+unfoldable pub interruptLevel : ℕ → ℕ → ℕ → ℕ
+interruptLevel via serial switch = 4 * switch + 2 * serial + cond (eqb serial 0) via 0
+
 -- "LSTRB", "ENABLE", "CA0 to CA2, SEL and SELECT": the levels that a drive's strobe goes by. Q6 and Q7 are not watched.
 unfoldable pub watchedOf : DiskLines → ℕ → Watched
 watchedOf d sel =

@@ -4,7 +4,7 @@ ghost use mathlib.Core.Bool.{true};
 ghost use Prim.Native.Nat.{_+_, _*_, _<_};
 ghost use Rattle.levels.specs.Levels.{allLevels};
 ghost use Rattle.clock.specs.Wire.{bit};
-ghost use Rattle.wiring.specs.Wiring.{pin, wiresOf, selOf, inputsOf, watchedOf};
+ghost use Rattle.wiring.specs.Wiring.{pin, wiresOf, selOf, inputsOf, interruptLevel, watchedOf};
 use clock::Wires;
 use iwm::DiskLines;
 use strobe::Watched;
@@ -72,7 +72,7 @@ fn inputs_a(line: u8) -> u8
 }
 
 // What the outside gives the ports; `line` is the level that the chip gives its data line.
-pub fn inputs_of(line: bool, lines: [u8; 5]) -> Inputs
+pub fn inputs_of(line: bool, lines: [u8; 7]) -> Inputs
     requires { ⌜ allLevels lines ≡ true ⌝ }
     ensures { λ r. ⌜ r ≡ inputsOf line lines ⌝ }
 {
@@ -97,4 +97,15 @@ pub fn watched_of(d: DiskLines, sel: u8) -> Watched
         sel: sel == 1,
         select: l[5] == 1,
     }
+}
+
+// The interrupt level: the VIA's own level counts only while the serial chip isn't asking.
+pub fn interrupt_level(via: u8, serial: u8, switch: u8) -> u8
+    requires { ⌜ (via < 2) × (serial < 2) × (switch < 2) ⌝ }
+    ensures { λ r. ⌜ r ≡ interruptLevel via serial switch ⌝ }
+{
+    if serial == 0 {
+        return 4 * switch + 2 * serial + via;
+    }
+    4 * switch + 2 * serial
 }
