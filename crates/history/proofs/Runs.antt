@@ -15,8 +15,11 @@ use Rattle.clock.specs.Step.{withStore, counted, stepWires, stepClock, shown, a
 use Rattle.clock.proofs.Line.{settled-step}
 use Rattle.clock.specs.declared.Wires.{Wires}
 use Rattle.clock.specs.declared.Clock.{Clock}
+use Rattle.drive.specs.Drive.{acceptedDrive}
+use Rattle.strobe.specs.Strobe.{acceptedStrobe}
+use Rattle.drives.specs.Drives.{acceptedDrives}
 use Rattle.items.specs.declared.Item.{Item}
-use Rattle.items.specs.declared.Item.the-variants.{ReadVia, ReadIwm, WriteVia, WriteIwm, Blank, Second, Line, Sense, Reset, Power}
+use Rattle.items.specs.declared.Item.the-variants.{ReadVia, ReadIwm, WriteVia, WriteIwm, Blank, Second, Line, Sense, Reset, Power, Disk}
 use Rattle.items.specs.declared.Decoded.{Decoded}
 use Rattle.items.specs.declared.Decoded.the-variants.{Done, Refused}
 use Rattle.items.specs.Items.{decodedOf}
@@ -49,6 +52,7 @@ acted-clock m (Line w l v) = refl
 acted-clock m (Sense w d r v) = refl
 acted-clock m (Reset w) = refl
 acted-clock m (Power w s) = refl
+acted-clock m (Disk w d i l b) = refl
 
 -- The step by the wires with the data line as it was shown before is the step by the wires as they are after.
 settled-wires : (p : Ports) (c : Clock) (w : Wires)
@@ -144,7 +148,7 @@ unfolding freshVia wiresOf shown
 start-fresh = refl
 
 pub fresh-ok : acceptedOf freshMachine ≡ true
-unfolding acceptedOf freshVia linesOff acceptedVia allLevels acceptedPhase wiresOf shown
+unfolding acceptedOf freshVia linesOff acceptedVia allLevels acceptedPhase wiresOf shown acceptedDrive acceptedStrobe acceptedDrives
 fresh-ok = refl
 
 pub run3-fresh : (list : List ℕ) (room : ℕ) → Run3 freshMachine list room (runOf freshMachine list room .machine)
