@@ -2,3 +2,4 @@ pub mod Keeps
 pub mod Loop
 pub mod Joined
 pub mod Users
+pub mod Answers

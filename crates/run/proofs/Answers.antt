@@ -1,0 +1,105 @@
+-- The answers of a run, one after the other; and W-205: "Levels 3 and 7 never appear", in any answer of any run.
+use Prim.Native.Nat.{ℕ, _-_}
+use mathlib.Core.Path.{_≡_, refl, sym, ap, _∙_}
+use mathlib.Core.Bool.{Bool, true, false, cond}
+use mathlib.Core.List.{List, [], _∷_, _++_, append-nil}
+use native.Mathlib.Omega.{arith}
+use lib.ListN.{getD}
+use lib.Dec.{ltb, eqb}
+use Rattle.record.specs.declared.Answer.{Answer}
+use Rattle.record.specs.Record.{answerBytes, noOf}
+use Rattle.levels.proofs.Laws.{level-at}
+use Rattle.via.specs.Via.{levelOf}
+use Rattle.wiring.proofs.Interrupts.{never}
+use Rattle.items.specs.declared.Item.{Item}
+use Rattle.items.specs.declared.Decoded.{Decoded}
+use Rattle.items.specs.declared.Decoded.the-variants.{Done, Refused}
+use Rattle.items.specs.Items.{InRange, decodedOf}
+use Rattle.items.proofs.Range.{decoded-range}
+use Rattle.machine.specs.declared.Machine.{Machine}
+use Rattle.machine.specs.Machine.{acceptedOf}
+use Rattle.machine.specs.Step.{stepOf, refusesOf, answerOf}
+use Rattle.machine.proofs.Laws.{parts, via-level}
+use Rattle.machine.proofs.Keeps.{step-keeps}
+use Rattle.run.specs.Run.{Piece, whole, broken, pieces, refused, carriedOut, turnBy, turnOf, Out, halt, onto, onPiece, runPieces, runOf}
+use Rattle.run.proofs.Keeps.{turn-keeps}
+
+-- The answers that a run over some pieces gives.
+unfoldable pub answersOf : Machine → List Piece → ℕ → List Answer
+answersOf m [] room = []
+answersOf m (broken ∷ ps) room = cond (ltb room 8) [] (noOf 1 ∷ [])
+answersOf m (whole s ∷ ps) room = cond (ltb room 8) [] (turnOf m s .answer ∷ answersOf (turnOf m s .machine) ps (room - 8))
+
+-- Their bytes, one answer after the other.
+unfoldable pub bytesOf : List Answer → List ℕ
+bytesOf [] = []
+bytesOf (a ∷ rest) = answerBytes a ++ bytesOf rest
+
+pub answers-are : (ps : List Piece) (m : Machine) (room : ℕ) → runPieces m ps room .answers ≡ bytesOf (answersOf m ps room)
+unfolding runPieces onPiece onto answersOf bytesOf
+answers-are [] m room = refl
+answers-are (broken ∷ ps) m room = go (ltb room 8)
+  where
+    go : (t : Bool) → (cond t (halt m 6) (onPiece m broken (λ m₁. runPieces m₁ ps (room - 8)))) .answers ≡ bytesOf (cond t [] (noOf 1 ∷ []))
+    go true = refl
+    go false = sym (append-nil (answerBytes (noOf 1)))
+answers-are (whole s ∷ ps) m room = go (answers-are ps (turnOf m s .machine) (room - 8)) (ltb room 8)
+  where
+    go : runPieces (turnOf m s .machine) ps (room - 8) .answers ≡ bytesOf (answersOf (turnOf m s .machine) ps (room - 8))
+        → (t : Bool)
+        → (cond t (halt m 6) (onPiece m (whole s) (λ m₁. runPieces m₁ ps (room - 8)))) .answers
+        ≡ bytesOf (cond t [] (turnOf m s .answer ∷ answersOf (turnOf m s .machine) ps (room - 8)))
+    go r true = refl
+    go r false = ap (λ (b : List ℕ). answerBytes (turnOf m s .answer) ++ b) r
+
+-- What holds of every answer of a list.
+abbrev pub Each : (Answer → Type 0) → List Answer → Type 0
+Each P [] = Unit {0}
+Each P (a ∷ rest) = P a × Each P rest
+
+-- What holds of each record's answer, met in an accepted state, and of NO 1, holds of every answer of a run.
+pub each-answer : (P : Answer → Type 0) → ((m : Machine) (s : List ℕ) → acceptedOf m ≡ true → P (turnOf m s .answer)) → P (noOf 1)
+    → (ps : List Piece) (m : Machine) (room : ℕ) → acceptedOf m ≡ true → Each P (answersOf m ps room)
+unfolding answersOf
+each-answer P f n [] m room h = tt
+each-answer P f n (broken ∷ ps) m room h = go (ltb room 8)
+  where
+    go : (t : Bool) → Each P (cond t [] (noOf 1 ∷ []))
+    go true = tt
+    go false = (n, tt)
+each-answer P f n (whole s ∷ ps) m room h = go (each-answer P f n ps (turnOf m s .machine) (room - 8) (turn-keeps m s h)) (ltb room 8)
+  where
+    go : Each P (answersOf (turnOf m s .machine) ps (room - 8))
+        → (t : Bool) → Each P (cond t [] (turnOf m s .answer ∷ answersOf (turnOf m s .machine) ps (room - 8)))
+    go r true = tt
+    go r false = (f m s h, r)
+
+-- Neither level 3 nor level 7.
+abbrev pub Ordinary : Answer → Type 0
+Ordinary a = (a .level ≡ 3 → ⊥) × (a .level ≡ 7 → ⊥)
+
+no-ordinary : (n : ℕ) → Ordinary (noOf n)
+unfolding noOf
+no-ordinary n = (λ (e : _≡_ {A = ℕ} 0 3). omega arith, λ (e : _≡_ {A = ℕ} 0 7). omega arith)
+
+done-ordinary : (m : Machine) (x : Item) → InRange x → acceptedOf m ≡ true → Ordinary (answerOf (stepOf m x))
+unfolding answerOf
+done-ordinary m x r h =
+    let n = stepOf m x .machine in
+    let l = parts n (step-keeps m x r h) .levels .1 in
+    never (levelOf (n .via)) (getD (n .inputs) 5 0) (getD (n .inputs) 6 0) (via-level (n .via)) (level-at (n .inputs) 5 l) (level-at (n .inputs) 6 l)
+
+turn-ordinary : (m : Machine) (s : List ℕ) → acceptedOf m ≡ true → Ordinary (turnOf m s .answer)
+unfolding turnOf
+turn-ordinary m s h = go (decodedOf s) refl
+  where
+    go : (d : Decoded) → decodedOf s ≡ d → Ordinary (turnBy m d .answer)
+    go (Refused n) p = no-ordinary n
+    go (Done x) p = judge (eqb (refusesOf m x) 0)
+      where
+        judge : (t : Bool) → Ordinary ((cond t (carriedOut (stepOf m x)) (refused m (refusesOf m x))) .answer)
+        judge true = done-ordinary m x (decoded-range s x p) h
+        judge false = no-ordinary (refusesOf m x)
+
+pub levels-3-and-7-never : (m : Machine) (list : List ℕ) (room : ℕ) → acceptedOf m ≡ true → Each Ordinary (answersOf m (pieces list) room)
+levels-3-and-7-never m list room h = each-answer Ordinary turn-ordinary (no-ordinary 1) (pieces list) m room h
