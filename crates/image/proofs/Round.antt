@@ -100,24 +100,14 @@ partsOf m = viaBytes (m .via) ∷ clockBytes (m .clock) ∷ m .disk .lines ∷ m
 abbrev partSizes : List ℕ
 partSizes = 19 ∷ 30 ∷ 8 ∷ 5 ∷ 32 ∷ []
 
--- what the image rests on of the arrays
-pub record Arrays (m : Machine) : Type 0 where
-  pub cells : length (m .clock .store .cells) ≡ cellCount
-  pub lines : length (m .disk .lines) ≡ 8
-  pub inputs : length (m .inputs) ≡ 5
-  pub sense : length (m .sense) ≡ 32
-
-arrays : (m : Machine) → Typed m → Arrays m
-arrays m t = record { cells = t .cells; lines = t .lines; inputs = t .inputs; sense = t .sense }
-
-sized : (m : Machine) → Arrays m → sizes (partsOf m) ≡ partSizes
+sized : (m : Machine) → Typed m → sizes (partsOf m) ≡ partSizes
 sized m t = simp (via-long (m .via), clock-long (m .clock) (t .cells), t .lines, t .inputs, t .sense)
 
 parts : (m : Machine) → Typed m → cut viaAt partSizes (imageOf m) ≡ partsOf m
 unfolding imageOf headBytes
-parts m t = parted viaAt headBytes partSizes (partsOf m) refl (sized m (arrays m t))
+parts m t = parted viaAt headBytes partSizes (partsOf m) refl (sized m t)
 
-image-long : (m : Machine) → Arrays m → length (imageOf m) ≡ imageLength
+image-long : (m : Machine) → Typed m → length (imageOf m) ≡ imageLength
 unfolding imageOf headBytes
 image-long m t = joined-long headBytes (partsOf m) ∙ ap (λ (ns : List ℕ). length headBytes + total ns) (sized m t)
 
@@ -132,7 +122,7 @@ clock-saved d p r c n e ep er =
     (simp e)
     (omega arith)
 
-pub image-saved : (d d₁ d₂ d₃ p r : List ℕ) (m : Machine) → length d ≡ imageLength → Arrays m → p ≡ phaseBytes (m .clock .phase) → r ≡ registerBytes (m .clock .store)
+pub image-saved : (d d₁ d₂ d₃ p r : List ℕ) (m : Machine) → length d ≡ imageLength → Typed m → p ≡ phaseBytes (m .clock .phase) → r ≡ registerBytes (m .clock .store)
     → d₁ ≡ putAt (putAt d 0 headBytes) viaAt (viaBytes (m .via))
     → d₂ ≡ putAt (putAt (putAt d₁ clockAt p) (clockAt + 4) r) (clockAt + 10) (m .clock .store .cells)
     → d₃ ≡ putAt (putAt (putAt d₂ linesAt (m .disk .lines)) inputsAt (m .inputs)) sensesAt (m .sense) → d₃ ≡ imageOf m
@@ -186,7 +176,7 @@ same-eq (x ∷ xs) (y ∷ ys) h =
 -- An accepted state's image is valid.
 pub saved-valid : (m : Machine) → Typed m → acceptedOf m ≡ true → validImage (imageOf m) ≡ true
 unfolding validImage
-saved-valid m t ok = simp (eq-eqb _ _ (image-long m (arrays m t)), restore-saved m t, same-refl (imageOf m), ok)
+saved-valid m t ok = simp (eq-eqb _ _ (image-long m t), restore-saved m t, same-refl (imageOf m), ok)
 
 -- What a valid image is: as long as the layout, the image of the state that it stands for, and that state accepted.
 pub record Valid (s : List ℕ) : Type 0 where

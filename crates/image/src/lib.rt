@@ -1,9 +1,11 @@
 // A state's image: one record of kind ST, written from a state, read back, and judged.
 ghost use mathlib.Core.Path.{_≡_};
+ghost use mathlib.Core.Bool.{true};
 ghost use Prim.Native.Nat.{_+_, _≤_, _%_};
 ghost use lib.ListN.{length};
 ghost use Rattle.clock.specs.Wire.{bit};
 ghost use Rattle.record.specs.Record.{putAt};
+ghost use Rattle.machine.specs.Machine.{acceptedOf};
 ghost use Rattle.image.specs.Image.{headBytes, viaBytes, phaseBytes, registerBytes, clockBytes, imageOf};
 ghost use Rattle.image.specs.Image.{portsOf, timer1Of, timer2Of, viaOf, phaseBy, storeOf, clockOf, machineOf};
 ghost use Rattle.image.specs.Image.{viaAt, clockAt, linesAt, inputsAt, sensesAt, imageLength, sameBytes, validImage};
@@ -143,10 +145,11 @@ fn save_levels(image: &mut [u8], lines: [u8; 8], inputs: [u8; 5], sense: [u8; 32
     record::copy(image, SENSES, &sense);
 }
 
-// Writes a state's image.
+// Writes a state's image; that of an accepted state is valid.
 pub fn save(image: &mut [u8], m: Machine)
     requires { ⌜ length (now image) ≡ imageLength ⌝ }
     ensures { λ _. ⌜ now (image .exit) ≡ imageOf m ⌝ }
+    ensures { λ _. ⌜ (acceptedOf m ≡ true → validImage (now (image .exit)) ≡ true) ⌝ }
 {
     let c = m.clock;
     let p = c.phase;

@@ -8,8 +8,10 @@ use lib.ListN.{length}
 use lib.Dec.{ltb}
 use Rattle.record.specs.Record.{Bytes}
 use Rattle.machine.specs.declared.Machine.{Machine}
+use Rattle.machine.specs.Machine.{acceptedOf}
 use Rattle.run.specs.declared.Ran.{Ran}
 use Rattle.run.specs.Run.{Piece, whole, broken, pieces, Out, halt, onto, onPiece, runPieces, runOf, turnOf, ranOf, over}
+use Rattle.run.proofs.Joined.{run-accepted}
 use Rattle.image.specs.Image.{imageOf, machineOf, validImage}
 use Rattle.image.proofs.Round.{valid-is, image-typed}
 use Rattle.history.specs.Runs.{Run3}
@@ -24,21 +26,24 @@ module _ (i l d : List ℕ) where
       × ((c ≡ callOf i l (length d) .consumed)
       × ((w ≡ length (callOf i l (length d) .answers))
       × ((i′ ≡ callImage i l (length d))
-      × (d′ ≡ callAnswers i l d))))
+      × ((d′ ≡ callAnswers i l d)
+      × (validImage i′ ≡ validImage i)))))
 
   -- "An image that no accepted state has gets refusal 7 and all three buffers keep their bytes", both counts 0.
   pub refused : validImage i ≡ false → Post 7 0 0 i d
   unfolding callOf callImage callAnswers
-  refused e = simp e (refl, (refl, (refl, (refl, refl))))
+  refused e = simp e (refl, (refl, (refl, (refl, (refl, refl)))))
 
   -- Every other call is the run from the image's state, and leaves the image of the state reached.
   pub ran : validImage i ≡ true → (m : Machine) → m ≡ machineOf i → (r : Ran) → r ≡ ranOf (runOf m l (length d)) → (d′ : List ℕ) → d′ ≡ over (runOf m l (length d)) d
-      → (i′ : List ℕ) → i′ ≡ imageOf (r .machine) → Post (r .stop) (r .consumed) (r .written) i′ d′
+      → (i′ : List ℕ) → i′ ≡ imageOf (r .machine) → (acceptedOf (r .machine) ≡ true → validImage i′ ≡ true) → Post (r .stop) (r .consumed) (r .written) i′ d′
   unfolding callOf callImage callAnswers
-  ran e m em r er d′ ed i′ ei =
+  ran e m em r er d′ ed i′ ei ev =
+      let a : acceptedOf (runOf m l (length d) .machine) ≡ true = run-accepted m l (length d) (ap acceptedOf em ∙ valid-is i e .accepted) in
+      let v : validImage i′ ≡ true = ev (ap (λ (x : Ran). acceptedOf (x .machine)) er ∙ a) in
       simp (e, ← em) (
         ap (λ (x : Ran). x .stop) er,
-        (ap (λ (x : Ran). x .consumed) er, (ap (λ (x : Ran). x .written) er, (ei ∙ ap (λ (x : Ran). imageOf (x .machine)) er, ed))),
+        (ap (λ (x : Ran). x .consumed) er, (ap (λ (x : Ran). x .written) er, (ei ∙ ap (λ (x : Ran). imageOf (x .machine)) er, (ed, v)))),
       )
 
 -- ---- the entry and the run

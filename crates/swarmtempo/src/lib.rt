@@ -1,7 +1,7 @@
 // The run for C and Rust shells: numbers and byte slices, the state as a lent image.
 ghost use mathlib.Core.Path.{_≡_};
 ghost use lib.ListN.{length};
-ghost use Rattle.image.specs.Image.{imageLength};
+ghost use Rattle.image.specs.Image.{imageLength, validImage};
 ghost use Rattle.swarmtempo.specs.Call.{callOf, callImage, callAnswers, freshStop, freshImage};
 
 // The length of an image in bytes.
@@ -42,6 +42,7 @@ pub extern "C" fn swarmtempo_run(
     ensures { λ _. ⌜ now (written .exit) ≡ length (callOf (now (image .entry)) (now (list .entry)) (length (now (answers .entry))) .answers) ⌝ }
     ensures { λ _. ⌜ now (image .exit) ≡ callImage (now (image .entry)) (now (list .entry)) (length (now (answers .entry))) ⌝ }
     ensures { λ _. ⌜ now (answers .exit) ≡ callAnswers (now (image .entry)) (now (list .entry)) (now (answers .entry)) ⌝ }
+    ensures { λ _. ⌜ validImage (now (image .exit)) ≡ validImage (now (image .entry)) ⌝ }
 {
     *consumed = 0;
     *written = 0;

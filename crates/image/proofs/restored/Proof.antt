@@ -38,7 +38,7 @@ same-length c = search needs
 returns : tie.Need-returns
 returns c =
     let m = c .before .before .before .before .before .before .before .args .m in
-    (c .load .ensures ∙ ap machineOf (c .before .before .before .before .save .ensures) ∙ restore-saved m (typed (c .before .before .before .before .before .before .before)), c .before .before .before .before .save .ensures)
+    (c .load .ensures ∙ ap machineOf (c .before .before .before .before .save .ensures .0) ∙ restore-saved m (typed (c .before .before .before .before .before .before .before)), c .before .before .before .before .save .ensures .0)
 
 pub restored-spec : {M : Type 1} → statement M
 restored-spec = tie.close (tie.spec save-requires load-requires same-length returns)

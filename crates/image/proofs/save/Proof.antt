@@ -1,4 +1,6 @@
-use Rattle.image.proofs.Round.{Arrays, image-saved}
+use mathlib.Core.Path.{_≡_, ap, _∙_}
+use Rattle.image.specs.Image.{imageOf, validImage, Typed}
+use Rattle.image.proofs.Round.{image-saved, saved-valid}
 use denote.Ref.{now}
 use borrow.Author.Needs.{needs}
 use Rattle.image.proofs.save.Statement.{statement}
@@ -11,9 +13,18 @@ use Rattle.image.proofs.save_clock.Reads as save-clock-reads
 use Rattle.image.proofs.save_levels.Reads as save-levels-reads
 use Rattle.image.proofs.save_via.Reads as save-via-reads
 
--- what the type of the machine handed in says of its arrays
-arrays : (c : tie.Start) → Arrays (c .args .m)
-arrays c = record { cells = search needs; lines = search needs; inputs = search needs; sense = search needs }
+-- what the type of the machine handed in says of it
+typed : (c : tie.Start) → Typed (c .args .m)
+typed c =
+    record {
+      counter1 = search needs;
+      counter2 = search needs;
+      seconds = search needs;
+      cells = search needs;
+      lines = search needs;
+      inputs = search needs;
+      sense = search needs;
+    }
 
 -- src/lib.rt:159:9
 phase-bytes-requires : tie.Need-phase-bytes-requires
@@ -42,12 +53,14 @@ same-length c = search needs
 -- src/lib.rt:148:1
 returns : tie.Need-returns
 returns c =
-    let a = c .before .before .before .before .before .before .before .before .before .before .before .before .before .before .before .before .before .before .before .before .before .args in
+    let start = c .before .before .before .before .before .before .before .before .before .before .before .before .before .before .before .before .before .before .before .before .before in
+    let a = start .args in
+    let e : c .before .before .save-levels .last .0 ≡ imageOf (a .m) =
     image-saved (now (a .image)) (c .before .before .before .before .before .before .before .before .before .before .save-via .last .0) (c .before .before .before .before .before .before .save-clock .last .0) (c .before .before .save-levels .last .0)
-    (c .before .before .before .before .before .before .before .before .before .before .before .before .before .phase-bytes .result) (c .before .before .before .before .before .before .before .before .before .before .before .before .register-bytes .result) (a .m) (c .before .before .before .before .before .before .before .before .before .before .before .before .before .before .before .before .before .before .before .before .before .pre)
-    (arrays (c .before .before .before .before .before .before .before .before .before .before .before .before .before .before .before .before .before .before .before .before .before))
+    (c .before .before .before .before .before .before .before .before .before .before .before .before .before .phase-bytes .result) (c .before .before .before .before .before .before .before .before .before .before .before .before .register-bytes .result) (a .m) (start .pre) (typed start)
     (c .before .before .before .before .before .before .before .before .before .before .before .before .before .phase-bytes .ensures) (c .before .before .before .before .before .before .before .before .before .before .before .before .register-bytes .ensures)
-    (c .before .before .before .before .before .before .before .before .before .before .save-via .ensures) (c .before .before .before .before .before .before .save-clock .ensures) (c .before .before .save-levels .ensures)
+    (c .before .before .before .before .before .before .before .before .before .before .save-via .ensures) (c .before .before .before .before .before .before .save-clock .ensures) (c .before .before .save-levels .ensures) in
+    (e, λ ok. ap validImage e ∙ saved-valid (a .m) (typed start) ok)
 
 pub save-spec : {M : Type 1} → statement M
 save-spec =
