@@ -2,14 +2,16 @@
 ghost use mathlib.Core.Path.{_≡_};
 ghost use lib.ListN.{length};
 ghost use Rattle.image.specs.Image.{imageLength, validImage};
+ghost use Rattle.units.specs.Units.{ticksOf};
 ghost use Rattle.swarmtempo.specs.Call.{callOf, callImage, callAnswers, freshStop, freshImage};
+use units::Micros;
 
 // The length of an image in bytes.
 #[no_mangle]
 pub extern "C" fn swarmtempo_image_len() -> u64
     ensures { λ r. ⌜ r ≡ imageLength ⌝ }
 {
-    98
+    121
 }
 
 // Writes the fresh machine's image. 0, or 6 where the room is shorter than an image.
@@ -18,10 +20,10 @@ pub extern "C" fn swarmtempo_fresh(image: &mut [u8]) -> u8
     ensures { λ r. ⌜ r ≡ freshStop (now (image .entry)) ⌝ }
     ensures { λ _. ⌜ now (image .exit) ≡ freshImage (now (image .entry)) ⌝ }
 {
-    if image.len() < 98 {
+    if image.len() < 121 {
         return 6;
     }
-    let mut own = [0; 98];
+    let mut own = [0; 121];
     image::save(&mut own, machine::fresh());
     record::copy(image, 0, &own);
     0
@@ -54,4 +56,13 @@ pub extern "C" fn swarmtempo_run(
     *written = r.written as u64;
     image::save(image, r.machine);
     r.stop
+}
+
+// Microseconds in VIA ticks, rounded up.
+#[no_mangle]
+pub extern "C" fn swarmtempo_ticks_of_micros(micros: u32) -> u32
+    ensures { λ r. ⌜ r ≡ ticksOf micros ⌝ }
+{
+    let t = units::ticks_of_micros(Micros(micros));
+    t.0
 }
