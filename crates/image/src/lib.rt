@@ -145,10 +145,11 @@ fn save_levels(image: &mut [u8], lines: [u8; 8], inputs: [u8; 5], sense: [u8; 32
     record::copy(image, SENSES, &sense);
 }
 
-// Writes a state's image; that of an accepted state is valid.
+// Writes a state's image, which gives the state back; that of an accepted state is valid.
 pub fn save(image: &mut [u8], m: Machine)
     requires { ⌜ length (now image) ≡ imageLength ⌝ }
     ensures { λ _. ⌜ now (image .exit) ≡ imageOf m ⌝ }
+    ensures { λ _. ⌜ machineOf (now (image .exit)) ≡ m ⌝ }
     ensures { λ _. ⌜ (acceptedOf m ≡ true → validImage (now (image .exit)) ≡ true) ⌝ }
 {
     let c = m.clock;

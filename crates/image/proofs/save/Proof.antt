@@ -1,6 +1,6 @@
 use mathlib.Core.Path.{_≡_, ap, _∙_}
-use Rattle.image.specs.Image.{imageOf, validImage, Typed}
-use Rattle.image.proofs.Round.{image-saved, saved-valid}
+use Rattle.image.specs.Image.{imageOf, machineOf, validImage, Typed}
+use Rattle.image.proofs.Round.{image-saved, restore-saved, saved-valid}
 use denote.Ref.{now}
 use borrow.Author.Needs.{needs}
 use Rattle.image.proofs.save.Statement.{statement}
@@ -60,7 +60,7 @@ returns c =
     (c .before .before .before .before .before .before .before .before .before .before .before .before .before .phase-bytes .result) (c .before .before .before .before .before .before .before .before .before .before .before .before .register-bytes .result) (a .m) (start .pre) (typed start)
     (c .before .before .before .before .before .before .before .before .before .before .before .before .before .phase-bytes .ensures) (c .before .before .before .before .before .before .before .before .before .before .before .before .register-bytes .ensures)
     (c .before .before .before .before .before .before .before .before .before .before .save-via .ensures) (c .before .before .before .before .before .before .save-clock .ensures) (c .before .before .save-levels .ensures) in
-    (e, λ ok. ap validImage e ∙ saved-valid (a .m) (typed start) ok)
+    (e, (ap machineOf e ∙ restore-saved (a .m) (typed start), λ ok. ap validImage e ∙ saved-valid (a .m) (typed start) ok))
 
 pub save-spec : {M : Type 1} → statement M
 save-spec =

@@ -63,7 +63,7 @@ returns-2 c =
     let a = c .before .before .before .before .before .before .before .before .before .before .before .before .before .before .before .before .args in
     call.ran (now (a .image)) (now (a .list)) (now (a .answers)) (good (c .before .before .before .before .before .before .before .before .before .before)) (c .before .before .before .before .before .before .before .before .load .result) (c .before .before .before .before .before .before .before .before .load .ensures)
     (c .before .before .before .before .before .before .run .result) (c .before .before .before .before .before .before .run .ensures .0) (c .before .before .before .before .before .before .run .last .1 .1 .0) (c .before .before .before .before .before .before .run .ensures .1 .0)
-    (c .before .before .save .last .0) (c .before .before .save .ensures .0) (c .before .before .save .ensures .1)
+    (c .before .before .save .last .0) (c .before .before .save .ensures .0) (c .before .before .save .ensures .1 .1)
 
 pub swarmtempo-run-spec : {M : Type 1} → statement M
 swarmtempo-run-spec =
