@@ -8,7 +8,7 @@ ghost use Rattle.record.specs.Record.{putAt};
 ghost use Rattle.machine.specs.Machine.{acceptedOf};
 ghost use Rattle.image.specs.Image.{headBytes, viaBytes, phaseBytes, registerBytes, clockBytes, drivesBytes, imageOf};
 ghost use Rattle.image.specs.Image.{portsOf, timer1Of, timer2Of, viaOf, phaseBy, storeOf, clockOf, driveOf, strobeOf, drivesOf, machineOf};
-ghost use Rattle.image.specs.Image.{viaAt, clockAt, linesAt, inputsAt, sensesAt, drivesAt, imageLength, sameBytes, validImage, DrivesTyped, Typed};
+ghost use Rattle.image.specs.Image.{viaAt, clockAt, linesAt, inputsAt, sensesAt, drivesAt, imageLength, sameBytes, validImage, DrivesTyped};
 use clock::Clock;
 use clock::Phase;
 use clock::Store;
@@ -195,11 +195,11 @@ fn save_drives(image: &mut [u8], d: Drives)
     record::copy(image, DRIVES, &bytes);
 }
 
-// Writes a state's image; that of an accepted state is valid.
+// Writes a state's image, which gives the state back; that of an accepted state is valid.
 pub fn save(image: &mut [u8], m: Machine)
     requires { ⌜ length (now image) ≡ imageLength ⌝ }
     ensures { λ _. ⌜ now (image .exit) ≡ imageOf m ⌝ }
-    ensures { λ _. ⌜ Typed m ⌝ }
+    ensures { λ _. ⌜ machineOf (now (image .exit)) ≡ m ⌝ }
     ensures { λ _. ⌜ (acceptedOf m ≡ true → validImage (now (image .exit)) ≡ true) ⌝ }
 {
     let c = m.clock;

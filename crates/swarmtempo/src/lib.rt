@@ -1,7 +1,9 @@
 // The run for C and Rust shells: numbers and byte slices, the state as a lent image.
 ghost use mathlib.Core.Path.{_≡_};
 ghost use lib.ListN.{length};
-ghost use Rattle.image.specs.Image.{imageLength, validImage};
+ghost use mathlib.Core.Bool.{true};
+ghost use Rattle.image.specs.Image.{imageLength, machineOf, validImage};
+ghost use Rattle.history.specs.Runs.{Run3};
 ghost use Rattle.units.specs.Units.{ticksOf};
 ghost use Rattle.swarmtempo.specs.Call.{callOf, callImage, callAnswers, freshStop, freshImage};
 use units::Micros;
@@ -30,7 +32,7 @@ pub extern "C" fn swarmtempo_fresh(image: &mut [u8]) -> u8
 }
 
 // Runs the list from the image's state, and leaves the image of the state reached. The stop number: 0, 1 or 6; 7 where no
-// accepted state has this image.
+// accepted state has this image. The last clause is demand 3, from the image's state.
 #[no_mangle]
 pub extern "C" fn swarmtempo_run(
     image: &mut [u8],
@@ -45,6 +47,7 @@ pub extern "C" fn swarmtempo_run(
     ensures { λ _. ⌜ now (image .exit) ≡ callImage (now (image .entry)) (now (list .entry)) (length (now (answers .entry))) ⌝ }
     ensures { λ _. ⌜ now (answers .exit) ≡ callAnswers (now (image .entry)) (now (list .entry)) (now (answers .entry)) ⌝ }
     ensures { λ _. ⌜ validImage (now (image .exit)) ≡ validImage (now (image .entry)) ⌝ }
+    ensures { λ _. ⌜ (validImage (now (image .entry)) ≡ true → Run3 (machineOf (now (image .entry))) (now (list .entry)) (length (now (answers .entry))) (machineOf (now (image .exit)))) ⌝ }
 {
     *consumed = 0;
     *written = 0;

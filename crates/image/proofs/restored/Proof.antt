@@ -1,6 +1,4 @@
-use mathlib.Core.Path.{ap, _∙_}
-use Rattle.image.specs.Image.{machineOf}
-use Rattle.image.proofs.Round.{restore-saved}
+use mathlib.Core.Path.{_∙_}
 use borrow.Author.Needs.{needs}
 use Rattle.image.proofs.restored.Statement.{statement}
 use Rattle.image.proofs.restored.Tie as tie
@@ -9,24 +7,21 @@ use Rattle.image.proofs.restored.Lts as lts
 use Rattle.image.proofs.load.Reads as load-reads
 use Rattle.image.proofs.save.Reads as save-reads
 
--- src/lib.rt:408:5
+-- src/lib.rt:306:5
 save-requires : tie.Need-save-requires
 save-requires c κs = search needs
 
--- src/lib.rt:409:5
+-- src/lib.rt:307:5
 load-requires : tie.Need-load-requires
 load-requires c κs = search needs
 
--- src/lib.rt:403:1
+-- src/lib.rt:301:1
 same-length : tie.Need-same-length
 same-length c = search needs
 
--- src/lib.rt:403:1
+-- src/lib.rt:301:1
 returns : tie.Need-returns
-returns c =
-    let s = c .before .before .before .before .save .ensures in
-    let m = c .before .before .before .before .before .before .before .args .m in
-    (c .load .ensures ∙ ap machineOf (s .0) ∙ restore-saved m (s .1 .0), s .0)
+returns c = (c .load .ensures ∙ c .before .before .before .before .save .ensures .1 .0, c .before .before .before .before .save .ensures .0)
 
 pub restored-spec : {M : Type 1} → statement M
 restored-spec = tie.close (tie.spec save-requires load-requires same-length returns)

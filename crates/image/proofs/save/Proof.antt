@@ -2,8 +2,8 @@ use Prim.Native.Nat.{_<_}
 use mathlib.Core.Path.{_≡_, ap, _∙_}
 use lib.ListN.{length}
 use denote.Ref.{now}
-use Rattle.image.specs.Image.{imageOf, validImage, Typed}
-use Rattle.image.proofs.Round.{image-saved, saved-valid}
+use Rattle.image.specs.Image.{imageOf, machineOf, validImage, Typed}
+use Rattle.image.proofs.Round.{image-saved, restore-saved, saved-valid}
 use borrow.Author.Needs.{needs}
 use Rattle.image.proofs.save.Statement.{statement}
 use Rattle.image.proofs.save.Tie as tie
@@ -77,7 +77,7 @@ returns c =
     image-saved (now (a .image)) (v .save-via .last .0) (k .save-clock .last .0) (l .save-levels .last .0) (d .save-drives .last .0)
     (f .phase-bytes .result) (r .register-bytes .result) (a .m) (start .pre) t (f .phase-bytes .ensures) (r .register-bytes .ensures .0)
     (v .save-via .ensures) (k .save-clock .ensures) (l .save-levels .ensures) (d .save-drives .ensures .0) in
-    (e, (t, λ ok. ap validImage e ∙ saved-valid (a .m) t ok))
+    (e, (ap machineOf e ∙ restore-saved (a .m) t, λ ok. ap validImage e ∙ saved-valid (a .m) t ok))
 
 pub save-spec : {M : Type 1} → statement M
 save-spec =
