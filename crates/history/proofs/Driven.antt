@@ -1,16 +1,15 @@
 -- From the chip to a machine: where every item drives the chip as its entries do, demand 3 holds of every list of items.
 use mathlib.Core.Path.{_≡_, refl, sym, ap, ap₂, subst, _∙_}
-use mathlib.Core.Bool.{Bool, true, false}
 use mathlib.Core.List.{List, [], _∷_, _++_, append-assoc}
-use Prim.Native.Nat.{ℕ, _+_, _<_}
+use Prim.Native.Nat.{ℕ, _+_}
 use lib.ListN.{getD}
 use Rattle.clock.specs.Wire.{wrap}
 use Rattle.clock.specs.Step.{stepClock}
 use Rattle.clock.specs.declared.Wires.{Wires}
 use Rattle.clock.specs.declared.Clock.{Clock}
-use Rattle.history.specs.History.{Start, Entry, History, wiresAt, gained}
+use Rattle.history.specs.History.{Entry, History, wiresAt, gained}
 use Rattle.history.specs.Start.{startOf, Accepted}
-use Rattle.history.specs.Demand3.{clockAfter, Demand3}
+use Rattle.history.specs.Demand3.{clockAfter}
 use Rattle.history.specs.Items.{stateAfter, historyOf, entriesSince, Drives, Machine3}
 use Rattle.history.proofs.Holds.{demand3}
 use Rattle.history.proofs.Keeps.{accepted-after}

@@ -2,7 +2,7 @@
 use mathlib.Core.Path.{_≡_, refl}
 use mathlib.Core.Bool.{Bool, true, false, not}
 use mathlib.Core.List.{List, [], _∷_, _++_}
-use mathlib.Core.Option.{Option, none, some}
+use mathlib.Core.Option.{some}
 use Prim.Native.Nat.{ℕ, zero, suc, _-_, _/_, _%_, _^_}
 use lib.Dec.{eqb}
 use lib.ListN.{getD}
@@ -11,7 +11,7 @@ use Rattle.clock.specs.Step.{freshClock, between, fetch, next, acts, put, act, 
 use Rattle.clock.specs.declared.Phase.the-variants.{Taking}
 use Rattle.clock.specs.declared.Wires.{Wires}
 use Rattle.clock.specs.declared.Clock.{Clock}
-use Rattle.history.specs.History.{Entry, History, gained, wiresAt, rises, ended, protectAt, endedClear, last, cellAt, testAt, secondsAt}
+use Rattle.history.specs.History.{Entry, History, wiresAt, rises, ended, protectAt, endedClear, last, cellAt, testAt, secondsAt}
 use Rattle.history.specs.Start.{startOf, undriven, freshStart}
 use Rattle.history.specs.Demand3.{clockAfter, storeAfter}
 

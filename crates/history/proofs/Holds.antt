@@ -1,14 +1,14 @@
 -- Demand 3, proved over the number of cells and any accepted start; then from the fresh machine.
 use mathlib.Core.Path.{_≡_, refl, sym, ap, ap₂, _∙_}
-use mathlib.Core.Bool.{Bool, true, false, cond}
+use mathlib.Core.Bool.{Bool, true, cond}
 use mathlib.Core.List.{List, [], _∷_, _++_}
-use mathlib.Core.Option.{Option, none, some}
-use Prim.Native.Nat.{ℕ, _+_, _%_, _^_, _<_}
+use mathlib.Core.Option.{Option, none}
+use Prim.Native.Nat.{ℕ, _+_, _^_, _<_}
 use native.Mathlib.Omega.{arith}
 use native.Mathlib.Nat.{mod-eq-of-lt, mod-add-mod, add-zero}
 use lib.ListN.{length, getD, length-replicate, getD-replicate}
 use Rattle.clock.specs.Wire.{Event, quiet, second, off, wrap, elapse, Written}
-use Rattle.clock.specs.Step.{freshClock, between, next, acts, act, counted, stepWires, acceptedPhase}
+use Rattle.clock.specs.Step.{freshClock, between, acts, act, counted, stepWires, acceptedPhase}
 use Rattle.clock.specs.declared.Target.the-variants.{Test, Cell}
 use Rattle.clock.specs.declared.Wires.{Wires}
 use Rattle.clock.specs.declared.Store.{Store}

@@ -6,6 +6,7 @@ pub mod Stores
 pub mod Holds
 pub mod Faithful
 pub mod Keeps
-pub mod Line
 pub mod Driven
+pub mod Runs
 pub mod Examples
+pub mod RunExamples

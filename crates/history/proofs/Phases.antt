@@ -1,20 +1,15 @@
 -- What an accepted phase says, part by part; and that a legal write command is below 128.
-use mathlib.Core.Path.{_≡_, refl, sym, ap, ap₂, _∙_}
-use mathlib.Core.Bool.{Bool, true, false, cond, not, _&&_, false≢true}
+use mathlib.Core.Path.{_≡_, refl, sym, _∙_}
+use mathlib.Core.Bool.{Bool, true, false, not, _&&_, false≢true}
 use Prim.Native.Nat.{ℕ, _+_, _-_, _/_, _%_, _^_, _<_}
 use lib.Dec.{ltb, leb, eqb}
-use borrow.Author.Tests.{ltb-true, lt-ltb, leb-false, not-true}
-use Rattle.clock.specs.Wire.{either, writeOnly, cellOf, named, decode}
+use borrow.Author.Tests.{ltb-true, leb-false, not-true}
+use Rattle.clock.specs.Wire.{named, decode}
 use Rattle.clock.specs.Step.{isWrite, fewBits, acceptedPhase}
 use Rattle.clock.proofs.Range.{cond-case, and-left, and-right, few-count, few-value}
 use Rattle.clock.specs.declared.Command.{Command}
-use Rattle.clock.specs.declared.Command.the-variants.{Write, Read, Illegal}
 use Rattle.clock.specs.declared.Phase.{Phase}
 use Rattle.clock.specs.declared.Phase.the-variants.{Idle, Listening, Taking, Sending, Ignoring}
-
-true-both : (a b : Bool) → a ≡ true → b ≡ true → (a && b) ≡ true
-true-both true b p q = q
-true-both false b p q = absurd (false≢true p)
 
 -- The chip is idle exactly while enable, e, is 1; n bits taken have a value below 2 ^ n.
 abbrev pub Parts : ℕ → Phase → Bool → Type 0
@@ -23,9 +18,6 @@ Parts N (Listening n v) e = (e ≡ false) × (n < 8) × (v < 2 ^ n)
 Parts N (Taking c n v) e = (e ≡ false) × (isWrite (decode N c) ≡ true) × (n < 8) × (v < 2 ^ n)
 Parts N (Sending y n) e = (e ≡ false) × (n < 9)
 Parts N Ignoring e = e ≡ false
-
-is-few : (n v : ℕ) → n < 8 → v < 2 ^ n → fewBits n v ≡ true
-is-few n v l u = true-both (ltb n 8) (ltb v (2 ^ n)) (lt-ltb n 8 l) (lt-ltb v (2 ^ n) u)
 
 pub parts : (N : ℕ) (p : Phase) (e : Bool) → acceptedPhase N p e ≡ true → Parts N p e
 unfolding acceptedPhase
@@ -39,15 +31,6 @@ parts N (Taking c n v) e h =
     (not-true e (and-left (not e) (isWrite (decode N c) && fewBits n v) h), and-left (isWrite (decode N c)) (fewBits n v) r, few-count n v f, few-value n v f)
 parts N (Sending y n) e h = (not-true e (and-left (not e) (ltb n 9) h), ltb-true n 9 (and-right (not e) (ltb n 9) h))
 parts N Ignoring e h = not-true e h
-
-pub accepts : (N : ℕ) (p : Phase) (e : Bool) → Parts N p e → acceptedPhase N p e ≡ true
-unfolding acceptedPhase
-accepts N Idle e h = h
-accepts N (Listening n v) e (q, l, u) = true-both (not e) (fewBits n v) (ap not q) (is-few n v l u)
-accepts N (Taking c n v) e (q, w, l, u) =
-    true-both (not e) (isWrite (decode N c) && fewBits n v) (ap not q) (true-both (isWrite (decode N c)) (fewBits n v) w (is-few n v l u))
-accepts N (Sending y n) e (q, l) = true-both (not e) (ltb n 9) (ap not q) (lt-ltb n 9 l)
-accepts N Ignoring e q = ap not q
 
 -- A command with bit 7 set is no write.
 reads-only : (N : ℕ) (z : Bool) (k : ℕ) → z ≡ true → isWrite (named N z k) ≡ false

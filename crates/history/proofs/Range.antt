@@ -1,6 +1,5 @@
 -- A complete write's byte is below 256, and where it goes to a seconds byte this is one of 0 to 3; so the seconds stay below 2 ^ 32.
-use mathlib.Core.Path.{_≡_}
-use mathlib.Core.Bool.{Bool, true, false, cond}
+use mathlib.Core.Bool.{Bool}
 use mathlib.Core.List.{List, [], _∷_}
 use mathlib.Core.Option.{Option, none, some}
 use Prim.Native.Nat.{ℕ, zero, suc, _+_, _^_, _<_}

@@ -1,9 +1,9 @@
 -- How the chip's phase stands to the bits of the stretch, entry after entry; and that the chip acts where the history has a complete write end.
 use mathlib.Core.Path.{_≡_, refl, sym, ap, subst, _∙_}
 use mathlib.Core.Bool.{Bool, true, false, cond, not, _&&_, false≢true}
-use mathlib.Core.List.{List, [], _∷_, _++_}
+use mathlib.Core.List.{List, [], _∷_}
 use mathlib.Core.Option.{Option, none, some}
-use Prim.Native.Nat.{ℕ, suc, _+_, _*_, _<_}
+use Prim.Native.Nat.{ℕ, _+_, _*_, _<_}
 use native.Mathlib.Omega.{arith}
 use native.Mathlib.Numerals.{add-one}
 use lib.Dec.{eqb}
@@ -11,7 +11,7 @@ use lib.ListN.{length, take, drop, length-append}
 use lib.Seq.{take-at, drop-at}
 use borrow.Author.Tests.{eqb-true, eqb-false}
 use Rattle.clock.specs.Wire.{decode, Written, writeBy, bit, num}
-use Rattle.clock.specs.Step.{edgeOf, judged, shifted, listened, taken, next, acts}
+use Rattle.clock.specs.Step.{edgeOf, judged, next, acts}
 use Rattle.clock.specs.declared.Command.{Command}
 use Rattle.clock.specs.declared.Command.the-variants.{Write, Read, Illegal}
 use Rattle.clock.specs.declared.Phase.{Phase}

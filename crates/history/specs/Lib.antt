@@ -2,3 +2,4 @@ pub mod History
 pub mod Start
 pub mod Demand3
 pub mod Items
+pub mod Runs

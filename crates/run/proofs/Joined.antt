@@ -1,4 +1,4 @@
--- A list that is cut between records (W-212): running the whole is running the first part, and then the second from the state and with the room
+-- A list that is cut between records: running the whole is running the first part, and then the second from the state and with the room
 -- that the first part left, the answers joined.
 use Prim.Native.Nat.{ℕ, zero, suc, _+_, _-_, _≤_, _<_}
 use mathlib.Core.Path.{_≡_, refl, sym, ap, ap₂, _∙_, subst}
@@ -139,7 +139,7 @@ run-keeps P k (whole s ∷ ps) m room h = go (run-keeps P k ps (turnOf m s .mach
     go r true = h
     go r false = r
 
--- W-212: the whole list, and the list cut between records
+-- the whole list, and the list cut between records
 module _ (keeps : (m : Machine) (s : List ℕ) → acceptedOf m ≡ true → acceptedOf (turnOf m s .machine) ≡ true) where
   pub joined : (m : Machine) (a b : List ℕ) (room : ℕ) → runOf m a room .stop ≡ 0
       → runOf m (a ++ b) room
@@ -166,7 +166,7 @@ pub run-accepted : (m : Machine) (s : List ℕ) (room : ℕ) → acceptedOf m �
 unfolding runOf
 run-accepted m s room e = simp e (run-keeps (λ (n : Machine). acceptedOf n ≡ true) turn-keeps (pieces s) m room e)
 
-pub W-212 : (m : Machine) (a b : List ℕ) (room : ℕ) → runOf m a room .stop ≡ 0
+pub cut-list : (m : Machine) (a b : List ℕ) (room : ℕ) → runOf m a room .stop ≡ 0
     → runOf m (a ++ b) room
     ≡ onto (runOf m a room .answers) (length a) (runOf (runOf m a room .machine) b (room - length (runOf m a room .answers)))
-W-212 = joined turn-keeps
+cut-list = joined turn-keeps

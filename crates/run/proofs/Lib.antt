@@ -1,3 +1,4 @@
 pub mod Keeps
 pub mod Loop
 pub mod Joined
+pub mod Users

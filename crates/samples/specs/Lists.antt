@@ -1,0 +1,52 @@
+-- Lists of items as bytes, for the samples.
+use Prim.Native.Nat.{ℕ, zero, suc, _+_, _*_, _/_, _%_, _^_}
+use mathlib.Core.List.{List, [], _∷_, _++_}
+
+-- A register's address: VIA register r is at $EFE1FE + 512r.
+abbrev pub register : ℕ → ℕ
+register r = 0xefe1fe + 512 * r
+
+-- A number in four bytes, the lowest first.
+abbrev pub word : ℕ → List ℕ
+word n = n % 256 ∷ n / 256 % 256 ∷ n / 65536 % 256 ∷ n / 16777216 % 256 ∷ []
+
+-- RD and WR of a VIA register, after a wait in VIA ticks.
+abbrev pub rd : ℕ → ℕ → List ℕ
+rd wait r = 8 ∷ 0 ∷ 82 ∷ 68 ∷ wait % 256 ∷ wait / 256 ∷ word (register r)
+
+abbrev pub wr : ℕ → ℕ → ℕ → List ℕ
+wr wait r v = 9 ∷ 0 ∷ 87 ∷ 82 ∷ wait % 256 ∷ wait / 256 ∷ (word (register r) ++ (v ∷ []))
+
+-- SE with no wait.
+abbrev pub se : List ℕ
+se = 4 ∷ 0 ∷ 83 ∷ 69 ∷ 0 ∷ 0 ∷ []
+
+-- Port B's bits 0 to 2 made outputs, with enable at 1 and data-clock at 0.
+abbrev pub begin : List ℕ
+begin = wr 0 0 4 ++ wr 0 2 7
+
+-- Enable goes up.
+abbrev pub end : List ℕ
+end = wr 0 0 4
+
+-- Enable falls.
+abbrev pub select : List ℕ
+select = wr 0 0 0
+
+-- One bit: data-clock low, then high, with the bit on the data line.
+abbrev pub clocked : ℕ → List ℕ
+clocked b = wr 0 0 b ++ wr 0 0 (2 + b)
+
+-- The n highest of the low k bits of a byte, high-order first.
+unfoldable pub sent : ℕ → ℕ → ℕ → List ℕ
+sent zero k byte = []
+sent (suc n) zero byte = []
+sent (suc n) (suc k) byte = clocked (byte / 2 ^ k % 2) ++ sent n k byte
+
+-- A whole byte.
+abbrev pub byte : ℕ → List ℕ
+byte b = sent 8 8 b
+
+-- One whole write transaction.
+abbrev pub transaction : ℕ → ℕ → List ℕ
+transaction command b = select ++ byte command ++ byte b ++ end
