@@ -43,6 +43,18 @@ pub fn second(m: Machine, wait: u8) -> Machine {
     item(m, &list).machine
 }
 
+// VB, wait 0.
+pub fn blank(m: Machine) -> Machine {
+    let list = [4, 0, 86, 66, 0, 0];
+    item(m, &list).machine
+}
+
+// RD of $EFE1FF, where nothing is, after a wait in VIA ticks.
+pub fn nowhere(m: Machine, wait: u8) -> Seen {
+    let list = [8, 0, 82, 68, wait, 0, 0xff, 0xe1, 0xef, 0];
+    item(m, &list)
+}
+
 // PW, so many seconds off.
 pub fn power(m: Machine, seconds: u8) -> Machine {
     let list = [8, 0, 80, 87, 0, 0, seconds, 0, 0, 0];

@@ -4,7 +4,6 @@ ghost use lib.ListN.{length};
 
 mod bench;
 
-use bench::Seen;
 use machine::Machine;
 
 fn say(text: &[u8]) {
@@ -21,6 +20,13 @@ fn hex(text: &[u8], x: u8) {
 fn decimal(text: &[u8], n: u64) {
     say(text);
     io::print_decimal(1, n);
+}
+
+// Words, a byte, words, a byte, and the line's end.
+fn two(text: &[u8], x: u8, more: &[u8], y: u8) {
+    hex(text, x);
+    hex(more, y);
+    say(b"\n");
 }
 
 // Words, then the answer to a list of one record, run from the fresh machine.
@@ -72,23 +78,20 @@ fn cell_of(command: u8, at: usize, back: u8)
     let s = bench::receive(bench::ask(m, back), 0, 8);
     hex(b"command $", command);
     decimal(b" $5a sets cell ", at as u64);
-    hex(b": it holds $", cell(m, at));
-    hex(b", and is read as $", s.value);
-    say(b"\n");
+    two(b": it holds $", cell(m, at), b", and is read as $", s.value);
 }
 
-// PW after fifteen of the sixteen bits of a write.
+// PW after fifteen of the sixteen bits of a write, and then the sixteenth.
 fn power_amid() {
     let m = bench::set(machine::fresh(), 0x41, 0x11);
     let sent = bench::send(bench::send(bench::start(m), 0x41, 8, false), 0xaa, 7, false);
-    let on = bench::finish(bench::send(bench::start(bench::power(sent, 5)), 0, 1, false));
-    hex(
-        b"PW, 5 seconds off, amid a write of $aa: cell 0 holds $",
-        cell(on, 0),
+    let off = bench::power(sent, 5);
+    let on = bench::finish(bench::send(bench::start(off), 0, 1, false));
+    decimal(
+        b"PW, 5 seconds off, amid a write of $aa: seconds ",
+        seconds(on) as u64,
     );
-    decimal(b" as before; seconds ", seconds(m) as u64);
-    decimal(b", then ", seconds(on) as u64);
-    say(b"\n");
+    two(b"; cell 0 held $", cell(m, 0), b" and holds $", cell(on, 0));
 }
 
 // Counting a fall of enable and a rise of data-clock in one write as a bit.
@@ -108,9 +111,12 @@ fn test_protected() {
     let shut = bench::set(bench::set(m, 0x35, 0x80), 0x31, 0xaa);
     let open = bench::set(bench::set(shut, 0x35, 0x7f), 0x31, 0xaa);
     hex(b"test holds $", test(m));
-    hex(b"; under protect a write of $aa leaves $", test(shut));
-    hex(b"; protect cleared by $7f, it gives $", test(open));
-    say(b"\n");
+    two(
+        b"; under protect a write of $aa leaves $",
+        test(shut),
+        b"; protect cleared by $7f, it gives $",
+        test(open),
+    );
 }
 
 // Latching a seconds byte anew for each bit sent.
@@ -152,17 +158,17 @@ fn free_run() {
 
 // Clearing flags on register 15.
 fn register_fifteen() {
-    let blank = [4, 0, 86, 66, 0, 0];
-    let m = bench::second(bench::item(machine::fresh(), &blank).machine, 0);
+    let m = bench::second(bench::blank(machine::fresh()), 0);
     let fifteen = bench::read(m, 15, 0);
     let kept = bench::read(fifteen.machine, 13, 0);
-    let cleared = bench::read(bench::read(m, 1, 0).machine, 13, 0);
-    hex(
+    let one = bench::read(m, 1, 0);
+    let cleared = bench::read(one.machine, 13, 0);
+    two(
         b"VB and SE set flags; after a read of register 15 they are $",
         kept.value,
+        b", after one of register 1 $",
+        cleared.value,
     );
-    hex(b", after one of register 1 $", cleared.value);
-    say(b"\n");
 }
 
 // Missing the edge that a direction write makes.
@@ -178,10 +184,9 @@ fn by_direction() {
 
 // A refused item passes no time; one that is done does.
 fn no_time() {
-    let nowhere = [8, 0, 82, 68, 255, 0, 0xff, 0xe1, 0xef, 0];
     let m = bench::write(bench::write(machine::fresh(), 8, 0x34), 9, 0x12);
     let before = bench::read(m, 8, 0);
-    let refused = bench::item(before.machine, &nowhere);
+    let refused = bench::nowhere(before.machine, 255);
     let after = bench::read(refused.machine, 8, 0);
     let done = bench::read(bench::second(after.machine, 1), 8, 0);
     hex(b"T2 reads $", before.value);
@@ -189,17 +194,18 @@ fn no_time() {
         b"; after a wait of 255 VIA ticks refused with ",
         refused.value as u64,
     );
-    hex(b" it reads $", after.value);
-    hex(b"; after SE with a wait of 1 it reads $", done.value);
-    say(b"\n");
+    two(
+        b" it reads $",
+        after.value,
+        b"; after SE with a wait of 1 it reads $",
+        done.value,
+    );
 }
 
-// Which refusal comes first.
-fn order() {
+// Refusal 7 comes first, then the end of the list.
+fn first() {
     let se = [4, 0, 83, 69, 0, 0];
     let mut none = [0u8; 8];
-    let mut seven = [0u8; 7];
-    let mut eight = [0u8; 8];
     let mut m = machine::fresh();
     m.inputs[0] = 2;
     whole(
@@ -214,39 +220,65 @@ fn order() {
         &se[..0],
         &mut none[..0],
     );
+}
+
+// Refusal 6 comes before 1.
+fn stray() {
+    let byte = [4];
+    let mut seven = [0u8; 7];
+    let mut eight = [0u8; 8];
     whole(
         b"a stray byte, room of 7: ",
         machine::fresh(),
-        &se[..1],
+        &byte,
         &mut seven,
     );
     whole(
         b"a stray byte, room of 8: ",
         machine::fresh(),
-        &se[..1],
+        &byte,
         &mut eight,
     );
 }
 
-// Room for one answer and seven bytes more, and bytes past the answers.
-fn room() {
-    let two = [4, 0, 83, 69, 0, 0, 4, 0, 83, 69, 0, 0];
-    let mut short = [0xee; 15];
-    whole(b"two SE, room of 15: ", machine::fresh(), &two, &mut short);
-    let mut long = [0xee; 24];
-    whole(b"two SE, room of 24: ", machine::fresh(), &two, &mut long);
-    hex(
-        b"bytes past the answers keep their $ee: bytes 8 and 14 of 15 are $",
-        short[8],
+// Room for one answer and seven bytes more.
+fn short_room() {
+    let list = [4, 0, 83, 69, 0, 0, 4, 0, 83, 69, 0, 0];
+    let mut answers = [0xee; 15];
+    whole(
+        b"two SE, room of 15 bytes, all $ee: ",
+        machine::fresh(),
+        &list,
+        &mut answers,
     );
-    hex(b" $", short[14]);
-    hex(b", bytes 16 and 23 of 24 are $", long[16]);
-    hex(b" $", long[23]);
-    say(b"\n");
+    two(
+        b"bytes 8 and 14 of them are then $",
+        answers[8],
+        b" and $",
+        answers[14],
+    );
 }
 
-// Refusals of one record, each with the smallest number that fits.
-fn refusals() {
+// Bytes past the answers.
+fn long_room() {
+    let list = [4, 0, 83, 69, 0, 0, 4, 0, 83, 69, 0, 0];
+    let mut answers = [0xee; 24];
+    whole(
+        b"two SE, room of 24 bytes, all $ee: ",
+        machine::fresh(),
+        &list,
+        &mut answers,
+    );
+    two(
+        b"bytes 16 and 23 of them are then $",
+        answers[16],
+        b" and $",
+        answers[23],
+    );
+}
+
+// Refusals of one record, each with the first number that fits.
+fn refused_places() {
     one(
         b"address $EFE1FF: ",
         &[8, 0, 82, 68, 0, 0, 0xff, 0xe1, 0xef, 0],
@@ -256,11 +288,17 @@ fn refusals() {
         &[8, 0, 82, 68, 0, 0, 0xfe, 0xe1, 0xef, 1],
     );
     one(b"IN line 5: ", &[6, 0, 73, 78, 0, 0, 5, 0]);
+}
+
+fn refused_kinds() {
     one(b"unknown kind of wrong length: ", &[3, 0, 88, 88, 0]);
     one(
         b"wrong length and address: ",
         &[7, 0, 82, 68, 0, 0, 0xff, 0xe1, 0xef],
     );
+}
+
+fn cut_records() {
     one(b"length 1: ", &[1, 0, 83, 69, 0, 0]);
     one(
         b"length 9, eight bytes there: ",
@@ -272,7 +310,9 @@ fn main() {
     cell_of(0x21, 16, 0xa1);
     cell_of(0x2d, 19, 0xad);
     cell_of(0x7d, 15, 0xfd);
-    refusals();
+    refused_places();
+    refused_kinds();
+    cut_records();
     power_amid();
     both_edges();
     test_protected();
@@ -281,6 +321,8 @@ fn main() {
     register_fifteen();
     by_direction();
     no_time();
-    order();
-    room();
+    first();
+    stray();
+    short_room();
+    long_room();
 }
