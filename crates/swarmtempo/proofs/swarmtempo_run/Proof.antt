@@ -1,0 +1,80 @@
+use Rattle.image.specs.Image.{imageLength, validImage}
+use lib.ListN.{length}
+use Rattle.image.proofs.Round.{valid-is}
+use mathlib.Core.Bool.{true, false}
+use Rattle.swarmtempo.proofs.Call as call
+use borrow.Author.Tests.{not-true, not-false, lt-ltb, le-ltb}
+use denote.Ref.{now}
+use mathlib.Core.Path.{_≡_, sym, ap, _∙_}
+use borrow.Author.Needs.{needs}
+use Rattle.swarmtempo.proofs.swarmtempo_run.Statement.{statement}
+use Rattle.swarmtempo.proofs.swarmtempo_run.Tie as tie
+use Rattle.swarmtempo.proofs.swarmtempo_run.Reads as reads
+use Rattle.swarmtempo.proofs.swarmtempo_run.Lts as lts
+use Rattle.image.proofs.load.Reads as load-reads
+use Rattle.image.proofs.save.Reads as save-reads
+use Rattle.image.proofs.valid.Reads as valid-reads
+use Rattle.run.proofs.run.Reads as run-reads
+
+-- what the test of the image shows
+good : (c : tie.Else1) → validImage (now (c .before .before .before .before .before .before .args .image)) ≡ true
+good c = sym (c .before .valid .ensures) ∙ not-false _ (c .if1 .left)
+
+whole : (c : tie.Else1) → length (now (c .before .before .before .before .before .before .args .image)) ≡ imageLength
+whole c = valid-is _ (good c) .long
+
+-- src/lib.rt:48:9
+valid-requires : tie.Need-valid-requires
+valid-requires c κs = search needs
+
+-- src/lib.rt:49:9
+same-length : tie.Need-same-length
+same-length c = search needs
+
+-- src/lib.rt:49:9
+returns : tie.Need-returns
+returns c =
+    let a = c .before .before .before .before .before .before .args in
+    call.refused (now (a .image)) (now (a .list)) (now (a .answers)) (sym (c .before .valid .ensures) ∙ not-true _ (c .if1 .taken))
+
+-- src/lib.rt:51:22
+load-requires : tie.Need-load-requires
+load-requires c κs = whole (c .before)
+
+-- src/lib.rt:51:9
+run-requires : tie.Need-run-requires
+run-requires c κs = search needs
+
+-- src/lib.rt:54:5
+save-requires : tie.Need-save-requires
+save-requires c κs = whole (c .before .before .before .before .before .before .before)
+
+-- src/lib.rt:32:1
+same-length-2 : tie.Need-same-length-2
+same-length-2 c = search needs
+
+-- src/lib.rt:32:1
+same-length-3 : tie.Need-same-length-3
+same-length-3 c = search needs
+
+-- src/lib.rt:32:1
+returns-2 : tie.Need-returns-2
+returns-2 c =
+    let a = c .before .before .before .before .before .before .before .before .before .before .before .before .before .before .before .before .args in
+    call.ran (now (a .image)) (now (a .list)) (now (a .answers)) (good (c .before .before .before .before .before .before .before .before .before .before)) (c .before .before .before .before .before .before .before .before .load .result) (c .before .before .before .before .before .before .before .before .load .ensures)
+    (c .before .before .before .before .before .before .run .result) (c .before .before .before .before .before .before .run .ensures .0) (c .before .before .before .before .before .before .run .last .1 .1 .0) (c .before .before .before .before .before .before .run .ensures .1 .0)
+    (c .before .before .save .last .0) (c .before .before .save .ensures)
+
+pub swarmtempo-run-spec : {M : Type 1} → statement M
+swarmtempo-run-spec =
+    tie.close
+    (tie.spec
+    valid-requires
+    same-length
+    returns
+    load-requires
+    run-requires
+    save-requires
+    same-length-2
+    same-length-3
+    returns-2)

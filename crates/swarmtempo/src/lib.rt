@@ -1,0 +1,56 @@
+// The run for C and Rust shells: numbers and byte slices, the state as a lent image.
+ghost use mathlib.Core.Path.{_≡_};
+ghost use lib.ListN.{length};
+ghost use Rattle.image.specs.Image.{imageLength};
+ghost use Rattle.swarmtempo.specs.Call.{callOf, callImage, callAnswers, freshStop, freshImage};
+
+// The length of an image in bytes.
+#[no_mangle]
+pub extern "C" fn swarmtempo_image_len() -> u64
+    ensures { λ r. ⌜ r ≡ imageLength ⌝ }
+{
+    98
+}
+
+// Writes the fresh machine's image. 0, or 6 where the room is shorter than an image.
+#[no_mangle]
+pub extern "C" fn swarmtempo_fresh(image: &mut [u8]) -> u8
+    ensures { λ r. ⌜ r ≡ freshStop (now (image .entry)) ⌝ }
+    ensures { λ _. ⌜ now (image .exit) ≡ freshImage (now (image .entry)) ⌝ }
+{
+    if image.len() < 98 {
+        return 6;
+    }
+    let mut own = [0; 98];
+    image::save(&mut own, machine::fresh());
+    record::copy(image, 0, &own);
+    0
+}
+
+// Runs the list from the image's state, and leaves the image of the state reached. The stop number: 0, 1 or 6; 7 where no
+// accepted state has this image.
+#[no_mangle]
+pub extern "C" fn swarmtempo_run(
+    image: &mut [u8],
+    list: &[u8],
+    answers: &mut [u8],
+    consumed: &mut u64,
+    written: &mut u64,
+) -> u8
+    ensures { λ r. ⌜ r ≡ callOf (now (image .entry)) (now (list .entry)) (length (now (answers .entry))) .stop ⌝ }
+    ensures { λ _. ⌜ now (consumed .exit) ≡ callOf (now (image .entry)) (now (list .entry)) (length (now (answers .entry))) .consumed ⌝ }
+    ensures { λ _. ⌜ now (written .exit) ≡ length (callOf (now (image .entry)) (now (list .entry)) (length (now (answers .entry))) .answers) ⌝ }
+    ensures { λ _. ⌜ now (image .exit) ≡ callImage (now (image .entry)) (now (list .entry)) (length (now (answers .entry))) ⌝ }
+    ensures { λ _. ⌜ now (answers .exit) ≡ callAnswers (now (image .entry)) (now (list .entry)) (now (answers .entry)) ⌝ }
+{
+    *consumed = 0;
+    *written = 0;
+    if !image::valid(image) {
+        return 7;
+    }
+    let r = run::run(image::load(image), list, answers);
+    *consumed = r.consumed as u64;
+    *written = r.written as u64;
+    image::save(image, r.machine);
+    r.stop
+}

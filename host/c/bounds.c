@@ -1,0 +1,138 @@
+/*
+ * The boundary with short and odd buffers. Each buffer stands against a page that may not be touched,
+ * once at its end and once at its start, so a byte read or written outside ends the program; the bytes
+ * around it in its own page are compared afterwards. To be built with the sanitizers too, and run
+ * under valgrind.
+ */
+#define _DEFAULT_SOURCE
+#include <stdio.h>
+#include <stdlib.h>
+#include <string.h>
+#include <sys/mman.h>
+#include <unistd.h>
+#include "swarmtempo.h"
+
+#define GUARD 0x5A
+
+struct buffer {
+    uint8_t *page; /* the page that may be touched, between two that may not */
+    size_t size;   /* of the page, in bytes */
+    uint8_t *at;
+    size_t len;
+};
+
+static unsigned long calls;
+
+static void fail(const char *what)
+{
+    fprintf(stderr, "bounds.c: %s\n", what);
+    exit(EXIT_FAILURE);
+}
+
+static struct buffer make(void)
+{
+    size_t size = (size_t)sysconf(_SC_PAGESIZE);
+    uint8_t *map = mmap(NULL, 3 * size, PROT_NONE, MAP_PRIVATE | MAP_ANONYMOUS, -1, 0);
+    if (map == MAP_FAILED || mprotect(map + size, size, PROT_READ | PROT_WRITE)) fail("no memory");
+    struct buffer b = {map + size, size, map + size, 0};
+    return b;
+}
+
+/* Places `len` bytes at the page's end or at its start; the rest of the page is the guard. */
+static void place(struct buffer *b, const uint8_t *bytes, size_t len, int at_end)
+{
+    memset(b->page, GUARD, b->size);
+    b->at = at_end ? b->page + b->size - len : b->page;
+    b->len = len;
+    if (len) memcpy(b->at, bytes, len);
+}
+
+static void guards_hold(const struct buffer *b)
+{
+    for (size_t i = 0; i < b->size; i++) {
+        const uint8_t *p = b->page + i;
+        if ((p < b->at || p >= b->at + b->len) && *p != GUARD) fail("a byte outside a buffer was written");
+    }
+}
+
+static struct buffer image, list, answers;
+
+static void call(const uint8_t *state, size_t state_len, const uint8_t *items, size_t items_len, size_t room, int at_end)
+{
+    static const uint8_t blank[512];
+    uint64_t counts[4] = {~0ull, 77, 78, ~0ull};
+    place(&image, state, state_len, at_end);
+    place(&list, items, items_len, at_end);
+    place(&answers, blank, room, at_end);
+    memset(answers.at, 0xC3, room);
+    uint8_t stop = swarmtempo_run(image.at, state_len, list.at, items_len, answers.at, room, &counts[1], &counts[2]);
+    calls++;
+    guards_hold(&image);
+    guards_hold(&list);
+    guards_hold(&answers);
+    if (counts[0] != ~0ull || counts[3] != ~0ull) fail("a byte beside the counts was written");
+    if (counts[1] > items_len || counts[2] > room || counts[2] % 8) fail("counts past a buffer");
+    if (items_len && memcmp(list.at, items, items_len)) fail("the list was written");
+    for (size_t i = counts[2]; i < room; i++)
+        if (answers.at[i] != 0xC3) fail("answer bytes past those written changed");
+    if (state_len != SWARMTEMPO_IMAGE_LEN && stop != SWARMTEMPO_REFUSED_STATE) fail("an image of another length was taken");
+    if (stop == SWARMTEMPO_REFUSED_STATE) {
+        if (counts[1] || counts[2]) fail("counts on 7");
+        if (state_len && memcmp(image.at, state, state_len)) fail("the image was written on 7");
+    } else if (stop == SWARMTEMPO_END) {
+        if (counts[1] != items_len) fail("the end before the end");
+    } else if (stop == SWARMTEMPO_REFUSED_ROOM) {
+        if (room - counts[2] >= 8 || counts[1] >= items_len) fail("stop 6 with room");
+    } else if (stop != SWARMTEMPO_REFUSED_CUT) {
+        fail("a stop number that no run has");
+    }
+}
+
+static void fresh_images(void)
+{
+    static const uint8_t blank[SWARMTEMPO_IMAGE_LEN + 32];
+    for (size_t len = 0; len < SWARMTEMPO_IMAGE_LEN + 32; len++)
+        for (int at_end = 0; at_end < 2; at_end++) {
+            place(&image, blank, len, at_end);
+            uint8_t stop = swarmtempo_fresh(image.at, len);
+            size_t used = stop ? 0 : SWARMTEMPO_IMAGE_LEN;
+            calls++;
+            guards_hold(&image);
+            if (stop != (len < SWARMTEMPO_IMAGE_LEN ? SWARMTEMPO_REFUSED_ROOM : 0)) fail("fresh in this room");
+            for (size_t i = used; i < len; i++)
+                if (image.at[i]) fail("fresh wrote past the image");
+        }
+}
+
+int main(int argc, char **argv)
+{
+    uint8_t state[2 * SWARMTEMPO_IMAGE_LEN] = {0}, items[256];
+    unsigned long rounds = argc > 1 ? strtoul(argv[1], NULL, 10) : 20000;
+    size_t len = 0;
+    uint64_t seed = 1;
+    image = make(), list = make(), answers = make();
+    fresh_images();
+    if (swarmtempo_fresh(state, sizeof state)) fail("fresh");
+    len += swarmtempo_rd(items + len, 1, SWARMTEMPO_VIA(13));
+    len += swarmtempo_wr(items + len, 2, SWARMTEMPO_VIA(0), 2);
+    len += swarmtempo_sn(items + len, 65535, 1, 15, 0);
+    len += swarmtempo_pw(items + len, 0, 0xFFFFFFFF);
+    len += swarmtempo_in(items + len, 0, 4, 0);
+    len += swarmtempo_rd(items + len, 0, SWARMTEMPO_IWM(14));
+    for (int at_end = 0; at_end < 2; at_end++) {
+        for (size_t n = 0; n <= sizeof state; n++) call(state, n, items, len, 48, at_end);
+        for (size_t n = 0; n <= len; n++)
+            for (size_t room = 0; room <= 56; room += 1 + room % 3) call(state, SWARMTEMPO_IMAGE_LEN, items, n, room, at_end);
+    }
+    for (unsigned long i = 0; i < rounds; i++) { /* one byte of the list and one of the image at random */
+        uint8_t odd_items[256], odd_state[SWARMTEMPO_IMAGE_LEN];
+        seed = seed * 6364136223846793005ull + 1442695040888963407ull;
+        memcpy(odd_items, items, len);
+        memcpy(odd_state, state, sizeof odd_state);
+        odd_items[(seed >> 33) % len] = (uint8_t)(seed >> 56);
+        if (seed >> 20 & 1) odd_state[(seed >> 41) % sizeof odd_state] = (uint8_t)(seed >> 25);
+        call(odd_state, sizeof odd_state, odd_items, (seed >> 13) % (len + 1), (seed >> 7) % 64, (int)(seed >> 62 & 1));
+    }
+    printf("%lu calls\n", calls);
+    return EXIT_SUCCESS;
+}

@@ -1,0 +1,36 @@
+//! A plain model of the board: one state behind `&mut`, written by hand from the requirements, to
+//! compare the proved library with and to measure it against. Nothing here is proved.
+//!
+//! Time is in VIA ticks: 783,360 a second.
+
+mod clock;
+mod image;
+mod items;
+mod machine;
+mod run;
+mod via;
+
+pub use clock::{decode_command, Clock, Command, Phase, Store, Target, CELLS};
+pub use image::{fresh_image, run_image, IMAGE_LEN};
+pub use items::{decode, Item, IWM_BASE, STRIDE, VIA_BASE};
+pub use machine::{Machine, Wires};
+pub use run::{frame, Run};
+pub use via::{Timer1, Timer2, Via};
+
+/// Refusal and stop numbers.
+pub mod refusal {
+    /// A cut record, or a length below 2.
+    pub const CUT: u8 = 1;
+    /// An unknown kind.
+    pub const KIND: u8 = 2;
+    /// A length that is wrong for the kind.
+    pub const LENGTH: u8 = 3;
+    /// An address that is none of the 32.
+    pub const ADDRESS: u8 = 4;
+    /// A line, drive, register or level out of range.
+    pub const RANGE: u8 = 5;
+    /// Fewer than 8 answer bytes left.
+    pub const ROOM: u8 = 6;
+    /// A state that is not accepted.
+    pub const STATE: u8 = 7;
+}

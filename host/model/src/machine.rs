@@ -1,0 +1,173 @@
+//! The whole state, and one item carried out.
+
+use crate::clock::{Clock, Phase};
+use crate::items::Item;
+use crate::via::{self, Via};
+
+/// Bits of the disk-line byte.
+pub const CA0: u8 = 0x01;
+pub const CA1: u8 = 0x02;
+pub const CA2: u8 = 0x04;
+pub const ENABLE: u8 = 0x10;
+pub const SELECT: u8 = 0x20;
+pub const Q6: u8 = 0x40;
+
+#[derive(Clone, Debug, PartialEq, Eq)]
+pub struct Machine {
+    pub via: Via,
+    pub clock: Clock,
+    /// CA0, CA1, CA2, LSTRB, ENABLE, SELECT, Q6, Q7 in bits 0 to 7; 1 is on.
+    pub lines: u8,
+    /// The IN lines, line k in bit k.
+    pub inputs: u8,
+    /// Register r of the internal drive in bit r, of the external drive in bit 16 + r.
+    pub sense: u32,
+}
+
+impl Default for Machine {
+    fn default() -> Self {
+        Machine {
+            via: Via::default(),
+            clock: Clock::default(),
+            lines: 0,
+            inputs: 0x1F,
+            sense: 0xFFFF_FFFF,
+        }
+    }
+}
+
+/// The clock's wires.
+#[derive(Clone, Copy, Debug, PartialEq, Eq)]
+pub struct Wires {
+    /// Low active.
+    pub enable: bool,
+    pub data_clock: bool,
+    pub data: bool,
+}
+
+impl Machine {
+    /// Fresh.
+    pub fn new() -> Self {
+        Self::default()
+    }
+
+    /// What the outside gives port B: data, two undriven lines, IN lines 0 to 3, an undriven line.
+    fn input_b(&self) -> u8 {
+        u8::from(self.clock.data()) | 0x86 | (self.inputs & 0x0F) << 3
+    }
+
+    /// What the outside gives port A: undriven but for IN line 4.
+    fn input_a(&self) -> u8 {
+        0x7F | (self.inputs & 0x10) << 3
+    }
+
+    pub fn wires(&self) -> Wires {
+        let levels = self.via.port_b(self.input_b());
+        Wires { enable: levels & 4 != 0, data_clock: levels & 2 != 0, data: levels & 1 != 0 }
+    }
+
+    pub fn sel(&self) -> bool {
+        self.via.port_a(self.input_a()) & 0x20 != 0
+    }
+
+    /// The interrupt level.
+    pub fn level(&self) -> u8 {
+        u8::from(self.via.asks())
+    }
+
+    /// True for an accepted state, whose chip is idle exactly while enable is 1. The other ranges are
+    /// those of the types, and of the image's reader.
+    pub fn accepted(&self) -> bool {
+        (self.clock.phase == Phase::Idle) == self.wires().enable
+    }
+
+    /// Carries out an item and gives the value read, 0 unless it reads.
+    pub fn step(&mut self, wait: u16, item: &Item) -> u8 {
+        let before = self.wires();
+        self.via.wait(wait);
+        let value = self.act(item);
+        self.settle(before);
+        value
+    }
+
+    fn act(&mut self, item: &Item) -> u8 {
+        match *item {
+            Item::ReadVia { register } => {
+                let (input_b, input_a) = (self.input_b(), self.input_a());
+                return self.via.read(register, input_b, input_a);
+            }
+            Item::ReadIwm { location } => {
+                self.access(location);
+                return self.read_iwm(location);
+            }
+            Item::WriteVia { register, value } => self.via.write(register, value),
+            Item::WriteIwm { location } => self.access(location),
+            Item::Blank => self.via.flags |= via::BLANK,
+            Item::Second => {
+                self.via.flags |= via::SECOND;
+                self.clock.store.advance(1);
+            }
+            Item::Line { line, level } => set(&mut self.inputs, 1 << line, level),
+            Item::Sense { drive, register, level } => {
+                let bit = 1u32 << (16 * drive + register);
+                self.sense = if level { self.sense | bit } else { self.sense & !bit };
+            }
+            Item::Reset => {
+                self.via.reset();
+                self.lines = 0;
+            }
+            Item::Power { seconds } => {
+                self.via = Via::default();
+                self.clock.phase = Phase::Idle;
+                self.lines = 0;
+                self.clock.store.advance(seconds);
+            }
+        }
+        0
+    }
+
+    /// Any access to an IWM location sets its line.
+    fn access(&mut self, location: u8) {
+        set(&mut self.lines, 1 << (location / 2), location % 2 == 1);
+    }
+
+    /// After the access.
+    fn read_iwm(&self, location: u8) -> u8 {
+        if location == 14 && self.lines & Q6 != 0 {
+            u8::from(self.sensed()) << 7
+        } else {
+            0xFF
+        }
+    }
+
+    fn sensed(&self) -> bool {
+        if self.lines & ENABLE == 0 {
+            return true;
+        }
+        let on = |line: u8| u32::from(self.lines & line != 0);
+        let register = 8 * on(CA2) + 4 * on(CA1) + 2 * on(CA0) + u32::from(self.sel());
+        self.sense >> (16 * on(SELECT) + register) & 1 != 0
+    }
+
+    /// The clock sees the wires after the item.
+    fn settle(&mut self, before: Wires) {
+        let after = self.wires();
+        if after.enable {
+            self.clock.phase = Phase::Idle;
+        } else if before.enable {
+            self.clock.phase = Phase::Listening { bits: 0, value: 0 };
+        } else if !before.data_clock && after.data_clock {
+            self.clock.rise(after.data);
+        } else if before.data_clock && !after.data_clock {
+            self.clock.fall();
+        }
+    }
+}
+
+fn set(byte: &mut u8, mask: u8, on: bool) {
+    if on {
+        *byte |= mask;
+    } else {
+        *byte &= !mask;
+    }
+}

@@ -1,0 +1,190 @@
+//! Wires and lines over time, as a Value Change Dump.
+//!
+//! A VIA tick is 1,276.55 ns. Items with no wait between them are drawn 10 ns apart, so that their
+//! order shows; where more than 127 come in one tick, what follows is late by that much.
+
+use super::files::Out;
+use super::Failure;
+use swarmtempo::{Command, DiskLine, Phase, State, TICKS_PER_SECOND};
+
+/// Nanoseconds between two items at least.
+const GAP: u64 = 10;
+
+/// The tracks: scope, name, bits (0: a string).
+const TRACKS: [(&str, &str, u32); 19] = [
+    ("clock", "enable", 1),
+    ("clock", "data_clock", 1),
+    ("clock", "data", 1),
+    ("clock", "decoded", 0),
+    ("clock", "command", 8),
+    ("clock", "byte", 8),
+    ("clock", "seconds", 32),
+    ("via", "SEL", 1),
+    ("via", "level", 3),
+    ("disk", "CA0", 1),
+    ("disk", "CA1", 1),
+    ("disk", "CA2", 1),
+    ("disk", "LSTRB", 1),
+    ("disk", "ENABLE", 1),
+    ("disk", "SELECT", 1),
+    ("disk", "Q6", 1),
+    ("disk", "Q7", 1),
+    ("list", "item", 32),
+    ("list", "refused", 4),
+];
+
+/// Writes a dump.
+pub struct Vcd {
+    out: Out,
+    shown: Vec<String>,
+    before: State,
+    decoded: Decoded,
+    items: u64,
+    ticks: u64,
+    /// Nanoseconds of the last sample.
+    time: u64,
+}
+
+/// What the decoded track shows: words, and the last command and data bytes.
+struct Decoded {
+    words: String,
+    command: u8,
+    byte: u8,
+}
+
+impl Vcd {
+    /// Begins a dump with the state before the first item.
+    pub fn new(name: &str, start: State) -> Result<Vcd, Failure> {
+        let mut out = Out::text(name)?;
+        let mut head = String::from("$version Swarmtempo $end\n");
+        head.push_str(
+            "$comment A VIA tick is 1276.55 ns; items without a wait are 10 ns apart. $end\n",
+        );
+        head.push_str("$timescale 1 ns $end\n$scope module swarmtempo $end\n");
+        let mut scope = "";
+        for (i, &(of, name, bits)) in TRACKS.iter().enumerate() {
+            if of != scope {
+                if !scope.is_empty() {
+                    head.push_str("$upscope $end\n");
+                }
+                head.push_str(&format!("$scope module {of} $end\n"));
+                scope = of;
+            }
+            let (kind, bits) = if bits == 0 { ("string", 1) } else { ("wire", bits) };
+            head.push_str(&format!("$var {kind} {bits} {} {name} $end\n", code(i)));
+        }
+        head.push_str("$upscope $end\n$upscope $end\n$enddefinitions $end\n");
+        out.put(head.as_bytes())?;
+        let shown = vec![String::new(); TRACKS.len()];
+        let words = open_command(&start.phase);
+        let command = if let Phase::Taking { command, .. } = start.phase { command } else { 0 };
+        let decoded = Decoded { words, command, byte: 0 };
+        let mut vcd =
+            Vcd { out, shown, before: start.clone(), decoded, items: 0, ticks: 0, time: 0 };
+        vcd.out.put(b"#0\n$dumpvars\n")?;
+        vcd.changes(&start, 0)?;
+        vcd.out.put(b"$end\n")?;
+        Ok(vcd)
+    }
+
+    /// After an item: its wait in VIA ticks (0 where it was refused), the refusal's number or 0.
+    pub fn item(&mut self, ticks: u16, refused: u8, after: State) -> Result<(), Failure> {
+        self.items += 1;
+        self.ticks += u64::from(ticks);
+        let exact = u128::from(self.ticks) * 1_000_000_000 / u128::from(TICKS_PER_SECOND);
+        self.time = (exact as u64).max(self.time + GAP);
+        self.out.put(format!("#{}\n", self.time).as_bytes())?;
+        self.decoded.follow(&self.before, &after);
+        self.changes(&after, refused)?;
+        self.before = after;
+        Ok(())
+    }
+
+    /// The end of the list.
+    pub fn keep(mut self) -> Result<(), Failure> {
+        let end = format!("#{}\n", self.time + GAP);
+        self.out.put(end.as_bytes())?;
+        self.out.keep()
+    }
+
+    fn changes(&mut self, state: &State, refused: u8) -> Result<(), Failure> {
+        let wires = state.wires();
+        let mut values = vec![
+            u64::from(wires.enable),
+            u64::from(wires.data_clock),
+            u64::from(wires.data),
+            0,
+            u64::from(self.decoded.command),
+            u64::from(self.decoded.byte),
+            u64::from(state.seconds.0),
+            u64::from(state.sel()),
+            u64::from(state.level()),
+        ];
+        values.extend(DiskLine::ALL.into_iter().map(|line| u64::from(state.lines.on(line))));
+        values.extend([self.items & 0xFFFF_FFFF, u64::from(refused)]);
+        for (i, (value, &(_, _, bits))) in values.into_iter().zip(&TRACKS).enumerate() {
+            let text = match bits {
+                0 => format!("s{} {}", self.decoded.words.replace(' ', "_"), code(i)),
+                1 => format!("{value}{}", code(i)),
+                _ => format!("b{value:b} {}", code(i)),
+            };
+            if text != self.shown[i] {
+                self.out.put(text.as_bytes())?;
+                self.out.put(b"\n")?;
+                self.shown[i] = text;
+            }
+        }
+        Ok(())
+    }
+}
+
+/// A track's short name: one printable character.
+fn code(track: usize) -> char {
+    char::from(b'!' + track as u8)
+}
+
+fn named(command: u8) -> String {
+    Command::of(command).map_or(format!("${command:02X}"), |command| command.to_string())
+}
+
+/// A command that was under way before the first item.
+fn open_command(phase: &Phase) -> String {
+    match *phase {
+        Phase::Idle => "idle".into(),
+        Phase::Listening { .. } => "command".into(),
+        Phase::Taking { command, .. } => named(command),
+        Phase::Sending { byte, .. } => format!("read = ${byte:02X}"),
+        Phase::Ignoring => "ignoring".into(),
+    }
+}
+
+impl Decoded {
+    fn follow(&mut self, before: &State, after: &State) {
+        let data = u8::from(after.wires().data);
+        match (before.phase, after.phase) {
+            (_, Phase::Idle) => self.words = "idle".into(),
+            (Phase::Idle, _) => self.words = "command".into(),
+            (Phase::Listening { value, .. }, Phase::Sending { byte, .. }) => {
+                self.command = value << 1 | data;
+                self.byte = byte;
+                self.words = format!("{} = ${byte:02X}", named(self.command));
+            }
+            (Phase::Listening { .. }, Phase::Taking { command, .. }) => {
+                self.command = command;
+                self.words = named(command);
+            }
+            (Phase::Listening { value, .. }, Phase::Ignoring) => {
+                self.command = value << 1 | data;
+                self.words = format!("ignored ${:02X}", self.command);
+            }
+            (Phase::Taking { command, value, .. }, Phase::Ignoring) => {
+                self.byte = value << 1 | data;
+                self.words = format!("{} = ${:02X}", named(command), self.byte);
+                if before.protect && command != 0x35 {
+                    self.words.push_str(" (protected)");
+                }
+            }
+            _ => {}
+        }
+    }
+}

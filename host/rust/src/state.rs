@@ -1,0 +1,222 @@
+//! An image taken apart, for showing it. The layout is that of kind ST.
+
+use crate::{Lines, Seconds};
+
+/// Timer 1. Counter and latch in VIA ticks.
+#[derive(Clone, Copy, Debug, PartialEq, Eq)]
+pub struct Timer1 {
+    /// The counter.
+    pub counter: u16,
+    /// The latches.
+    pub latch: u16,
+    /// Its next passage sets flag 6.
+    pub armed: bool,
+    /// The next tick loads the latches.
+    pub due: bool,
+}
+
+/// Timer 2. Counter in VIA ticks.
+#[derive(Clone, Copy, Debug, PartialEq, Eq)]
+pub struct Timer2 {
+    /// The counter.
+    pub counter: u16,
+    /// The low latch.
+    pub low: u8,
+    /// Its next passage sets flag 5.
+    pub armed: bool,
+}
+
+/// How far the clock chip is in a transaction.
+#[derive(Clone, Copy, Debug, PartialEq, Eq)]
+pub enum Phase {
+    /// Enable is up.
+    Idle,
+    /// Taking the command: so many bits (0 to 7), and their value.
+    Listening {
+        /// Bits taken.
+        bits: u8,
+        /// Their value.
+        value: u8,
+    },
+    /// Taking the data of a write command.
+    Taking {
+        /// The command.
+        command: u8,
+        /// Data bits taken, 0 to 7.
+        bits: u8,
+        /// Their value.
+        value: u8,
+    },
+    /// Sending the byte that a read command took.
+    Sending {
+        /// The byte.
+        byte: u8,
+        /// Falls of data-clock seen, 0 to 8.
+        falls: u8,
+    },
+    /// Waiting for enable to go up.
+    Ignoring,
+}
+
+/// The levels of the clock's wires.
+#[derive(Clone, Copy, Debug, PartialEq, Eq)]
+pub struct Wires {
+    /// Low while a transaction is on.
+    pub enable: bool,
+    /// Data-clock.
+    pub data_clock: bool,
+    /// Data.
+    pub data: bool,
+}
+
+/// A state.
+#[derive(Clone, Debug, PartialEq, Eq)]
+pub struct State {
+    /// Output bits of port B.
+    pub out_b: u8,
+    /// Output bits of port A.
+    pub out_a: u8,
+    /// Directions of port B, 1 for output.
+    pub dir_b: u8,
+    /// Directions of port A, 1 for output.
+    pub dir_a: u8,
+    /// Timer 1.
+    pub t1: Timer1,
+    /// Timer 2.
+    pub t2: Timer2,
+    /// Register 10.
+    pub sr: u8,
+    /// Register 11.
+    pub acr: u8,
+    /// Register 12.
+    pub pcr: u8,
+    /// Flags 0 to 6.
+    pub flags: u8,
+    /// Enables of flags 0 to 6.
+    pub enables: u8,
+    /// The clock chip's transaction.
+    pub phase: Phase,
+    /// Only write-protect can be written.
+    pub protect: bool,
+    /// The test register.
+    pub test: u8,
+    /// The chip's count, from 1 January 1904.
+    pub seconds: Seconds,
+    /// Parameter memory.
+    pub cells: Vec<u8>,
+    /// The disk lines.
+    pub lines: Lines,
+    /// The levels of the IN lines.
+    pub inputs: Vec<bool>,
+    /// The levels of the sense registers, internal drive first.
+    pub sense: [[bool; 16]; 2],
+}
+
+/// Takes the fields of an image from its front.
+struct Fields<'a>(&'a [u8]);
+
+impl Fields<'_> {
+    fn bytes<const N: usize>(&mut self) -> [u8; N] {
+        let (taken, rest) = self.0.split_first_chunk::<N>().expect("an accepted image is whole");
+        self.0 = rest;
+        *taken
+    }
+
+    fn byte(&mut self) -> u8 {
+        self.bytes::<1>()[0]
+    }
+
+    fn word(&mut self) -> u16 {
+        u16::from_le_bytes(self.bytes())
+    }
+
+    fn flag(&mut self) -> bool {
+        self.byte() != 0
+    }
+
+    fn flags<const N: usize>(&mut self) -> [bool; N] {
+        self.bytes::<N>().map(|byte| byte != 0)
+    }
+
+    fn phase(&mut self) -> Phase {
+        let [number, command, bits, value] = self.bytes();
+        match number {
+            0 => Phase::Idle,
+            1 => Phase::Listening { bits, value },
+            2 => Phase::Taking { command, bits, value },
+            3 => Phase::Sending { byte: value, falls: bits },
+            _ => Phase::Ignoring,
+        }
+    }
+}
+
+impl State {
+    /// The state of an image that a run accepts.
+    pub(crate) fn of_accepted(image: &[u8]) -> State {
+        let mut f = Fields(image);
+        let _length_and_kind: [u8; 4] = f.bytes();
+        State {
+            out_b: f.byte(),
+            out_a: f.byte(),
+            dir_b: f.byte(),
+            dir_a: f.byte(),
+            t1: Timer1 { counter: f.word(), latch: f.word(), armed: f.flag(), due: f.flag() },
+            t2: Timer2 { counter: f.word(), low: f.byte(), armed: f.flag() },
+            sr: f.byte(),
+            acr: f.byte(),
+            pcr: f.byte(),
+            flags: f.byte(),
+            enables: f.byte(),
+            phase: f.phase(),
+            protect: f.flag(),
+            test: f.byte(),
+            seconds: Seconds(u32::from_le_bytes(f.bytes())),
+            cells: f.bytes::<20>().to_vec(),
+            lines: Lines(
+                f.flags::<8>()
+                    .iter()
+                    .enumerate()
+                    .fold(0, |byte, (i, &on)| byte | u8::from(on) << i),
+            ),
+            inputs: f.flags::<5>().to_vec(),
+            sense: [f.flags(), f.flags()],
+        }
+    }
+
+    /// The level of the clock's data line as the chip gives it; 1 where it does not drive it.
+    fn chip_data(&self) -> bool {
+        match self.phase {
+            Phase::Sending { byte, falls: falls @ 1..=8 } => byte >> (8 - falls) & 1 != 0,
+            _ => true,
+        }
+    }
+
+    /// The levels of port B.
+    pub fn port_b(&self) -> u8 {
+        let inputs = (0..4).fold(0, |byte, i| byte | u8::from(self.inputs[i]) << (3 + i));
+        let outside = 0x86 | u8::from(self.chip_data()) | inputs;
+        self.out_b & self.dir_b | outside & !self.dir_b
+    }
+
+    /// The levels of port A.
+    pub fn port_a(&self) -> u8 {
+        let outside = 0x7F | u8::from(self.inputs[4]) << 7;
+        self.out_a & self.dir_a | outside & !self.dir_a
+    }
+
+    /// The clock's wires: PB2, PB1 and PB0.
+    pub fn wires(&self) -> Wires {
+        let levels = self.port_b();
+        Wires { enable: levels & 4 != 0, data_clock: levels & 2 != 0, data: levels & 1 != 0 }
+    }
+
+    /// SEL: PA5.
+    pub fn sel(&self) -> bool {
+        self.port_a() & 0x20 != 0
+    }
+
+    /// The interrupt level.
+    pub fn level(&self) -> u8 {
+        u8::from(self.flags & self.enables != 0)
+    }
+}

@@ -1,0 +1,636 @@
+//! The library against the plain model on random lists: answers, counts and images.
+//!
+//! SWARMTEMPO_SEED takes another seed (the fixed one is 1), SWARMTEMPO_LISTS another number of lists.
+//! A difference is made small and printed.
+
+use swarmtempo::text::disassemble;
+use swarmtempo::{Address, DiskLine, Machine, Register};
+use swarmtempo_model as model;
+
+const LISTS: u64 = 250_000;
+
+/// Random numbers (splitmix64).
+struct Random(u64);
+
+impl Random {
+    fn next(&mut self) -> u64 {
+        self.0 = self.0.wrapping_add(0x9E37_79B9_7F4A_7C15);
+        let mut z = self.0;
+        z = (z ^ z >> 30).wrapping_mul(0xBF58_476D_1CE4_E5B9);
+        z = (z ^ z >> 27).wrapping_mul(0x94D0_49BB_1331_11EB);
+        z ^ z >> 31
+    }
+
+    fn below(&mut self, limit: usize) -> usize {
+        (self.next() % limit as u64) as usize
+    }
+
+    fn byte(&mut self) -> u8 {
+        self.next() as u8
+    }
+
+    fn one_in(&mut self, n: usize) -> bool {
+        self.below(n) == 0
+    }
+
+    fn pick<T: Copy>(&mut self, from: &[T]) -> T {
+        from[self.below(from.len())]
+    }
+}
+
+/// A start image, a list in parts that may be left out, and the answer room in bytes.
+#[derive(Clone)]
+struct Case {
+    image: Vec<u8>,
+    parts: Vec<Vec<u8>>,
+    room: usize,
+}
+
+/// What a run leaves.
+#[derive(PartialEq, Eq, Debug)]
+struct Left {
+    stop: u8,
+    consumed: usize,
+    written: usize,
+    answers: Vec<u8>,
+    image: Vec<u8>,
+}
+
+/// Stands in unused answer room.
+const UNUSED: u8 = 0xE7;
+
+fn by_model(case: &Case) -> Left {
+    let (mut image, mut answers) = (case.image.clone(), vec![UNUSED; case.room]);
+    let run = model::run_image(&mut image, &case.parts.concat(), &mut answers);
+    Left { stop: run.stop, consumed: run.consumed, written: run.written, answers, image }
+}
+
+extern "C" {
+    fn swarmtempo_run(
+        image: *mut u8,
+        image_len: usize,
+        list: *const u8,
+        list_len: usize,
+        answers: *mut u8,
+        answers_len: usize,
+        consumed: *mut u64,
+        written: *mut u64,
+    ) -> u8;
+}
+
+/// By the C entry itself, so that images that are not accepted can be given too.
+fn by_library(case: &Case) -> Left {
+    let (mut image, mut answers) = (case.image.clone(), vec![UNUSED; case.room]);
+    let list = case.parts.concat();
+    let (mut consumed, mut written) = (!0, !0);
+    // SAFETY: buffers of their own, with their lengths.
+    let stop = unsafe {
+        swarmtempo_run(
+            image.as_mut_ptr(),
+            image.len(),
+            list.as_ptr(),
+            list.len(),
+            answers.as_mut_ptr(),
+            answers.len(),
+            &mut consumed,
+            &mut written,
+        )
+    };
+    Left { stop, consumed: consumed as usize, written: written as usize, answers, image }
+}
+
+/// Builds a list part by part.
+struct Maker<'a> {
+    random: &'a mut Random,
+    parts: Vec<Vec<u8>>,
+}
+
+impl Maker<'_> {
+    fn record(&mut self, kind: &[u8; 2], wait: u16, rest: &[u8]) {
+        let mut part = ((4 + rest.len()) as u16).to_le_bytes().to_vec();
+        part.extend_from_slice(kind);
+        part.extend_from_slice(&wait.to_le_bytes());
+        part.extend_from_slice(rest);
+        self.parts.push(part);
+    }
+
+    /// Mostly none; else near a counter's edges, or any.
+    fn wait(&mut self) -> u16 {
+        match self.random.below(8) {
+            0..=3 => 0,
+            4 | 5 => self.random.below(6) as u16,
+            6 => self.random.pick(&[254, 255, 256, 257, 32_767, 65_533, 65_534, 65_535]),
+            _ => self.random.next() as u16,
+        }
+    }
+
+    fn wr(&mut self, wait: u16, register: Register, value: u8) {
+        let mut rest = Address::Via(register).number().to_le_bytes().to_vec();
+        rest.push(value);
+        self.record(b"WR", wait, &rest);
+    }
+
+    fn rd(&mut self, wait: u16, register: Register) {
+        self.record(b"RD", wait, &Address::Via(register).number().to_le_bytes());
+    }
+
+    fn address(&mut self) -> u32 {
+        let any = self.random.below(32);
+        let number = Address::all().nth(any).expect("32 of them").number();
+        match self.random.below(24) {
+            0 => number.wrapping_add(1),
+            1 => number ^ 1 << self.random.below(32),
+            2 => number + 512 * 16,
+            3 => number - 512,
+            _ => number,
+        }
+    }
+
+    /// Any valid item, or one with a value out of range.
+    fn item(&mut self) {
+        let wait = self.wait();
+        let odd = usize::from(self.random.one_in(12));
+        match self.random.below(12) {
+            0..=2 => {
+                let address = self.address().to_le_bytes();
+                self.record(b"RD", wait, &address);
+            }
+            3..=5 => {
+                let mut rest = self.address().to_le_bytes().to_vec();
+                rest.push(self.random.byte());
+                self.record(b"WR", wait, &rest);
+            }
+            6 => self.record(b"VB", wait, &[]),
+            7 => self.record(b"SE", wait, &[]),
+            8 => {
+                let rest = [self.random.below(5 + 3 * odd) as u8, self.random.below(2 + odd) as u8];
+                self.record(b"IN", wait, &rest);
+            }
+            9 => {
+                let rest = [
+                    self.random.below(2 + odd) as u8,
+                    self.random.below(16 + 3 * odd) as u8,
+                    self.random.below(2 + odd) as u8,
+                ];
+                self.record(b"SN", wait, &rest);
+            }
+            10 if self.random.one_in(4) => self.record(b"RS", wait, &[]),
+            10 => self.disk(),
+            _ if self.random.one_in(4) => {
+                let seconds = self.random.next() as u32;
+                let seconds = self.random.pick(&[0, 1, 5, seconds, u32::MAX]);
+                self.record(b"PW", wait, &seconds.to_le_bytes());
+            }
+            _ => self.rd(wait, Register::IFR),
+        }
+    }
+
+    /// A record of any kind and length.
+    fn odd_record(&mut self) {
+        let kinds = [
+            b"RD", b"WR", b"VB", b"SE", b"IN", b"SN", b"RS", b"PW", b"DI", b"MW", b"KC", b"ST",
+            b"SX", b"rd", b"OK",
+        ];
+        let kind = self.random.pick(&kinds);
+        let length = self.random.below(12);
+        let mut part = (length as u16).to_le_bytes().to_vec();
+        part.extend_from_slice(kind);
+        while part.len() < 2 + length {
+            part.push(self.random.byte() % 4);
+        }
+        part.truncate((2 + length).max(2));
+        if self.random.one_in(30) {
+            part.truncate(self.random.below(part.len() + 1));
+        }
+        self.parts.push(part);
+    }
+
+    fn noise(&mut self) {
+        let count = self.random.below(24);
+        let part = (0..count).map(|i| self.random.byte() % if i % 2 == 0 { 255 } else { 2 });
+        let part = part.collect();
+        self.parts.push(part);
+    }
+
+    /// Now and then something between two items of a transaction.
+    fn between(&mut self) {
+        if self.random.one_in(40) {
+            self.item();
+        }
+    }
+
+    fn command(&mut self) -> u8 {
+        match self.random.below(10) {
+            0 => self.random.byte(),
+            1 => self.random.pick(&[0x35, 0x31, 0xB5, 0xB1]),
+            2 | 3 => self.random.pick(&[0x01, 0x05, 0x09, 0x0D, 0x81, 0x85, 0x89, 0x8D]),
+            _ => {
+                let cell = self.random.below(20) as u8;
+                let write = if cell < 16 { 0x41 | cell << 2 } else { 0x21 | (cell - 16) << 2 };
+                write | self.random.pick(&[0, 0x80])
+            }
+        }
+    }
+
+    /// A transaction by port writes: enable down, bits, perhaps falls that are read, enable up.
+    fn by_port(&mut self) {
+        let high = self.random.byte() & 0xF8;
+        let dir = 7 | self.random.byte() & 0xF8;
+        let wait = self.wait();
+        self.wr(wait, Register::ORB, high | 4);
+        self.wr(0, Register::DDRB, dir);
+        let clock = self.random.pick(&[0, 2]);
+        self.wr(0, Register::ORB, high | clock);
+        let command = self.command();
+        let bits = self.bits();
+        let value = self.random.byte();
+        for i in 0..bits {
+            let bit = if i < 8 { command >> (7 - i) } else { value >> (15 - i.min(15)) } & 1;
+            self.wr(0, Register::ORB, high | bit);
+            self.between();
+            self.wr(0, Register::ORB, high | bit | 2);
+            self.between();
+        }
+        if command & 0x80 != 0 || self.random.one_in(6) {
+            let released = dir & if self.random.one_in(8) { 0xFF } else { 0xFE };
+            self.wr(0, Register::DDRB, released);
+            for _ in 0..self.random.below(11) {
+                self.wr(0, Register::ORB, high);
+                self.rd(0, Register::ORB);
+                self.between();
+                self.wr(0, Register::ORB, high | 2);
+                if self.random.one_in(4) {
+                    self.rd(0, Register::ORB);
+                }
+            }
+        }
+        if !self.random.one_in(3) {
+            let low = self.random.byte() & 3;
+            self.wr(0, Register::ORB, high | 4 | low);
+        }
+    }
+
+    /// Bits of a transaction: whole, cut, or too many.
+    fn bits(&mut self) -> u8 {
+        match self.random.below(8) {
+            0 => self.random.below(8) as u8,
+            1 => self.random.below(16) as u8,
+            2 => 15,
+            3 => 17 + self.random.below(3) as u8,
+            4 => 8,
+            _ => 16,
+        }
+    }
+
+    /// A transaction whose wires move by direction writes: an input is undriven, so 1.
+    fn by_direction(&mut self) {
+        let other = self.random.byte() & 0xF8;
+        let high = self.random.byte() & 0xF8;
+        self.wr(0, Register::ORB, high);
+        self.wr(0, Register::DDRB, other | 6);
+        let command = self.command();
+        let value = self.random.byte();
+        for i in 0..self.bits() {
+            let bit = if i < 8 { command >> (7 - i) } else { value >> (15 - i.min(15)) } & 1;
+            let low = 1 - bit;
+            self.wr(0, Register::DDRB, other | 6 | low);
+            self.between();
+            self.wr(0, Register::DDRB, other | 4 | low);
+            self.between();
+        }
+        for _ in 0..self.random.below(10) {
+            self.wr(0, Register::DDRB, other | 6);
+            self.rd(0, Register::ORB);
+            self.wr(0, Register::DDRB, other | 4);
+        }
+        if !self.random.one_in(3) {
+            let low = self.random.byte() & 3;
+            self.wr(0, Register::DDRB, other | low);
+        }
+    }
+
+    /// Loads a timer and waits around its passages.
+    fn timers(&mut self) {
+        let latch = match self.random.below(6) {
+            0 => self.random.next() as u16,
+            1 => self.random.pick(&[255, 256, 32_767, 65_534, 65_535]),
+            _ => self.random.below(5) as u16,
+        };
+        let acr = self.random.pick(&[0x00, 0x40, 0x40, 0x20, 0x60, 0xFF]);
+        self.wr(0, Register::ACR, acr);
+        if self.random.one_in(2) {
+            let enables = self.random.pick(&[0xFF, 0xC0, 0xA0, 0x40, 0x7F]);
+            self.wr(0, Register::IER, enables);
+        }
+        let (low, high) = self.random.pick(&[
+            (Register::T1CL, Register::T1CH),
+            (Register::T1LL, Register::T1CH),
+            (Register::T1LL, Register::T1LH),
+            (Register::T2CL, Register::T2CH),
+        ]);
+        self.wr(0, low, latch as u8);
+        self.wr(0, high, (latch >> 8) as u8);
+        for _ in 0..2 + self.random.below(6) {
+            let edge = u32::from(latch) * self.random.below(4) as u32 + self.random.below(6) as u32;
+            let wait = if self.random.one_in(5) { self.wait() } else { edge as u16 };
+            let register = self.random.pick(&[
+                Register::IFR,
+                Register::IFR,
+                Register::T1CL,
+                Register::T1CH,
+                Register::T2CL,
+                Register::T2CH,
+            ]);
+            match self.random.below(12) {
+                0 => self.wr(wait, Register::IFR, 0x7F),
+                1 => {
+                    let acr = self.random.pick(&[0, 0x40, 0x20, 0x60]);
+                    self.wr(wait, Register::ACR, acr);
+                }
+                2 => {
+                    let value = self.random.below(3) as u8;
+                    let any = self.random.pick(&[
+                        Register::T1CL,
+                        Register::T1CH,
+                        Register::T1LH,
+                        Register::T2CH,
+                    ]);
+                    self.wr(wait, any, value);
+                }
+                _ => self.rd(wait, register),
+            }
+        }
+    }
+
+    /// Disk lines, sense levels and reads of the sense.
+    fn disk(&mut self) {
+        for _ in 0..1 + self.random.below(8) {
+            let line = self.random.pick(&DiskLine::ALL);
+            let address = Address::Iwm(line, self.random.one_in(2)).number().to_le_bytes();
+            self.record(b"RD", 0, &address);
+        }
+        if self.random.one_in(3) {
+            let value = self.random.byte();
+            let register = self.random.pick(&[Register::ORA, Register::DDRA, Register::ORANH]);
+            self.wr(0, register, value);
+        }
+        if self.random.one_in(2) {
+            for (line, on) in [(DiskLine::ENABLE, true), (DiskLine::Q6, true)] {
+                let address = Address::Iwm(line, on).number().to_le_bytes();
+                self.record(b"RD", 0, &address);
+            }
+        }
+        let sense = Address::Iwm(DiskLine::Q7, false).number().to_le_bytes();
+        self.record(b"RD", 0, &sense);
+    }
+
+    fn part(&mut self) {
+        match self.random.below(20) {
+            0..=4 => self.by_port(),
+            5..=7 => self.by_direction(),
+            8..=11 => self.timers(),
+            12 | 13 => self.disk(),
+            14 => self.odd_record(),
+            15 if self.random.one_in(4) => self.noise(),
+            _ => (0..1 + self.random.below(8)).for_each(|_| self.item()),
+        }
+    }
+}
+
+fn some_list(random: &mut Random, most: usize) -> Vec<Vec<u8>> {
+    let count = random.below(most + 1);
+    let mut maker = Maker { random, parts: Vec::new() };
+    match maker.random.below(10) {
+        0 => maker.noise(),
+        _ => (0..count).for_each(|_| maker.part()),
+    }
+    maker.parts
+}
+
+/// An accepted image with every field at random, mostly amid a command.
+fn some_image(random: &mut Random) -> Vec<u8> {
+    let mut image: Vec<u8> = model::fresh_image().to_vec();
+    for at in (4..12).chain(14..17).chain(18..23).chain(28..53) {
+        if random.one_in(2) {
+            image[at] = random.byte();
+        }
+    }
+    image[8] = random.pick(&[0, 1, 2, 3, 255]);
+    image[9] = random.pick(&[0, 0, 255]);
+    image[21] &= 0x7F;
+    image[22] &= 0x7F;
+    for at in [12, 13, 17, 27].into_iter().chain(53..98) {
+        image[at] = random.byte() & 1;
+    }
+    let low = !random.one_in(5);
+    image[4] = image[4] & 0xFB | if low { 0 } else { 4 };
+    image[6] |= 4;
+    if low {
+        let bits = random.below(8) as u8;
+        let value = (random.next() % (1 << bits)) as u8;
+        let phase = match random.below(5) {
+            0 | 1 => {
+                // The first bits of a command, so that later ones may complete it.
+                let command = 0x41 | random.byte() & 0xBC;
+                [1, 0, bits, ((u16::from(command) << bits) >> 8) as u8]
+            }
+            2 => {
+                let command = random.pick(&[0x41, 0x7D, 0x21, 0x2D, 0x01, 0x0D, 0x31, 0x35]);
+                [2, command, bits, value]
+            }
+            3 => [3, 0, random.below(9) as u8, random.byte()],
+            _ => [4, 0, 0, 0],
+        };
+        image[23..27].copy_from_slice(&phase);
+    }
+    image
+}
+
+/// A command under way, at or past the edges of its ranges.
+fn odd_phase(random: &mut Random) -> [u8; 4] {
+    let bits = random.below(10) as u8;
+    let value = random.pick(&[0, 1, (1u32 << bits) - 1, 1 << bits, 255]) as u8;
+    let command = random.pick(&[0, 0, 0x41, 0x35, 0xC1, 0xB5, 0x42]);
+    [random.below(6) as u8, command, bits, value]
+}
+
+fn some_case(seed: u64) -> Case {
+    let random = &mut Random(seed);
+    let mut image = match random.below(4) {
+        0 | 1 => model::fresh_image().to_vec(),
+        2 => some_image(random),
+        _ => {
+            // A state that a list reached.
+            let mut image = model::fresh_image().to_vec();
+            let list = some_list(random, 3).concat();
+            model::run_image(&mut image, &list, &mut vec![0; 8 * 400]);
+            image
+        }
+    };
+    if random.one_in(12) {
+        // Mostly an image that no state has.
+        match random.below(12) {
+            0 => image.truncate(random.below(image.len())),
+            1 => image.push(0),
+            2..=6 => image[23..27].copy_from_slice(&odd_phase(random)),
+            _ => {
+                let at = random.below(image.len());
+                image[at] = random.pick(&[0, 1, 2, 3, 8, 128, 255]);
+            }
+        }
+    }
+    let parts = some_list(random, 4);
+    let whole = 8 * (parts.len() + 8);
+    let room = if random.one_in(6) { random.below(whole) } else { whole };
+    Case { image, parts, room }
+}
+
+/// The smallest case found that still differs.
+fn shrink(mut case: Case, differs: impl Fn(&Case) -> bool) -> Case {
+    let fresh = model::fresh_image().to_vec();
+    loop {
+        let plain = Case { image: fresh.clone(), ..case.clone() };
+        let mut better = Some(plain).filter(|it| it.image != case.image && differs(it));
+        if better.is_none() {
+            let wide = Case { room: 8 * (case.parts.len() + 2), ..case.clone() };
+            better = Some(wide).filter(|it| it.room != case.room && differs(it));
+        }
+        // Parts left out, many at a time and then one by one.
+        let mut width = case.parts.len();
+        while better.is_none() && width > 0 {
+            let mut at = 0;
+            while better.is_none() && at + width <= case.parts.len() {
+                let mut less = case.clone();
+                less.parts.drain(at..at + width);
+                better = Some(less).filter(&differs);
+                at += 1;
+            }
+            width /= 2;
+        }
+        // Bytes made 0, one by one, waits first.
+        for at in 0..if better.is_none() { case.parts.len() } else { 0 } {
+            for byte in 2..case.parts[at].len() {
+                let mut less = case.clone();
+                if better.is_none() && std::mem::take(&mut less.parts[at][byte]) != 0 {
+                    better = Some(less).filter(&differs);
+                }
+            }
+        }
+        match better {
+            Some(less) => case = less,
+            None => return case,
+        }
+    }
+}
+
+fn report(case: &Case, seed: u64, index: u64) -> String {
+    let list = case.parts.concat();
+    let image = if case.image == model::fresh_image() {
+        "fresh".to_string()
+    } else {
+        format!("{:02X?}", case.image)
+    };
+    format!(
+        "list {index} of seed {seed}\nimage: {image}\nanswer room: {} bytes\nlist:\n{}bytes: {list:02X?}\nmodel:   {:02X?}\nlibrary: {:02X?}",
+        case.room,
+        disassemble(&list),
+        by_model(case),
+        by_library(case),
+    )
+}
+
+fn number(name: &str, otherwise: u64) -> u64 {
+    match std::env::var(name) {
+        Ok(text) => text.parse().unwrap_or_else(|_| panic!("{name} is not a number: {text}")),
+        Err(_) => otherwise,
+    }
+}
+
+/// What the lists reached, so that none of it is missing unseen.
+#[derive(Default, Debug)]
+struct Reached {
+    stops: [u64; 8],
+    refusals: [u64; 8],
+    phases: [u64; 5],
+    protected: u64,
+    cells: u64,
+    seconds: u64,
+    asked: u64,
+    answers: u64,
+}
+
+impl Reached {
+    fn count(&mut self, case: &Case, left: &Left) {
+        self.stops[usize::from(left.stop)] += 1;
+        for answer in left.answers[..left.written].chunks(8) {
+            self.answers += 1;
+            if answer[2] == b'N' {
+                self.refusals[usize::from(answer[4])] += 1;
+            } else {
+                self.asked += u64::from(answer[5] != 0);
+            }
+        }
+        if left.stop != 7 {
+            self.phases[usize::from(left.image[23])] += 1;
+            self.protected += u64::from(left.image[27]);
+            self.cells += u64::from(left.image[33..53] != case.image[33..53]);
+            self.seconds += u64::from(left.image[29..33] != case.image[29..33]);
+        }
+    }
+
+    fn enough(&self, lists: u64) {
+        let counts = [0, 1, 6, 7].map(|i| self.stops[i]).into_iter();
+        let counts = counts.chain(self.refusals[1..=5].iter().copied()).chain(self.phases);
+        let counts = counts.chain([self.protected, self.cells, self.seconds, self.asked]);
+        for count in counts {
+            assert!(count * 500 >= lists, "too little of something: {self:?}");
+        }
+    }
+}
+
+#[test]
+fn library_equals_model() {
+    let seed = number("SWARMTEMPO_SEED", 1);
+    let lists = number("SWARMTEMPO_LISTS", LISTS);
+    println!("seed {seed}, {lists} lists");
+    let mut reached = Reached::default();
+    for index in 0..lists {
+        let case = some_case(Random(seed ^ index.wrapping_mul(0xD134_2543_DE82_EF95)).next());
+        let left = by_model(&case);
+        if by_library(&case) != left {
+            let small = shrink(case, |case| by_library(case) != by_model(case));
+            panic!("library and model differ\n{}", report(&small, seed, index));
+        }
+        reached.count(&case, &left);
+    }
+    println!("{reached:?}");
+    if lists >= 10_000 {
+        reached.enough(lists);
+    }
+}
+
+/// A difference planted on purpose is found and made small.
+#[test]
+fn a_difference_is_made_small() {
+    let differs = |case: &Case| {
+        let left = by_model(case);
+        left.stop != 7 && left.image[33] == 0xAA && case.image[33] != 0xAA
+    };
+    let mut random = Random(3);
+    let mut maker = Maker { random: &mut random, parts: Vec::new() };
+    (0..5).for_each(|_| maker.timers());
+    maker.wr(0, Register::ORB, 4);
+    maker.wr(0, Register::DDRB, 7);
+    maker.wr(0, Register::ORB, 0);
+    for i in (0..16).rev() {
+        let bit = (0x41AA >> i & 1) as u8;
+        maker.wr(9, Register::ORB, bit);
+        maker.wr(9, Register::ORB, bit | 2);
+    }
+    (0..5).for_each(|_| maker.item());
+    let parts = maker.parts;
+    let image = Machine::fresh().image().to_vec();
+    let small = shrink(Case { image, room: 4000, parts }, differs);
+    assert!(small.parts.len() <= 34, "{}", disassemble(&small.parts.concat()));
+    assert!(differs(&small));
+}

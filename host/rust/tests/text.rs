@@ -1,0 +1,186 @@
+//! The text form: there and back, and its errors.
+
+use std::io::Read;
+use swarmtempo::text::{assemble, disassemble};
+use swarmtempo::{pieces, Address, Chunks, Piece};
+
+struct Random(u64);
+
+impl Random {
+    fn next(&mut self) -> u64 {
+        self.0 = self.0.wrapping_add(0x9E37_79B9_7F4A_7C15);
+        let mut z = self.0;
+        z = (z ^ z >> 30).wrapping_mul(0xBF58_476D_1CE4_E5B9);
+        z = (z ^ z >> 27).wrapping_mul(0x94D0_49BB_1331_11EB);
+        z ^ z >> 31
+    }
+
+    fn below(&mut self, limit: u64) -> u64 {
+        self.next() % limit
+    }
+
+    fn pick<'a>(&mut self, from: &[&'a [u8]]) -> &'a [u8] {
+        from[self.below(from.len() as u64) as usize]
+    }
+}
+
+/// Records of right and wrong kinds, lengths and values, and now and then a broken rest.
+fn some_list(random: &mut Random) -> Vec<u8> {
+    let kinds: [&[u8]; 11] =
+        [b"RD", b"WR", b"VB", b"SE", b"IN", b"SN", b"RS", b"PW", b"ST", b"XX", b"rd"];
+    let mut list = Vec::new();
+    for _ in 0..random.below(12) {
+        let mut record = random.pick(&kinds).to_vec();
+        let right = match &record[..] {
+            b"RD" | b"PW" => 8,
+            b"WR" => 9,
+            b"IN" => 6,
+            b"SN" => 7,
+            _ => 4,
+        };
+        let length = if random.below(8) == 0 { 2 + random.below(90) } else { right };
+        while record.len() < length as usize {
+            let small = random.below(3) > 0;
+            record.push((random.next() % if small { 3 } else { 256 }) as u8);
+        }
+        if length >= 8 && random.below(5) > 0 {
+            let any = Address::all().nth(random.below(32) as usize).expect("32 of them");
+            record[4..8].copy_from_slice(&any.number().to_le_bytes());
+        }
+        list.extend_from_slice(&(length as u16).to_le_bytes());
+        list.extend_from_slice(&record);
+    }
+    match random.below(4) {
+        0 => (0..random.below(70)).for_each(|_| list.push(random.next() as u8)),
+        1 => list.truncate(random.below(list.len() as u64 + 1) as usize),
+        _ => {}
+    }
+    list
+}
+
+#[test]
+fn text_and_back() {
+    let mut random = Random(1);
+    for _ in 0..20_000 {
+        let list = some_list(&mut random);
+        let text = disassemble(&list);
+        assert_eq!(assemble(&text).as_ref(), Ok(&list), "{text}");
+    }
+}
+
+#[test]
+fn every_address_has_a_name() {
+    for address in Address::all() {
+        let number = assemble(&format!("0t RD ${:X}", address.number()));
+        let name = assemble(&format!("0t rd {}", address.name().to_lowercase()));
+        assert_eq!(number, name);
+        assert!(number.is_ok());
+        assert_eq!(Address::from_number(address.number()), Some(address));
+        for near in [1, 2, 256, 512 * 16, 0x0100_0000] {
+            let moved = Address::from_number(address.number() + near);
+            assert!(moved.is_none_or(|other| other != address));
+        }
+    }
+    assert_eq!(Address::from_number(0xEF_E1FF), None);
+    assert_eq!(Address::from_number(0xEF_E1FE + 512 * 16), None);
+}
+
+#[test]
+fn forms_of_the_manual() {
+    let text = "; a comment\n\n12t WR $EFE1FE $41 ; more\r\n0t SE\n0t PW 5s\n  0t\tIN 3 1\n0t SN internal 1 0\n$FFFFt RD VIA.ORB\nRAW 01 ff";
+    let bytes = assemble(text).expect("in the form");
+    let expected: [&[u8]; 7] = [
+        &[9, 0, b'W', b'R', 12, 0, 0xFE, 0xE1, 0xEF, 0, 0x41],
+        &[4, 0, b'S', b'E', 0, 0],
+        &[8, 0, b'P', b'W', 0, 0, 5, 0, 0, 0],
+        &[6, 0, b'I', b'N', 0, 0, 3, 1],
+        &[7, 0, b'S', b'N', 0, 0, 0, 1, 0],
+        &[8, 0, b'R', b'D', 0xFF, 0xFF, 0xFE, 0xE1, 0xEF, 0],
+        &[1, 0xFF],
+    ];
+    assert_eq!(bytes, expected.concat());
+}
+
+#[test]
+fn errors_have_line_and_column() {
+    for (text, line, column, part) in [
+        ("5 SE", 1, 1, "needs its unit: 5t"),
+        ("0t SE\n0t PW 5", 2, 7, "needs its unit: 5s"),
+        ("0t PW 5t", 1, 7, "seconds"),
+        ("5s SE", 1, 1, "VIA ticks"),
+        ("65536t SE", 1, 1, "0t to 65535t"),
+        ("99999999999999999999999t SE", 1, 1, "0t to 65535t"),
+        ("0t PW 4294967296s", 1, 7, "0s to 4294967295s"),
+        ("0t WR VIA.ORB 256", 1, 15, "0 to 255"),
+        ("0t WR VIA.ORB", 1, 15, "a value is missing"),
+        ("0t WR VIA.ORC 1", 1, 7, "no address has the name"),
+        ("0t WR $EFE1FF 1", 1, 7, "none of the 32"),
+        ("0t WR $1FFFFFFFF 1", 1, 7, "none of the 32"),
+        ("0t IN 5 1", 1, 7, "0 to 4"),
+        ("0t IN 0 2", 1, 9, "0 to 1"),
+        ("0t SN middle 1 0", 1, 7, "internal or external"),
+        ("0t SN internal 16 0", 1, 16, "0 to 15"),
+        ("0t SE 1", 1, 7, "too much"),
+        ("0t XX", 1, 4, "unknown kind"),
+        ("0t", 1, 4, "a kind"),
+        ("RAW 1", 1, 5, "two hexadecimal digits"),
+        ("RAW +1", 1, 5, "two hexadecimal digits"),
+        ("RAW 00 ä0", 1, 8, "two hexadecimal digits"),
+        ("\n\n   ört SE", 3, 4, "VIA ticks"),
+        ("-1t SE", 1, 1, "VIA ticks"),
+        ("0t WR VIA.ORB +1", 1, 15, "a number"),
+    ] {
+        let error = assemble(text).expect_err(text);
+        assert_eq!((error.line, error.column), (line, column), "{text}: {error}");
+        assert!(error.message.contains(part), "{text}: {error}");
+    }
+}
+
+/// Gives a few bytes at a time.
+struct Drip<'a>(&'a [u8], usize);
+
+impl Read for Drip<'_> {
+    fn read(&mut self, buffer: &mut [u8]) -> std::io::Result<usize> {
+        let count = self.1.min(self.0.len()).min(buffer.len());
+        buffer[..count].copy_from_slice(&self.0[..count]);
+        self.0 = &self.0[count..];
+        Ok(count)
+    }
+}
+
+#[test]
+fn chunks_end_between_records() {
+    let mut random = Random(2);
+    for round in 0..40 {
+        let mut list = Vec::new();
+        while list.len() < 700_000 {
+            let big = if random.below(30) == 0 { random.below(65_536) } else { random.below(40) };
+            let length = big.max(2) as u16;
+            list.extend_from_slice(&length.to_le_bytes());
+            list.extend((0..length).map(|i| i as u8));
+        }
+        match round % 4 {
+            0 => list.truncate(list.len() - 1),
+            1 => {
+                let at = pieces(&list).take(500).map(|piece| match piece {
+                    Piece::Record(bytes) | Piece::Rest(bytes) => bytes.len(),
+                });
+                let at: usize = at.sum();
+                list.splice(at..at, [1, 0]);
+            }
+            _ => {}
+        }
+        let mut chunks = Chunks::new(Drip(&list, 1 + random.below(9000) as usize));
+        let mut joined = Vec::new();
+        let mut broken = false;
+        while let Some(chunk) = chunks.next().expect("no error") {
+            assert!(!chunk.is_empty());
+            joined.extend_from_slice(chunk);
+            let rest = pieces(chunk).any(|piece| matches!(piece, Piece::Rest(_)));
+            assert!(!rest || broken || joined.len() == list.len() || round % 4 == 1);
+            broken |= rest;
+        }
+        assert_eq!(joined, list);
+        assert_eq!(chunks.broken(), round % 4 == 1);
+    }
+}
