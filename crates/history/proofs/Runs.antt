@@ -28,6 +28,7 @@ use Rattle.wiring.specs.Wiring.{pin, wiresOf}
 use Rattle.machine.specs.Machine.{cellCount, wires, acceptedOf, freshMachine}
 use Rattle.machine.specs.Step.{eventOf, viaRead, iwmRead, actedOf, waitOf, waited, stepOf, refusesOf}
 use Rattle.machine.proofs.Laws.{parts}
+use Rattle.machine.proofs.Drives.{disk-wires}
 use Rattle.run.specs.Run.{Piece, whole, broken, pieces, refused, carriedOut, turnBy, turnOf, halt, onto, onPiece, runPieces, runOf}
 use Rattle.history.specs.History.{wiresAt}
 use Rattle.history.specs.Start.{Accepted, freshStart}
@@ -67,6 +68,12 @@ done-is m i =
     let a : Machine = actedOf (waited (waitOf i) m) i .machine in
     settled-wires (a .via .ports) (a .clock) (wires m)
     ∙ ap (λ (c : Clock). stepWires cellCount c (wires m) (wires (stepOf m i .machine))) (acted-clock (waited (waitOf i) m) i)
+
+-- A DI done leaves the whole clock as it is.
+pub disk-still : (m : Machine) (w d i l b : ℕ) → Accepted cellCount (m .clock) (wires m) → stepOf m (Disk w d i l b) .machine .clock ≡ m .clock
+unfolding stepOf waitOf actedOf
+disk-still m w d i l b ok =
+    ap (stepWires cellCount (m .clock) (wires m)) (disk-wires m w d i l b) ∙ step-still cellCount (m .clock) (wires m) ok
 
 -- A refused one leaves all as it is.
 refused-is : (m : Machine) → Accepted cellCount (m .clock) (wires m) → m .clock ≡ stepClock cellCount quiet (m .clock) (wires m) (wires m)

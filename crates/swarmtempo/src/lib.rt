@@ -1,15 +1,19 @@
 // The run for C and Rust shells: numbers and byte slices, the state as a lent image.
 ghost use mathlib.Core.Path.{_≡_};
 ghost use lib.ListN.{length};
-ghost use Rattle.image.specs.Image.{imageLength};
+ghost use mathlib.Core.Bool.{true};
+ghost use Rattle.image.specs.Image.{imageLength, machineOf, validImage};
+ghost use Rattle.history.specs.Runs.{Run3};
+ghost use Rattle.units.specs.Units.{ticksOf};
 ghost use Rattle.swarmtempo.specs.Call.{callOf, callImage, callAnswers, freshStop, freshImage};
+use units::Micros;
 
 // The length of an image in bytes.
 #[no_mangle]
 pub extern "C" fn swarmtempo_image_len() -> u64
     ensures { λ r. ⌜ r ≡ imageLength ⌝ }
 {
-    98
+    121
 }
 
 // Writes the fresh machine's image. 0, or 6 where the room is shorter than an image.
@@ -18,17 +22,17 @@ pub extern "C" fn swarmtempo_fresh(image: &mut [u8]) -> u8
     ensures { λ r. ⌜ r ≡ freshStop (now (image .entry)) ⌝ }
     ensures { λ _. ⌜ now (image .exit) ≡ freshImage (now (image .entry)) ⌝ }
 {
-    if image.len() < 98 {
+    if image.len() < 121 {
         return 6;
     }
-    let mut own = [0; 98];
+    let mut own = [0; 121];
     image::save(&mut own, machine::fresh());
     record::copy(image, 0, &own);
     0
 }
 
 // Runs the list from the image's state, and leaves the image of the state reached. The stop number: 0, 1 or 6; 7 where no
-// accepted state has this image.
+// accepted state has this image. The last clause is demand 3, from the image's state.
 #[no_mangle]
 pub extern "C" fn swarmtempo_run(
     image: &mut [u8],
@@ -42,6 +46,8 @@ pub extern "C" fn swarmtempo_run(
     ensures { λ _. ⌜ now (written .exit) ≡ length (callOf (now (image .entry)) (now (list .entry)) (length (now (answers .entry))) .answers) ⌝ }
     ensures { λ _. ⌜ now (image .exit) ≡ callImage (now (image .entry)) (now (list .entry)) (length (now (answers .entry))) ⌝ }
     ensures { λ _. ⌜ now (answers .exit) ≡ callAnswers (now (image .entry)) (now (list .entry)) (now (answers .entry)) ⌝ }
+    ensures { λ _. ⌜ validImage (now (image .exit)) ≡ validImage (now (image .entry)) ⌝ }
+    ensures { λ _. ⌜ (validImage (now (image .entry)) ≡ true → Run3 (machineOf (now (image .entry))) (now (list .entry)) (length (now (answers .entry))) (machineOf (now (image .exit)))) ⌝ }
 {
     *consumed = 0;
     *written = 0;
@@ -53,4 +59,13 @@ pub extern "C" fn swarmtempo_run(
     *written = r.written as u64;
     image::save(image, r.machine);
     r.stop
+}
+
+// Microseconds in VIA ticks, rounded up.
+#[no_mangle]
+pub extern "C" fn swarmtempo_ticks_of_micros(micros: u32) -> u32
+    ensures { λ r. ⌜ r ≡ ticksOf micros ⌝ }
+{
+    let t = units::ticks_of_micros(Micros(micros));
+    t.0
 }

@@ -1,6 +1,4 @@
-use Rattle.image.specs.Image.{machineOf, Typed}
-use Rattle.image.proofs.Round.{restore-saved}
-use mathlib.Core.Path.{_≡_, refl, sym, ap, ap₂, _∙_}
+use mathlib.Core.Path.{_∙_}
 use borrow.Author.Needs.{needs}
 use Rattle.image.proofs.restored.Statement.{statement}
 use Rattle.image.proofs.restored.Tie as tie
@@ -8,19 +6,6 @@ use Rattle.image.proofs.restored.Reads as reads
 use Rattle.image.proofs.restored.Lts as lts
 use Rattle.image.proofs.load.Reads as load-reads
 use Rattle.image.proofs.save.Reads as save-reads
-
--- what the type of the machine handed in says of it
-typed : (c : tie.Start) → Typed (c .args .m)
-typed c =
-    record {
-      counter1 = search needs;
-      counter2 = search needs;
-      seconds = search needs;
-      cells = search needs;
-      lines = search needs;
-      inputs = search needs;
-      sense = search needs;
-    }
 
 -- src/lib.rt:306:5
 save-requires : tie.Need-save-requires
@@ -36,9 +21,7 @@ same-length c = search needs
 
 -- src/lib.rt:301:1
 returns : tie.Need-returns
-returns c =
-    let m = c .before .before .before .before .before .before .before .args .m in
-    (c .load .ensures ∙ ap machineOf (c .before .before .before .before .save .ensures) ∙ restore-saved m (typed (c .before .before .before .before .before .before .before)), c .before .before .before .before .save .ensures)
+returns c = (c .load .ensures ∙ c .before .before .before .before .save .ensures .1 .0, c .before .before .before .before .save .ensures .0)
 
 pub restored-spec : {M : Type 1} → statement M
 restored-spec = tie.close (tie.spec save-requires load-requires same-length returns)

@@ -51,7 +51,7 @@ unfolding validImage
 returns-2 c =
     let s = now (c .before .before .before .before .before .before .before .before .before .args .image) in
     let m : c .before .before .before .before .before .before .load .result ≡ machineOf s = c .before .before .before .before .before .before .load .ensures in
-    let w : c .before .before .before .before .save .last .0 ≡ imageOf (machineOf s) = c .before .before .before .before .save .ensures ∙ ap imageOf m in
+    let w : c .before .before .before .before .save .last .0 ≡ imageOf (machineOf s) = c .before .before .before .before .save .ensures .0 ∙ ap imageOf m in
     let e : c .before .same .result ≡ sameBytes (imageOf (machineOf s)) s = c .before .same .ensures ∙ ap (λ (x : List ℕ). sameBytes x s) w in
     let k : c .accepted .result ≡ acceptedOf (machineOf s) = c .accepted .ensures ∙ ap acceptedOf m in
     simp (eq-eqb _ _ (c .before .before .before .before .before .before .before .if1 .left), e, k)

@@ -48,7 +48,7 @@ returns-2 : tie.Need-returns-2
 unfolding freshStop freshImage
 returns-2 c =
     let d = now (c .before .before .before .before .before .before .before .before .before .before .before .args .image) in
-    let e : c .before .before .before .before .before .before .save .last .0 ≡ imageOf freshMachine = c .before .before .before .before .before .before .save .ensures ∙ ap imageOf (c .before .before .before .before .before .before .before .fresh .ensures) in
+    let e : c .before .before .before .before .before .before .save .last .0 ≡ imageOf freshMachine = c .before .before .before .before .before .before .save .ensures .0 ∙ ap imageOf (c .before .before .before .before .before .before .before .fresh .ensures) in
     simp (le-ltb _ _ (c .before .before .before .before .before .before .before .before .before .if1 .left)) (refl, c .before .before .copy .ensures ∙ ap (putAt d 0) e)
 
 pub swarmtempo-fresh-spec : {M : Type 1} → statement M
