@@ -122,7 +122,7 @@ abbrev partsOf : Machine → List (List ℕ)
 partsOf m = viaBytes (m .via) ∷ clockBytes (m .clock) ∷ m .disk .lines ∷ m .inputs ∷ m .sense ∷ drivesBytes (m .drives) ∷ []
 
 abbrev partSizes : List ℕ
-partSizes = 19 ∷ 30 ∷ 8 ∷ 5 ∷ 32 ∷ 23 ∷ []
+partSizes = 19 ∷ 30 ∷ 8 ∷ 7 ∷ 32 ∷ 23 ∷ []
 
 sized : (m : Machine) → Typed m → sizes (partsOf m) ≡ partSizes
 sized m t = simp (via-long (m .via), clock-long (m .clock) (t .cells), t .lines, t .inputs, t .sense, drives-long (m .drives))

@@ -36,7 +36,7 @@ abbrev pub inputsAt : ℕ
 inputsAt = linesAt + 8
 
 abbrev pub sensesAt : ℕ
-sensesAt = inputsAt + 5
+sensesAt = inputsAt + 7
 
 abbrev pub drivesAt : ℕ
 drivesAt = sensesAt + 32
@@ -215,6 +215,6 @@ pub record Typed (m : Machine) : Type 0 where
   pub seconds : m .clock .store .seconds < 4294967296
   pub cells : length (m .clock .store .cells) ≡ cellCount
   pub lines : length (m .disk .lines) ≡ 8
-  pub inputs : length (m .inputs) ≡ 5
+  pub inputs : length (m .inputs) ≡ 7
   pub sense : length (m .sense) ≡ 32
   pub drives : DrivesTyped (m .drives)

@@ -33,11 +33,11 @@ const LINES: usize = 53;
 
 const INPUTS: usize = 61;
 
-const SENSES: usize = 66;
+const SENSES: usize = 68;
 
-const DRIVES: usize = 98;
+const DRIVES: usize = 100;
 
-pub const LENGTH: usize = 121;
+pub const LENGTH: usize = 123;
 
 // ---- a state's bytes
 
@@ -57,7 +57,7 @@ fn flag(on: bool) -> u8
 fn head_bytes() -> [u8; 4]
     ensures { λ r. ⌜ r ≡ headBytes ⌝ }
 {
-    [119, 0, KIND[0], KIND[1]]
+    [121, 0, KIND[0], KIND[1]]
 }
 
 fn via_bytes(v: Via) -> [u8; 19]
@@ -177,7 +177,7 @@ fn save_clock(image: &mut [u8], phase: [u8; 4], registers: [u8; 6], cells: [u8; 
 }
 
 // The eight disk lines, the IN lines and the sense levels.
-fn save_levels(image: &mut [u8], lines: [u8; 8], inputs: [u8; 5], sense: [u8; 32])
+fn save_levels(image: &mut [u8], lines: [u8; 8], inputs: [u8; 7], sense: [u8; 32])
     requires { ⌜ length (now image) ≡ imageLength ⌝ }
     ensures { λ _. ⌜ now (image .exit) ≡ putAt (putAt (putAt (now (image .entry)) linesAt lines) inputsAt inputs) sensesAt sense ⌝ }
 {
@@ -329,11 +329,11 @@ fn lines_of(s: &[u8]) -> DiskLines
     DiskLines { lines: own }
 }
 
-fn inputs_of(s: &[u8]) -> [u8; 5]
-    requires { ⌜ length (now s) ≡ 5 ⌝ }
+fn inputs_of(s: &[u8]) -> [u8; 7]
+    requires { ⌜ length (now s) ≡ 7 ⌝ }
     ensures { λ r. ⌜ r ≡ now (s .entry) ⌝ }
 {
-    let mut own = [0; 5];
+    let mut own = [0; 7];
     record::copy(&mut own, 0, s);
     own
 }
@@ -433,7 +433,7 @@ pub fn valid(image: &[u8]) -> bool
         return false;
     }
     let m = load(image);
-    let mut own = [0; 121];
+    let mut own = [0; 123];
     save(&mut own, m);
     let written = same(&own, image);
     let taken = m.accepted();

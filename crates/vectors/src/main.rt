@@ -287,7 +287,7 @@ fn refused_places() {
         b"address $01EFE1FE: ",
         &[8, 0, 82, 68, 0, 0, 0xfe, 0xe1, 0xef, 1],
     );
-    one(b"IN line 5: ", &[6, 0, 73, 78, 0, 0, 5, 0]);
+    one(b"IN line 7: ", &[6, 0, 73, 78, 0, 0, 7, 0]);
 }
 
 fn refused_kinds() {

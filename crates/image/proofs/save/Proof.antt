@@ -20,7 +20,7 @@ use Rattle.image.proofs.save_via.Reads as save-via-reads
 counters : (c : tie.Start) → (c .args .m .via .t1 .counter < 65536) × (c .args .m .via .t2 .counter < 65536)
 counters c = (search needs, search needs)
 
-lengths : (c : tie.Start) → (length (c .args .m .disk .lines) ≡ 8) × (length (c .args .m .inputs) ≡ 5) × (length (c .args .m .sense) ≡ 32)
+lengths : (c : tie.Start) → (length (c .args .m .disk .lines) ≡ 8) × (length (c .args .m .inputs) ≡ 7) × (length (c .args .m .sense) ≡ 32)
 lengths c = (search needs, search needs, search needs)
 
 -- src/lib.rt:212:9
