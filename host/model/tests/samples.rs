@@ -201,6 +201,26 @@ fn seconds_wrap() {
 }
 
 #[test]
+fn test_bits_stop_the_seconds() {
+    for (test, stands) in [(0x00, false), (0x3F, false), (0x40, true), (0x80, true), (0xC0, true)] {
+        let mut b = Bench::new();
+        b.ok(&record(b"SE", 0, &[]));
+        b.send(&[0x31, test]);
+        b.wr(0, via(13), 0x7F);
+        b.ok(&record(b"SE", 0, &[]));
+        assert_eq!(b.0.via.flags, 1, "the flag comes all the same");
+        b.ok(&record(b"PW", 0, &5u32.to_le_bytes()));
+        let store = &b.0.clock.store;
+        assert_eq!((store.test, store.seconds), (test, if stands { 1 } else { 7 }));
+        b.send(&[0x01, 0x20]);
+        assert_eq!(b.0.clock.store.seconds, 0x20, "a write still acts");
+        b.send(&[0x31, 0x00]);
+        b.ok(&record(b"SE", 0, &[]));
+        assert_eq!(b.0.clock.store.seconds, 0x21);
+    }
+}
+
+#[test]
 fn register_15_clears_no_flag() {
     for (pcr, left) in [(0x00, 0), (0x02, 1), (0x04, 0), (0x06, 1), (0x08, 0), (0x0E, 0), (0xF3, 1)]
     {

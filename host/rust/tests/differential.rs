@@ -295,7 +295,7 @@ impl Maker<'_> {
     fn command(&mut self) -> u8 {
         match self.random.below(10) {
             0 => self.random.byte(),
-            1 => self.random.pick(&[0x35, 0x31, 0xB5, 0xB1]),
+            1 => self.random.pick(&[0x35, 0x31, 0x31, 0xB5, 0xB1]),
             2 | 3 => self.random.pick(&[0x01, 0x05, 0x09, 0x0D, 0x81, 0x85, 0x89, 0x8D]),
             _ => {
                 let cell = self.random.below(20) as u8;

@@ -82,7 +82,8 @@ fn clock(state: &State, out: &mut String) {
     ));
     out.push_str(&format!("  command   {}\n", phase(&state.phase)));
     out.push_str(&format!("  protect   {}\n", if state.protect { "set" } else { "clear" }));
-    out.push_str(&format!("  test      ${:02X}\n", state.test));
+    let stands = if state.test & 0xC0 == 0 { "" } else { " (the seconds stand)" };
+    out.push_str(&format!("  test      ${:02X}{stands}\n", state.test));
     out.push_str(&format!("  seconds   {} s: {}\n", state.seconds.0, date(state.seconds.0)));
     for (row, cells) in state.cells.chunks(16).enumerate() {
         let shown: Vec<String> = cells.iter().map(|cell| format!("{cell:02X}")).collect();
