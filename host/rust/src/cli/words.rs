@@ -4,7 +4,8 @@ use swarmtempo::{Command, DriveState, Machine, Phase, State};
 
 const FLAGS: [&str; 7] =
     ["0 one second", "1 vertical blanking", "2 shift register", "3 CB2", "4 CB1", "5 T2", "6 T1"];
-const INPUTS: [&str; 5] = ["mouse switch", "X2", "Y2", "H4", "PA7"];
+const INPUTS: [&str; 7] =
+    ["mouse switch", "X2", "Y2", "H4", "PA7", "serial chip asks", "programmer's switch"];
 
 /// All of a state.
 pub fn image(machine: &Machine) -> String {
