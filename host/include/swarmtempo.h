@@ -24,7 +24,7 @@ extern "C" {
 /* Bytes of an answer. */
 #define SWARMTEMPO_ANSWER_LEN 8
 /* Bytes of a state image of this version; swarmtempo_image_len() says the same. */
-#define SWARMTEMPO_IMAGE_LEN 121
+#define SWARMTEMPO_IMAGE_LEN 123
 /* Bytes of the longest item that the functions below write. */
 #define SWARMTEMPO_ITEM_MAX 11
 
@@ -116,7 +116,7 @@ static inline size_t swarmtempo_se(uint8_t *at, uint16_t wait)
     return swarmtempo_item(at, 'S', 'E', wait, 0);
 }
 
-/* Sets IN line 0 to 4 (mouse switch, X2, Y2, H4, PA7) to level 0 or 1. */
+/* Sets IN line 0 to 6 (mouse switch, X2, Y2, H4, PA7, serial chip asks, programmer's switch) to level 0 or 1. */
 static inline size_t swarmtempo_in(uint8_t *at, uint16_t wait, uint8_t line, uint8_t level)
 {
     at[6] = line;

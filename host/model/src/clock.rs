@@ -98,9 +98,11 @@ impl Store {
         }
     }
 
-    /// Time passes: one-second ticks or time off.
+    /// Time passes: one-second ticks or time off. The seconds stand while test bit 7 or 6 is 1.
     pub fn advance(&mut self, seconds: u32) {
-        self.seconds = self.seconds.wrapping_add(seconds);
+        if self.test & 0xC0 == 0 {
+            self.seconds = self.seconds.wrapping_add(seconds);
+        }
     }
 }
 

@@ -6,7 +6,7 @@ use crate::refusal;
 use crate::run::Run;
 
 /// Bytes of an image, its length included.
-pub const IMAGE_LEN: usize = 121;
+pub const IMAGE_LEN: usize = 123;
 
 struct Writer {
     bytes: [u8; IMAGE_LEN],
@@ -121,6 +121,7 @@ impl Machine {
         }
         w.put(&self.drives.strobe.ticks.to_le_bytes());
         w.flag(self.drives.strobe.steady);
+        w.levels(u32::from(self.inputs) >> 5, 2);
         debug_assert_eq!(w.at, IMAGE_LEN);
         w.bytes
     }
@@ -168,6 +169,7 @@ impl Machine {
         }
         m.drives.strobe.ticks = u32::from_le_bytes(r.take()?);
         m.drives.strobe.steady = r.flag()?;
+        m.inputs |= (r.levels(2)? as u8) << 5;
         debug_assert!(r.bytes.is_empty());
         m.accepted().then_some(m)
     }

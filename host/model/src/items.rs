@@ -96,7 +96,7 @@ pub fn decode(record: &[u8]) -> Result<(u16, Item), u8> {
         },
         b"VB" => Item::Blank,
         b"SE" => Item::Second,
-        b"IN" => Item::Line { line: below(body[0], 5)?, level: level(body[1])? },
+        b"IN" => Item::Line { line: below(body[0], 7)?, level: level(body[1])? },
         b"SN" => Item::Sense {
             drive: below(body[0], 2)?,
             register: below(body[1], 16)?,

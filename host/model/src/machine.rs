@@ -21,7 +21,7 @@ pub struct Machine {
     pub clock: Clock,
     /// CA0, CA1, CA2, LSTRB, ENABLE, SELECT, Q6, Q7 in bits 0 to 7; 1 is on.
     pub lines: u8,
-    /// The IN lines, line k in bit k.
+    /// The IN lines, line k in bit k: 5 is the serial chip, 6 the programmer's switch.
     pub inputs: u8,
     /// Register r of the internal drive in bit r, of the external drive in bit 16 + r.
     pub sense: u32,
@@ -75,9 +75,11 @@ impl Machine {
         self.via.port_a(self.input_a()) & 0x20 != 0
     }
 
-    /// The interrupt level.
+    /// The interrupt level: 4 for the switch, 2 for the serial chip, 1 for the VIA while the serial
+    /// chip is not asking.
     pub fn level(&self) -> u8 {
-        u8::from(self.via.asks())
+        let (serial, switch) = (self.inputs & 0x20 != 0, self.inputs & 0x40 != 0);
+        4 * u8::from(switch) + 2 * u8::from(serial) + u8::from(self.via.asks() && !serial)
     }
 
     /// True for an accepted state, whose chip is idle exactly while enable is 1. The other ranges are

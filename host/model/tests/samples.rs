@@ -135,7 +135,7 @@ fn refusals() {
     assert_eq!(b.refused(&read(0xEFE1FE + 512 * 16)), 4);
     assert_eq!(b.refused(&read(0xEFE1FE - 512)), 4);
     assert_eq!(b.refused(&read(0xDFE1FF + 512 * 16)), 4);
-    assert_eq!(b.refused(&record(b"IN", 9, &[5, 0])), 5);
+    assert_eq!(b.refused(&record(b"IN", 9, &[7, 0])), 5);
     assert_eq!(b.refused(&record(b"IN", 9, &[0, 2])), 5);
     assert_eq!(b.refused(&record(b"SN", 9, &[2, 0, 0])), 5);
     assert_eq!(b.refused(&record(b"SN", 9, &[0, 16, 0])), 5);
@@ -198,6 +198,26 @@ fn seconds_wrap() {
     b.ok(&record(b"PW", 0, &u32::MAX.to_le_bytes()));
     b.ok(&record(b"SE", 0, &[]));
     assert_eq!(b.0.clock.store.seconds, 0);
+}
+
+#[test]
+fn test_bits_stop_the_seconds() {
+    for (test, stands) in [(0x00, false), (0x3F, false), (0x40, true), (0x80, true), (0xC0, true)] {
+        let mut b = Bench::new();
+        b.ok(&record(b"SE", 0, &[]));
+        b.send(&[0x31, test]);
+        b.wr(0, via(13), 0x7F);
+        b.ok(&record(b"SE", 0, &[]));
+        assert_eq!(b.0.via.flags, 1, "the flag comes all the same");
+        b.ok(&record(b"PW", 0, &5u32.to_le_bytes()));
+        let store = &b.0.clock.store;
+        assert_eq!((store.test, store.seconds), (test, if stands { 1 } else { 7 }));
+        b.send(&[0x01, 0x20]);
+        assert_eq!(b.0.clock.store.seconds, 0x20, "a write still acts");
+        b.send(&[0x31, 0x00]);
+        b.ok(&record(b"SE", 0, &[]));
+        assert_eq!(b.0.clock.store.seconds, 0x21);
+    }
 }
 
 #[test]
@@ -312,6 +332,30 @@ fn inputs_show_in_the_ports() {
 }
 
 #[test]
+fn interrupt_level_from_three_lines() {
+    let mut seen = Vec::new();
+    for bits in 0..8u8 {
+        let mut b = Bench::new();
+        b.wr(0, via(14), 0x81);
+        if bits & 1 != 0 {
+            b.ok(&record(b"SE", 0, &[]));
+        }
+        b.ok(&record(b"IN", 0, &[5, bits >> 1 & 1]));
+        let level = b.ok(&record(b"IN", 0, &[6, bits >> 2]))[1];
+        let via_asks = bits & 3 == 1;
+        assert_eq!(level, (bits & 6) + u8::from(via_asks));
+        assert_eq!(b.value(13), if bits & 1 != 0 { 0x81 } else { 0 }, "the VIA's own");
+        assert_eq!((b.value(0), b.value(15)), (0xFF, 0xFF), "neither shows in a port");
+        b.ok(&record(b"RS", 0, &[]));
+        assert_eq!(b.ok(&record(b"PW", 0, &[0; 4]))[1], bits & 6, "kept");
+        seen.push(level);
+    }
+    seen.sort_unstable();
+    seen.dedup();
+    assert_eq!(seen, [0, 1, 2, 4, 5, 6]);
+}
+
+#[test]
 fn reset_keeps_counters_latches_and_register_10() {
     let mut b = Bench::new();
     for register in 0..16 {
@@ -361,7 +405,7 @@ fn images_come_back() {
     b.bit(1);
     b.bit(0);
     let mut image = b.0.image();
-    assert_eq!(image[..4], [119, 0, b'S', b'T']);
+    assert_eq!(image[..4], [121, 0, b'S', b'T']);
     assert_eq!(image[23..27], [2, 0x41, 2, 2]);
     assert_eq!(Machine::from_image(&image), Some(b.0.clone()));
     let mut answers = [0; 8];
@@ -371,7 +415,7 @@ fn images_come_back() {
     assert_eq!(image, b.0.image());
     let fresh = fresh_image();
     assert_eq!(fresh[61..98], [1; 37]);
-    assert_eq!(fresh[98..], [0; 23]);
+    assert_eq!(fresh[98..], [0; 25]);
     assert!(fresh[4..61].iter().all(|&byte| byte == 0));
 }
 
@@ -398,9 +442,10 @@ fn images_that_no_state_has() {
     };
     refused(&with(&fresh, &[(0, 96)]), "length");
     refused(&[&[96, 0][..], &fresh[2..98]].concat(), "an older length");
+    refused(&[&[119, 0][..], &fresh[2..121]].concat(), "an older length");
     refused(&with(&fresh, &[(1, 1)]), "length, high byte");
     refused(&with(&fresh, &[(3, b'X')]), "kind");
-    for at in (12..14).chain([17, 27]).chain(53..98) {
+    for at in (12..14).chain([17, 27]).chain(53..98).chain(121..123) {
         refused(&with(&fresh, &[(at, 2)]), "level");
     }
     for at in [21, 22] {

@@ -95,7 +95,8 @@ impl fmt::Display for Lines {
 pub struct Seen {
     /// The value read, 0 unless the item reads.
     pub value: u8,
-    /// The interrupt level.
+    /// The interrupt level: 4 for the programmer's switch, 2 for the serial chip, 1 for the VIA while
+    /// the serial chip is not asking.
     pub level: u8,
     /// The disk lines.
     pub lines: Lines,

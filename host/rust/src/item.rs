@@ -189,13 +189,14 @@ impl Drive {
     }
 }
 
-/// An input line that IN sets: 0 mouse switch, 1 X2, 2 Y2, 3 H4, 4 PA7.
+/// An input line that IN sets: 0 mouse switch, 1 X2, 2 Y2, 3 H4, 4 PA7, 5 serial chip asks,
+/// 6 programmer's switch.
 #[derive(Clone, Copy, Debug, PartialEq, Eq, Hash)]
 pub struct InLine(u8);
 
 impl InLine {
     /// How many there are.
-    pub const COUNT: u8 = 5;
+    pub const COUNT: u8 = 7;
 
     /// The line of a number below [`InLine::COUNT`].
     pub fn new(number: u8) -> Option<InLine> {

@@ -202,7 +202,7 @@ impl State {
     pub(crate) fn of_accepted(image: &[u8]) -> State {
         let mut f = Fields(image);
         let _length_and_kind: [u8; 4] = f.bytes();
-        State {
+        let mut state = State {
             out_b: f.byte(),
             out_a: f.byte(),
             dir_b: f.byte(),
@@ -229,7 +229,9 @@ impl State {
             sense: [f.flags(), f.flags()],
             drives: [f.drive(), f.drive()],
             strobe: Strobe { ticks: u32::from_le_bytes(f.bytes()), steady: f.flag() },
-        }
+        };
+        state.inputs.extend(f.flags::<2>());
+        state
     }
 
     /// The level of the clock's data line as the chip gives it; 1 where it does not drive it.
@@ -266,6 +268,8 @@ impl State {
 
     /// The interrupt level.
     pub fn level(&self) -> u8 {
-        u8::from(self.flags & self.enables != 0)
+        let (serial, switch) = (self.inputs[5], self.inputs[6]);
+        let via = self.flags & self.enables != 0 && !serial;
+        4 * u8::from(switch) + 2 * u8::from(serial) + u8::from(via)
     }
 }

@@ -163,7 +163,7 @@ impl Maker<'_> {
             6 => self.record(b"VB", wait, &[]),
             7 => self.record(b"SE", wait, &[]),
             8 => {
-                let rest = [self.random.below(5 + 3 * odd) as u8, self.random.below(2 + odd) as u8];
+                let rest = [self.random.below(7 + 3 * odd) as u8, self.random.below(2 + odd) as u8];
                 self.record(b"IN", wait, &rest);
             }
             9 => {
@@ -295,7 +295,7 @@ impl Maker<'_> {
     fn command(&mut self) -> u8 {
         match self.random.below(10) {
             0 => self.random.byte(),
-            1 => self.random.pick(&[0x35, 0x31, 0xB5, 0xB1]),
+            1 => self.random.pick(&[0x35, 0x31, 0x31, 0xB5, 0xB1]),
             2 | 3 => self.random.pick(&[0x01, 0x05, 0x09, 0x0D, 0x81, 0x85, 0x89, 0x8D]),
             _ => {
                 let cell = self.random.below(20) as u8;
@@ -493,7 +493,7 @@ fn some_image(random: &mut Random) -> Vec<u8> {
     image[9] = random.pick(&[0, 0, 255]);
     image[21] &= 0x7F;
     image[22] &= 0x7F;
-    for at in [12, 13, 17, 27].into_iter().chain(53..98) {
+    for at in [12, 13, 17, 27].into_iter().chain(53..98).chain(121..123) {
         image[at] = random.byte() & 1;
     }
     for drive in [98, 107] {

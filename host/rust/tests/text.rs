@@ -116,7 +116,7 @@ fn errors_have_line_and_column() {
         ("0t WR VIA.ORC 1", 1, 7, "no address has the name"),
         ("0t WR $EFE1FF 1", 1, 7, "none of the 32"),
         ("0t WR $1FFFFFFFF 1", 1, 7, "none of the 32"),
-        ("0t IN 5 1", 1, 7, "0 to 4"),
+        ("0t IN 7 1", 1, 7, "0 to 6"),
         ("0t IN 0 2", 1, 9, "0 to 1"),
         ("0t SN middle 1 0", 1, 7, "internal or external"),
         ("0t SN internal 16 0", 1, 16, "0 to 15"),

@@ -4,7 +4,8 @@ use swarmtempo::{Command, DriveState, Machine, Phase, State};
 
 const FLAGS: [&str; 7] =
     ["0 one second", "1 vertical blanking", "2 shift register", "3 CB2", "4 CB1", "5 T2", "6 T1"];
-const INPUTS: [&str; 5] = ["mouse switch", "X2", "Y2", "H4", "PA7"];
+const INPUTS: [&str; 7] =
+    ["mouse switch", "X2", "Y2", "H4", "PA7", "serial chip asks", "programmer's switch"];
 
 /// All of a state.
 pub fn image(machine: &Machine) -> String {
@@ -82,7 +83,8 @@ fn clock(state: &State, out: &mut String) {
     ));
     out.push_str(&format!("  command   {}\n", phase(&state.phase)));
     out.push_str(&format!("  protect   {}\n", if state.protect { "set" } else { "clear" }));
-    out.push_str(&format!("  test      ${:02X}\n", state.test));
+    let stands = if state.test & 0xC0 == 0 { "" } else { " (the seconds stand)" };
+    out.push_str(&format!("  test      ${:02X}{stands}\n", state.test));
     out.push_str(&format!("  seconds   {} s: {}\n", state.seconds.0, date(state.seconds.0)));
     for (row, cells) in state.cells.chunks(16).enumerate() {
         let shown: Vec<String> = cells.iter().map(|cell| format!("{cell:02X}")).collect();
