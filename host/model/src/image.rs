@@ -109,7 +109,7 @@ impl Machine {
         w.put(&store.seconds.to_le_bytes());
         w.put(&store.cells);
         w.levels(self.lines.into(), 8);
-        w.levels(self.inputs.into(), 5);
+        w.levels(self.inputs.into(), 7);
         w.levels(self.sense, 32);
         for drive in &self.drives.drives {
             w.put(&[drive.track]);
@@ -121,7 +121,6 @@ impl Machine {
         }
         w.put(&self.drives.strobe.ticks.to_le_bytes());
         w.flag(self.drives.strobe.steady);
-        w.levels(u32::from(self.inputs) >> 5, 2);
         debug_assert_eq!(w.at, IMAGE_LEN);
         w.bytes
     }
@@ -155,7 +154,7 @@ impl Machine {
         store.seconds = u32::from_le_bytes(r.take()?);
         store.cells = r.take::<CELLS>()?;
         m.lines = r.levels(8)? as u8;
-        m.inputs = r.levels(5)? as u8;
+        m.inputs = r.levels(7)? as u8;
         m.sense = r.levels(32)?;
         for drive in &mut m.drives.drives {
             drive.track = r.byte()?;
@@ -169,7 +168,6 @@ impl Machine {
         }
         m.drives.strobe.ticks = u32::from_le_bytes(r.take()?);
         m.drives.strobe.steady = r.flag()?;
-        m.inputs |= (r.levels(2)? as u8) << 5;
         debug_assert!(r.bytes.is_empty());
         m.accepted().then_some(m)
     }

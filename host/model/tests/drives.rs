@@ -266,7 +266,7 @@ fn ranges_in_images() {
     b.line(0, LSTRB, true);
     b.ok(&record(b"VB", 700, &[]));
     let image = b.0.image();
-    assert_eq!(image[116..121], [188, 2, 0, 0, 1]);
+    assert_eq!(image[118..123], [188, 2, 0, 0, 1]);
     assert_eq!(Machine::from_image(&image), Some(b.0.clone()));
     let with = |changes: &[(usize, u8)]| {
         let mut image = image;
@@ -274,21 +274,21 @@ fn ranges_in_images() {
         Machine::from_image(&image).is_some()
     };
     assert!(with(&[]));
-    assert!(!with(&[(98, 80)]), "track");
-    assert!(with(&[(98, 79)]));
-    for at in (99..104).chain([106, 120]).chain(108..113).chain([115]) {
+    assert!(!with(&[(100, 80)]), "track");
+    assert!(with(&[(100, 79)]));
+    for at in (101..106).chain([108, 122]).chain(110..115).chain([117]) {
         assert!(!with(&[(at, 2)]), "level at {at}");
     }
-    assert!(!with(&[(100, 0)]), "locked with no disk");
-    assert!(!with(&[(100, 0), (101, 0), (103, 1)]), "motor with no disk");
-    assert!(!with(&[(106, 1)]), "a direction with no step");
-    assert!(with(&[(104, 1), (106, 1)]));
-    assert!(with(&[(104, 0xB9), (105, 0x24)]), "9,401 ticks left");
-    assert!(!with(&[(104, 0xBA), (105, 0x24)]), "9,402 ticks left");
-    assert!(!with(&[(120, 0)]), "ticks of a strobe that is spoilt");
-    assert!(with(&[(120, 0), (116, 0), (117, 0)]));
+    assert!(!with(&[(102, 0)]), "locked with no disk");
+    assert!(!with(&[(102, 0), (103, 0), (105, 1)]), "motor with no disk");
+    assert!(!with(&[(108, 1)]), "a direction with no step");
+    assert!(with(&[(106, 1), (108, 1)]));
+    assert!(with(&[(106, 0xB9), (107, 0x24)]), "9,401 ticks left");
+    assert!(!with(&[(106, 0xBA), (107, 0x24)]), "9,402 ticks left");
+    assert!(!with(&[(122, 0)]), "ticks of a strobe that is spoilt");
+    assert!(with(&[(122, 0), (118, 0), (119, 0)]));
     assert!(!with(&[(56, 0)]), "LSTRB off");
     assert!(!with(&[(57, 0)]), "ENABLE off");
-    assert!(with(&[(116, 0x00), (117, 0xFA), (118, 0x05)]), "391,680 ticks");
-    assert!(!with(&[(116, 0x01), (117, 0xFA), (118, 0x05)]), "391,681 ticks");
+    assert!(with(&[(118, 0x00), (119, 0xFA), (120, 0x05)]), "391,680 ticks");
+    assert!(!with(&[(118, 0x01), (119, 0xFA), (120, 0x05)]), "391,681 ticks");
 }

@@ -414,8 +414,10 @@ fn images_come_back() {
     b.ok(&record(b"SE", 0, &[]));
     assert_eq!(image, b.0.image());
     let fresh = fresh_image();
-    assert_eq!(fresh[61..98], [1; 37]);
-    assert_eq!(fresh[98..], [0; 25]);
+    assert_eq!(fresh[61..66], [1; 5]);
+    assert_eq!(fresh[66..68], [0; 2]);
+    assert_eq!(fresh[68..100], [1; 32]);
+    assert_eq!(fresh[100..], [0; 23]);
     assert!(fresh[4..61].iter().all(|&byte| byte == 0));
 }
 
@@ -445,7 +447,7 @@ fn images_that_no_state_has() {
     refused(&[&[119, 0][..], &fresh[2..121]].concat(), "an older length");
     refused(&with(&fresh, &[(1, 1)]), "length, high byte");
     refused(&with(&fresh, &[(3, b'X')]), "kind");
-    for at in (12..14).chain([17, 27]).chain(53..98).chain(121..123) {
+    for at in (12..14).chain([17, 27]).chain(53..100) {
         refused(&with(&fresh, &[(at, 2)]), "level");
     }
     for at in [21, 22] {

@@ -225,12 +225,11 @@ impl State {
                     .enumerate()
                     .fold(0, |byte, (i, &on)| byte | u8::from(on) << i),
             ),
-            inputs: f.flags::<5>().to_vec(),
+            inputs: f.flags::<7>().to_vec(),
             sense: [f.flags(), f.flags()],
             drives: [f.drive(), f.drive()],
             strobe: Strobe { ticks: u32::from_le_bytes(f.bytes()), steady: f.flag() },
         };
-        state.inputs.extend(f.flags::<2>());
         state
     }
 

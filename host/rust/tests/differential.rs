@@ -493,10 +493,10 @@ fn some_image(random: &mut Random) -> Vec<u8> {
     image[9] = random.pick(&[0, 0, 255]);
     image[21] &= 0x7F;
     image[22] &= 0x7F;
-    for at in [12, 13, 17, 27].into_iter().chain(53..98).chain(121..123) {
+    for at in [12, 13, 17, 27].into_iter().chain(53..100) {
         image[at] = random.byte() & 1;
     }
-    for drive in [98, 107] {
+    for drive in [100, 109] {
         let disk = random.byte() & 1;
         let left = random.pick(&[0u16, 0, 1, 2, 9_400, 9_401]);
         let fields = [
@@ -513,8 +513,8 @@ fn some_image(random: &mut Random) -> Vec<u8> {
     }
     if image[56] == 1 && image[57] == 1 && !random.one_in(4) {
         let ticks = random.pick(&[0u32, 1, 782, 783, 784, 391_679, 391_680]);
-        image[116..120].copy_from_slice(&ticks.to_le_bytes());
-        image[120] = 1;
+        image[118..122].copy_from_slice(&ticks.to_le_bytes());
+        image[122] = 1;
     }
     let low = !random.one_in(5);
     image[4] = image[4] & 0xFB | if low { 0 } else { 4 };
@@ -550,7 +550,7 @@ fn odd_phase(random: &mut Random) -> [u8; 4] {
 
 /// A field of the drives or of the strobe at or past the edges of its range.
 fn odd_drives(random: &mut Random, image: &mut [u8]) {
-    let drive = random.pick(&[98, 107]);
+    let drive = random.pick(&[100, 109]);
     match random.below(5) {
         0 => image[drive] = random.pick(&[79, 80, 255]),
         1 => {
@@ -560,8 +560,8 @@ fn odd_drives(random: &mut Random, image: &mut [u8]) {
         }
         2 => {
             let ticks = random.pick(&[0u32, 1, 391_680, 391_681, 1 << 24]);
-            image[116..120].copy_from_slice(&ticks.to_le_bytes());
-            image[120] = random.byte() & 1;
+            image[118..122].copy_from_slice(&ticks.to_le_bytes());
+            image[122] = random.byte() & 1;
         }
         3 => image[56 + random.below(2)] ^= 1,
         _ => image[drive + 1 + random.below(5)] ^= random.pick(&[1, 1, 2]),
@@ -692,9 +692,9 @@ impl Reached {
             self.phases[usize::from(left.image[23])] += 1;
             self.protected += u64::from(left.image[27]);
             self.cells += u64::from(left.image[33..53] != case.image[33..53]);
-            self.moved += u64::from(left.image[98] != case.image[98]);
-            self.motors += u64::from(left.image[103] != case.image[103]);
-            self.strobes += u64::from(left.image[120]);
+            self.moved += u64::from(left.image[100] != case.image[100]);
+            self.motors += u64::from(left.image[105] != case.image[105]);
+            self.strobes += u64::from(left.image[122]);
             self.seconds += u64::from(left.image[29..33] != case.image[29..33]);
         }
     }
