@@ -11,7 +11,7 @@ ghost use Rattle.swarmtempo.specs.Call.{callOf, callImage, callAnswers, 
 pub extern "C" fn swarmtempo_image_len() -> u64
     ensures { λ r. ⌜ r ≡ imageLength ⌝ }
 {
-    98
+    image::LENGTH as u64
 }
 
 // Writes the fresh machine's image. 0, or 6 where the room is shorter than an image.
@@ -20,10 +20,10 @@ pub extern "C" fn swarmtempo_fresh(image: &mut [u8]) -> u8
     ensures { λ r. ⌜ r ≡ freshStop (now (image .entry)) ⌝ }
     ensures { λ _. ⌜ now (image .exit) ≡ freshImage (now (image .entry)) ⌝ }
 {
-    if image.len() < 98 {
+    if image.len() < image::LENGTH {
         return 6;
     }
-    let mut own = [0; 98];
+    let mut own = [0; image::LENGTH];
     image::save(&mut own, machine::fresh());
     record::copy(image, 0, &own);
     0
