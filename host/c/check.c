@@ -87,12 +87,21 @@ static void save_and_restore(void)
     }
 }
 
+static void micros(void)
+{
+    expect(swarmtempo_ticks_of_micros(0) == 0 && swarmtempo_ticks_of_micros(1) == 1, "few microseconds");
+    expect(swarmtempo_ticks_of_micros(12000) == 9401, "12 ms");
+    expect(swarmtempo_ticks_of_micros(500000) == 391680, "half a second");
+    expect(swarmtempo_ticks_of_micros(0xFFFFFFFF) == 3364505581ul, "most microseconds");
+}
+
 int main(void)
 {
     expect(swarmtempo_image_len() == SWARMTEMPO_IMAGE_LEN, "image length");
     if (failures) return EXIT_FAILURE;
     sample_2();
     sample_4();
+    micros();
     save_and_restore();
     return failures ? EXIT_FAILURE : EXIT_SUCCESS;
 }

@@ -24,11 +24,11 @@ extern "C" {
 /* Bytes of an answer. */
 #define SWARMTEMPO_ANSWER_LEN 8
 /* Bytes of a state image of this version; swarmtempo_image_len() says the same. */
-#define SWARMTEMPO_IMAGE_LEN 98
+#define SWARMTEMPO_IMAGE_LEN 121
 /* Bytes of the longest item that the functions below write. */
 #define SWARMTEMPO_ITEM_MAX 11
 
-/* How a run stopped (0, 1, 6, 7), and the numbers of NO answers (1 to 5). */
+/* How a run stopped (0, 1, 6, 7), and the numbers of NO answers (1 to 5, 8). */
 #define SWARMTEMPO_END 0u             /* the end of the list */
 #define SWARMTEMPO_REFUSED_CUT 1u     /* a cut record or a length below 2; NO 1 is written, the run stops before it */
 #define SWARMTEMPO_REFUSED_KIND 2u    /* unknown kind */
@@ -37,6 +37,7 @@ extern "C" {
 #define SWARMTEMPO_REFUSED_RANGE 5u   /* line, drive, register or level out of range */
 #define SWARMTEMPO_REFUSED_ROOM 6u    /* list bytes remain, fewer than 8 answer bytes left; the item is not done */
 #define SWARMTEMPO_REFUSED_STATE 7u   /* the image is none of an accepted state; no buffer is changed */
+#define SWARMTEMPO_REFUSED_DISK 8u    /* a disk inserted where one is, or removed where none is */
 
 /* Address of VIA register r, 0 to 15, and of IWM location k, 0 to 15. */
 #define SWARMTEMPO_VIA(r) ((uint32_t)(0xEFE1FEul + 512ul * (r)))
@@ -61,6 +62,9 @@ uint64_t swarmtempo_image_len(void);
  * swarmtempo_image_len(), and then writes nothing. Bytes past the image keep their contents.
  */
 uint8_t swarmtempo_fresh(uint8_t *image, size_t image_len);
+
+/* Microseconds as VIA ticks, rounded up. */
+uint32_t swarmtempo_ticks_of_micros(uint32_t micros);
 
 /*
  * Writers of items. Each writes one record at `at`, which has room for SWARMTEMPO_ITEM_MAX bytes, and
@@ -127,6 +131,19 @@ static inline size_t swarmtempo_sn(uint8_t *at, uint16_t wait, uint8_t drive, ui
     at[7] = reg;
     at[8] = level;
     return swarmtempo_item(at, 'S', 'N', wait, 3);
+}
+
+/*
+ * Inserts a disk into drive 0 (internal) or 1 (external), or removes it: insert 1 or 0; locked and
+ * double_sided, 0 or 1, count on insertion only.
+ */
+static inline size_t swarmtempo_di(uint8_t *at, uint16_t wait, uint8_t drive, uint8_t insert, uint8_t locked, uint8_t double_sided)
+{
+    at[6] = drive;
+    at[7] = insert;
+    at[8] = locked;
+    at[9] = double_sided;
+    return swarmtempo_item(at, 'D', 'I', wait, 4);
 }
 
 /* Reset. */

@@ -11,6 +11,9 @@ use Rattle.clock.specs.Wire.{named, decode, replace}
 use Rattle.clock.specs.Step.{between, fetch, next, acts, put, act, stepWires, shown, acceptedPhase}
 use Rattle.clock.specs.declared.Target.the-variants.{Cell}
 use Rattle.iwm.specs.Lines.{linesOff}
+use Rattle.drive.specs.Drive.{acceptedDrive}
+use Rattle.strobe.specs.Strobe.{acceptedStrobe}
+use Rattle.drives.specs.Drives.{acceptedDrives}
 use Rattle.items.specs.Items.{isKind, placeFrom, foundOf, writeOf, powerOf, decodedOf}
 use Rattle.machine.specs.declared.Machine.{Machine}
 use Rattle.wiring.specs.Wiring.{wiresOf}
@@ -87,7 +90,7 @@ pub record RunExamples : Type 0 where
 
 pub runExamples : RunExamples
 unfolding runOf runPieces onPiece onto piecesFrom cut turnOf frameOf le16Of le32Of decodedOf isKind writeOf powerOf foundOf placeFrom
-    stepOf waitOf eventOf actedOf refusesOf acceptedOf allLevels linesOff acceptedVia freshVia ticks written portsWritten wiresOf
+    stepOf waitOf eventOf actedOf refusesOf acceptedOf acceptedDrives acceptedDrive acceptedStrobe allLevels linesOff acceptedVia freshVia ticks written portsWritten wiresOf
     acceptedPhase shown stepWires between next acts act put decode named fetch replace
     answeredAfter stateAfter historyOf wiresAt rises ended protectAt endedClear last secondsAt
 runExamples = record {

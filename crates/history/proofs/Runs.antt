@@ -15,8 +15,11 @@ use Rattle.clock.specs.Step.{withStore, counted, stepWires, stepClock, shown, a
 use Rattle.clock.proofs.Line.{settled-step}
 use Rattle.clock.specs.declared.Wires.{Wires}
 use Rattle.clock.specs.declared.Clock.{Clock}
+use Rattle.drive.specs.Drive.{acceptedDrive}
+use Rattle.strobe.specs.Strobe.{acceptedStrobe}
+use Rattle.drives.specs.Drives.{acceptedDrives}
 use Rattle.items.specs.declared.Item.{Item}
-use Rattle.items.specs.declared.Item.the-variants.{ReadVia, ReadIwm, WriteVia, WriteIwm, Blank, Second, Line, Sense, Reset, Power}
+use Rattle.items.specs.declared.Item.the-variants.{ReadVia, ReadIwm, WriteVia, WriteIwm, Blank, Second, Line, Sense, Reset, Power, Disk}
 use Rattle.items.specs.declared.Decoded.{Decoded}
 use Rattle.items.specs.declared.Decoded.the-variants.{Done, Refused}
 use Rattle.items.specs.Items.{decodedOf}
@@ -25,6 +28,7 @@ use Rattle.wiring.specs.Wiring.{pin, wiresOf}
 use Rattle.machine.specs.Machine.{cellCount, wires, acceptedOf, freshMachine}
 use Rattle.machine.specs.Step.{eventOf, viaRead, iwmRead, actedOf, waitOf, waited, stepOf, refusesOf}
 use Rattle.machine.proofs.Laws.{parts}
+use Rattle.machine.proofs.Drives.{disk-wires}
 use Rattle.run.specs.Run.{Piece, whole, broken, pieces, refused, carriedOut, turnBy, turnOf, halt, onto, onPiece, runPieces, runOf}
 use Rattle.history.specs.History.{wiresAt}
 use Rattle.history.specs.Start.{Accepted, freshStart}
@@ -49,6 +53,7 @@ acted-clock m (Line w l v) = refl
 acted-clock m (Sense w d r v) = refl
 acted-clock m (Reset w) = refl
 acted-clock m (Power w s) = refl
+acted-clock m (Disk w d i l b) = refl
 
 -- The step by the wires with the data line as it was shown before is the step by the wires as they are after.
 settled-wires : (p : Ports) (c : Clock) (w : Wires)
@@ -63,6 +68,12 @@ done-is m i =
     let a : Machine = actedOf (waited (waitOf i) m) i .machine in
     settled-wires (a .via .ports) (a .clock) (wires m)
     ∙ ap (λ (c : Clock). stepWires cellCount c (wires m) (wires (stepOf m i .machine))) (acted-clock (waited (waitOf i) m) i)
+
+-- A DI done leaves the whole clock as it is.
+pub disk-still : (m : Machine) (w d i l b : ℕ) → Accepted cellCount (m .clock) (wires m) → stepOf m (Disk w d i l b) .machine .clock ≡ m .clock
+unfolding stepOf waitOf actedOf
+disk-still m w d i l b ok =
+    ap (stepWires cellCount (m .clock) (wires m)) (disk-wires m w d i l b) ∙ step-still cellCount (m .clock) (wires m) ok
 
 -- A refused one leaves all as it is.
 refused-is : (m : Machine) → Accepted cellCount (m .clock) (wires m) → m .clock ≡ stepClock cellCount quiet (m .clock) (wires m) (wires m)
@@ -144,7 +155,7 @@ unfolding freshVia wiresOf shown
 start-fresh = refl
 
 pub fresh-ok : acceptedOf freshMachine ≡ true
-unfolding acceptedOf freshVia linesOff acceptedVia allLevels acceptedPhase wiresOf shown
+unfolding acceptedOf freshVia linesOff acceptedVia allLevels acceptedPhase wiresOf shown acceptedDrive acceptedStrobe acceptedDrives
 fresh-ok = refl
 
 pub run3-fresh : (list : List ℕ) (room : ℕ) → Run3 freshMachine list room (runOf freshMachine list room .machine)

@@ -17,10 +17,13 @@ use Rattle.clock.specs.declared.Phase.the-variants.{Idle, Listening, Taking, Se
 use Rattle.clock.specs.declared.Store.{Store}
 use Rattle.clock.specs.declared.Clock.{Clock}
 use Rattle.via.specs.declared.Via.{Via}
+use Rattle.drive.specs.declared.Drive.{Drive}
+use Rattle.strobe.specs.declared.Strobe.{Strobe}
+use Rattle.drives.specs.declared.Drives.{Drives}
 use Rattle.machine.specs.declared.Machine.{Machine}
 use Rattle.machine.specs.Machine.{cellCount, acceptedOf}
-use Rattle.image.specs.Image.{viaAt, clockAt, linesAt, inputsAt, sensesAt, imageLength, headBytes, viaBytes, phaseBytes, registerBytes, clockBytes, imageOf}
-use Rattle.image.specs.Image.{part, portsOf, timer1Of, timer2Of, viaOf, phaseBy, phaseOf, storeOf, clockOf, machineOf, sameBytes, validImage, Typed}
+use Rattle.image.specs.Image.{viaAt, clockAt, linesAt, inputsAt, sensesAt, drivesAt, imageLength, headBytes, viaBytes, phaseBytes, registerBytes, clockBytes, driveBytes, strobeBytes, drivesBytes, imageOf}
+use Rattle.image.specs.Image.{part, portsOf, timer1Of, timer2Of, viaOf, phaseBy, phaseOf, storeOf, clockOf, driveOf, strobeOf, drivesOf, machineOf, sameBytes, validImage, Typed}
 use Rattle.image.proofs.Parts.{sizes, total, joined-long, laid, whole, cut, parted, part-long}
 
 -- ---- numbers and flags in bytes
@@ -68,6 +71,27 @@ clock-back c h =
     ∙ phase-first (c .phase) (registerBytes (c .store) ++ c .store .cells)
     ∙ ap (λ (s : Store). record { phase = c .phase; store = s }) (store-back (c .store) h)
 
+drive-back : (d : Drive) (r : List ℕ) → d .pending < 65536 → driveOf (driveBytes d ++ r) ≡ d
+unfolding driveOf le16Of
+drive-back d r h =
+    rw (back16 (d .pending) h, flag-back (d .direction), flag-back (d .disk), flag-back (d .locked), flag-back (d .sides), flag-back (d .motor), flag-back (d .heading))
+
+strobe-back : (s : Strobe) → s .ticks < 4294967296 → strobeOf (strobeBytes s) ≡ s
+unfolding strobeOf le32Of
+strobe-back s h = rw (back32 (s .ticks) h, flag-back (s .steady))
+
+drives-back : (d : Drives) → d .internal .pending < 65536 → d .external .pending < 65536 → d .strobe .ticks < 4294967296 → drivesOf (drivesBytes d) ≡ d
+unfolding drivesOf drivesBytes driveOf le16Of
+drives-back d p q r =
+    let i = drive-back (d .internal) (driveBytes (d .external) ++ strobeBytes (d .strobe)) p in
+    let e = drive-back (d .external) (strobeBytes (d .strobe)) q in
+    ap₂ (λ (x y : Drive). record { internal = x; external = y; strobe = strobeOf (strobeBytes (d .strobe)) }) i e
+    ∙ ap (λ (s : Strobe). record { internal = d .internal; external = d .external; strobe = s }) (strobe-back (d .strobe) r)
+
+drives-long : (d : Drives) → length (drivesBytes d) ≡ 23
+unfolding drivesBytes
+drives-long d = refl
+
 head-long : length headBytes ≡ 4
 unfolding headBytes
 head-long = refl
@@ -95,13 +119,13 @@ clock-long c e =
 
 -- the parts after the head, and the length of each
 abbrev partsOf : Machine → List (List ℕ)
-partsOf m = viaBytes (m .via) ∷ clockBytes (m .clock) ∷ m .disk .lines ∷ m .inputs ∷ m .sense ∷ []
+partsOf m = viaBytes (m .via) ∷ clockBytes (m .clock) ∷ m .disk .lines ∷ m .inputs ∷ m .sense ∷ drivesBytes (m .drives) ∷ []
 
 abbrev partSizes : List ℕ
-partSizes = 19 ∷ 30 ∷ 8 ∷ 5 ∷ 32 ∷ []
+partSizes = 19 ∷ 30 ∷ 8 ∷ 5 ∷ 32 ∷ 23 ∷ []
 
 sized : (m : Machine) → Typed m → sizes (partsOf m) ≡ partSizes
-sized m t = simp (via-long (m .via), clock-long (m .clock) (t .cells), t .lines, t .inputs, t .sense)
+sized m t = simp (via-long (m .via), clock-long (m .clock) (t .cells), t .lines, t .inputs, t .sense, drives-long (m .drives))
 
 parts : (m : Machine) → Typed m → cut viaAt partSizes (imageOf m) ≡ partsOf m
 unfolding imageOf headBytes
@@ -122,19 +146,20 @@ clock-saved d p r c n e ep er =
     (simp e)
     (omega arith)
 
-pub image-saved : (d d₁ d₂ d₃ p r : List ℕ) (m : Machine) → length d ≡ imageLength → Typed m → p ≡ phaseBytes (m .clock .phase) → r ≡ registerBytes (m .clock .store)
+pub image-saved : (d d₁ d₂ d₃ d₄ p r : List ℕ) (m : Machine) → length d ≡ imageLength → Typed m → p ≡ phaseBytes (m .clock .phase) → r ≡ registerBytes (m .clock .store)
     → d₁ ≡ putAt (putAt d 0 headBytes) viaAt (viaBytes (m .via))
     → d₂ ≡ putAt (putAt (putAt d₁ clockAt p) (clockAt + 4) r) (clockAt + 10) (m .clock .store .cells)
-    → d₃ ≡ putAt (putAt (putAt d₂ linesAt (m .disk .lines)) inputsAt (m .inputs)) sensesAt (m .sense) → d₃ ≡ imageOf m
+    → d₃ ≡ putAt (putAt (putAt d₂ linesAt (m .disk .lines)) inputsAt (m .inputs)) sensesAt (m .sense)
+    → d₄ ≡ putAt d₃ drivesAt (drivesBytes (m .drives)) → d₄ ≡ imageOf m
 unfolding imageOf headBytes
-image-saved d d₁ d₂ d₃ p r m n t ep er e₁ e₂ e₃ =
+image-saved d d₁ d₂ d₃ d₄ p r m n t ep er e₁ e₂ e₃ e₄ =
     let v : length (viaBytes (m .via)) ≡ 19 = via-long (m .via) in
     let h : length headBytes ≡ 4 = head-long in
     let n₀ : length (putAt d 0 headBytes) ≡ length d = put-length d 0 headBytes (omega arith) in
     let n₁ : length d₁ ≡ imageLength = ap length e₁ ∙ put-length (putAt d 0 headBytes) viaAt (viaBytes (m .via)) (omega arith) ∙ n₀ ∙ n in
     let c : d₂ ≡ putAt d₁ clockAt (clockBytes (m .clock)) = e₂ ∙ clock-saved d₁ p r (m .clock) n₁ (t .cells) ep er in
-    e₃
-    ∙ ap (λ (x : List ℕ). putAt (putAt (putAt x linesAt (m .disk .lines)) inputsAt (m .inputs)) sensesAt (m .sense))
+    e₄ ∙ ap (λ (x : List ℕ). putAt x drivesAt (drivesBytes (m .drives))) e₃
+    ∙ ap (λ (x : List ℕ). putAt (putAt (putAt (putAt x linesAt (m .disk .lines)) inputsAt (m .inputs)) sensesAt (m .sense)) drivesAt (drivesBytes (m .drives)))
     (c ∙ ap (λ (x : List ℕ). putAt x clockAt (clockBytes (m .clock))) e₁)
     ∙ laid d 0 viaAt headBytes partSizes (partsOf m) h (sized m t) (omega arith)
     ∙ whole d (imageOf m) (n ∙ sym (image-long m t))
@@ -148,8 +173,9 @@ restore-saved m t =
     let c : part clockAt linesAt (imageOf m) ≡ clockBytes (m .clock) = cc in
     let l : part linesAt inputsAt (imageOf m) ≡ m .disk .lines = cc in
     let i : part inputsAt sensesAt (imageOf m) ≡ m .inputs = cc in
-    let s : part sensesAt imageLength (imageOf m) ≡ m .sense = cc in
-    rw (v, c, l, i, s, via-back (m .via) (t .counter1) (t .counter2), clock-back (m .clock) (t .seconds))
+    let s : part sensesAt drivesAt (imageOf m) ≡ m .sense = cc in
+    let d : part drivesAt imageLength (imageOf m) ≡ drivesBytes (m .drives) = cc in
+    rw (v, c, l, i, s, d, via-back (m .via) (t .counter1) (t .counter2), clock-back (m .clock) (t .seconds), drives-back (m .drives) (t .drives .0) (t .drives .1) (t .drives .2))
 
 -- Two states with one image are one state.
 pub one-state : (m n : Machine) → Typed m → Typed n → imageOf m ≡ imageOf n → m ≡ n
@@ -196,10 +222,11 @@ valid-is s = go (eqb (length s) imageLength) refl
 
 -- The state of an image of the right length is a value of the struct's type.
 pub image-typed : (s : List ℕ) → Bytes s → length s ≡ imageLength → Typed (machineOf s)
-unfolding machineOf viaOf clockOf storeOf timer1Of timer2Of
+unfolding machineOf viaOf clockOf storeOf timer1Of timer2Of drivesOf driveOf strobeOf
 image-typed s b n =
     let v : Bytes (part viaAt clockAt s) = bytes-take 19 (drop viaAt s) (bytes-drop viaAt s b) in
     let c : Bytes (part clockAt linesAt s) = bytes-take 30 (drop clockAt s) (bytes-drop clockAt s b) in
+    let d : Bytes (part drivesAt imageLength s) = bytes-take 23 (drop drivesAt s) (bytes-drop drivesAt s b) in
     record {
       counter1 = le16-width (drop 4 (part viaAt clockAt s)) 0 (bytes-drop 4 (part viaAt clockAt s) v);
       counter2 = le16-width (drop 10 (part viaAt clockAt s)) 0 (bytes-drop 10 (part viaAt clockAt s) v);
@@ -209,5 +236,10 @@ image-typed s b n =
           ∙ ap (λ (k : ℕ). k - 4 - 6) (part-long clockAt linesAt s (omega arith));
       lines = part-long linesAt inputsAt s (omega arith);
       inputs = part-long inputsAt sensesAt s (omega arith);
-      sense = part-long sensesAt imageLength s (omega arith);
+      sense = part-long sensesAt drivesAt s (omega arith);
+      drives = (
+        le16-width (part drivesAt imageLength s) 6 d,
+        le16-width (drop 9 (part drivesAt imageLength s)) 6 (bytes-drop 9 (part drivesAt imageLength s) d),
+        le32-width (drop 18 (part drivesAt imageLength s)) 0 (bytes-drop 18 (part drivesAt imageLength s) d),
+      );
     }

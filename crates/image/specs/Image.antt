@@ -14,6 +14,9 @@ use Rattle.clock.specs.declared.Phase.{Phase}
 use Rattle.clock.specs.declared.Phase.the-variants.{Idle, Listening, Taking, Sending, Ignoring}
 use Rattle.clock.specs.declared.Store.{Store}
 use Rattle.clock.specs.declared.Clock.{Clock}
+use Rattle.drive.specs.declared.Drive.{Drive}
+use Rattle.strobe.specs.declared.Strobe.{Strobe}
+use Rattle.drives.specs.declared.Drives.{Drives}
 use Rattle.record.specs.Record.{le16Of, le32Of}
 use Rattle.machine.specs.declared.Machine.{Machine}
 use Rattle.machine.specs.Machine.{cellCount, acceptedOf}
@@ -35,8 +38,11 @@ inputsAt = linesAt + 8
 abbrev pub sensesAt : ℕ
 sensesAt = inputsAt + 5
 
+abbrev pub drivesAt : ℕ
+drivesAt = sensesAt + 32
+
 abbrev pub imageLength : ℕ
-imageLength = sensesAt + 32
+imageLength = drivesAt + 23
 
 -- ---- the bytes of each part
 
@@ -80,6 +86,19 @@ registerBytes s = bit (s .protect) ∷ s .test ∷ bytes32 (s .seconds)
 unfoldable pub clockBytes : Clock → List ℕ
 clockBytes c = phaseBytes (c .phase) ++ registerBytes (c .store) ++ c .store .cells
 
+-- W-203: a drive's track, direction, disk, locked, double-sided, motor, VIA ticks left of a pending step, and that step's own direction.
+abbrev pub driveBytes : Drive → List ℕ
+driveBytes d =
+    d .track ∷ bit (d .direction) ∷ bit (d .disk) ∷ bit (d .locked) ∷ bit (d .sides) ∷ bit (d .motor)
+    ∷ (bytes16 (d .pending) ++ (bit (d .heading) ∷ []))
+
+-- The strobe's VIA ticks, and whether all held still.
+abbrev pub strobeBytes : Strobe → List ℕ
+strobeBytes s = bytes32 (s .ticks) ++ (bit (s .steady) ∷ [])
+
+unfoldable pub drivesBytes : Drives → List ℕ
+drivesBytes d = driveBytes (d .internal) ++ driveBytes (d .external) ++ strobeBytes (d .strobe)
+
 -- ---- the image of a state
 
 -- The parts in their order.
@@ -91,6 +110,7 @@ imageOf m =
     ++ m .disk .lines
     ++ m .inputs
     ++ m .sense
+    ++ drivesBytes (m .drives)
 
 -- ---- the state of an image
 
@@ -141,6 +161,25 @@ storeOf s = record { cells = drop 6 s; seconds = le32Of s 2; protect = flagAt s 
 unfoldable pub clockOf : List ℕ → Clock
 clockOf s = record { phase = phaseOf s; store = storeOf (drop 4 s) }
 
+unfoldable pub driveOf : List ℕ → Drive
+driveOf s =
+    record {
+      track = getD s 0 0;
+      direction = flagAt s 1;
+      disk = flagAt s 2;
+      locked = flagAt s 3;
+      sides = flagAt s 4;
+      motor = flagAt s 5;
+      pending = le16Of s 6;
+      heading = flagAt s 8;
+    }
+
+unfoldable pub strobeOf : List ℕ → Strobe
+strobeOf s = record { ticks = le32Of s 0; steady = flagAt s 4 }
+
+unfoldable pub drivesOf : List ℕ → Drives
+drivesOf s = record { internal = driveOf s; external = driveOf (drop 9 s); strobe = strobeOf (drop 18 s) }
+
 unfoldable pub machineOf : List ℕ → Machine
 machineOf s =
     record {
@@ -148,7 +187,8 @@ machineOf s =
       clock = clockOf (part clockAt linesAt s);
       disk = record { lines = part linesAt inputsAt s };
       inputs = part inputsAt sensesAt s;
-      sense = part sensesAt imageLength s;
+      sense = part sensesAt drivesAt s;
+      drives = drivesOf (part drivesAt imageLength s);
     }
 
 -- ---- which images are some accepted state's
@@ -164,6 +204,10 @@ unfoldable pub validImage : List ℕ → Bool
 validImage s =
     cond (eqb (length s) imageLength) (sameBytes (imageOf (machineOf s)) s && acceptedOf (machineOf s)) false
 
+-- What the struct's type says of the drives' numbers.
+abbrev pub DrivesTyped : Drives → Type 0
+DrivesTyped d = (d .internal .pending < 65536) × (d .external .pending < 65536) × (d .strobe .ticks < 4294967296)
+
 -- What the struct's type says of a machine's arrays and numbers, so far as an image rests on it.
 pub record Typed (m : Machine) : Type 0 where
   pub counter1 : m .via .t1 .counter < 65536
@@ -173,3 +217,4 @@ pub record Typed (m : Machine) : Type 0 where
   pub lines : length (m .disk .lines) ≡ 8
   pub inputs : length (m .inputs) ≡ 5
   pub sense : length (m .sense) ≡ 32
+  pub drives : DrivesTyped (m .drives)

@@ -1,19 +1,22 @@
 // A state's image: one record of kind ST, written from a state, read back, and judged.
 ghost use mathlib.Core.Path.{_≡_};
 ghost use mathlib.Core.Bool.{true};
-ghost use Prim.Native.Nat.{_+_, _≤_, _%_};
+ghost use Prim.Native.Nat.{_+_, _<_, _≤_, _%_};
 ghost use lib.ListN.{length};
 ghost use Rattle.clock.specs.Wire.{bit};
 ghost use Rattle.record.specs.Record.{putAt};
 ghost use Rattle.machine.specs.Machine.{acceptedOf};
-ghost use Rattle.image.specs.Image.{headBytes, viaBytes, phaseBytes, registerBytes, clockBytes, imageOf};
-ghost use Rattle.image.specs.Image.{portsOf, timer1Of, timer2Of, viaOf, phaseBy, storeOf, clockOf, machineOf};
-ghost use Rattle.image.specs.Image.{viaAt, clockAt, linesAt, inputsAt, sensesAt, imageLength, sameBytes, validImage};
+ghost use Rattle.image.specs.Image.{headBytes, viaBytes, phaseBytes, registerBytes, clockBytes, drivesBytes, imageOf};
+ghost use Rattle.image.specs.Image.{portsOf, timer1Of, timer2Of, viaOf, phaseBy, storeOf, clockOf, driveOf, strobeOf, drivesOf, machineOf};
+ghost use Rattle.image.specs.Image.{viaAt, clockAt, linesAt, inputsAt, sensesAt, drivesAt, imageLength, sameBytes, validImage, DrivesTyped};
 use clock::Clock;
 use clock::Phase;
 use clock::Store;
+use drive::Drive;
+use drives::Drives;
 use iwm::DiskLines;
 use machine::Machine;
+use strobe::Strobe;
 use via::Ports;
 use via::Timer1;
 use via::Timer2;
@@ -32,7 +35,9 @@ const INPUTS: usize = 61;
 
 const SENSES: usize = 66;
 
-pub const LENGTH: usize = 98;
+const DRIVES: usize = 98;
+
+pub const LENGTH: usize = 121;
 
 // ---- a state's bytes
 
@@ -52,7 +57,7 @@ fn flag(on: bool) -> u8
 fn head_bytes() -> [u8; 4]
     ensures { λ r. ⌜ r ≡ headBytes ⌝ }
 {
-    [96, 0, KIND[0], KIND[1]]
+    [119, 0, KIND[0], KIND[1]]
 }
 
 fn via_bytes(v: Via) -> [u8; 19]
@@ -103,6 +108,7 @@ fn phase_bytes(p: Phase) -> [u8; 4]
 // Protect, test and seconds.
 fn register_bytes(s: Store) -> [u8; 6]
     ensures { λ r. ⌜ r ≡ registerBytes s ⌝ }
+    ensures { λ _. ⌜ (s .seconds < 4294967296) × (length (s .cells) ≡ 20) ⌝ }
 {
     let n = s.seconds;
     [
@@ -112,6 +118,41 @@ fn register_bytes(s: Store) -> [u8; 6]
         low(n / 256),
         low(n / 65536),
         low(n / 16777216),
+    ]
+}
+
+// Two drives of 9 bytes and the strobe of 5.
+fn drives_bytes(d: Drives) -> [u8; 23]
+    ensures { λ r. ⌜ r ≡ drivesBytes d ⌝ }
+    ensures { λ _. ⌜ DrivesTyped d ⌝ }
+{
+    let a = d.internal.pending as u32;
+    let b = d.external.pending as u32;
+    let n = d.strobe.ticks;
+    [
+        d.internal.track,
+        flag(d.internal.direction),
+        flag(d.internal.disk),
+        flag(d.internal.locked),
+        flag(d.internal.sides),
+        flag(d.internal.motor),
+        low(a),
+        low(a / 256),
+        flag(d.internal.heading),
+        d.external.track,
+        flag(d.external.direction),
+        flag(d.external.disk),
+        flag(d.external.locked),
+        flag(d.external.sides),
+        flag(d.external.motor),
+        low(b),
+        low(b / 256),
+        flag(d.external.heading),
+        low(n),
+        low(n / 256),
+        low(n / 65536),
+        low(n / 16777216),
+        flag(d.strobe.steady),
     ]
 }
 
@@ -145,6 +186,15 @@ fn save_levels(image: &mut [u8], lines: [u8; 8], inputs: [u8; 5], sense: [u8; 32
     record::copy(image, SENSES, &sense);
 }
 
+fn save_drives(image: &mut [u8], d: Drives)
+    requires { ⌜ length (now image) ≡ imageLength ⌝ }
+    ensures { λ _. ⌜ now (image .exit) ≡ putAt (now (image .entry)) drivesAt (drivesBytes d) ⌝ }
+    ensures { λ _. ⌜ DrivesTyped d ⌝ }
+{
+    let bytes = drives_bytes(d);
+    record::copy(image, DRIVES, &bytes);
+}
+
 // Writes a state's image, which gives the state back; that of an accepted state is valid.
 pub fn save(image: &mut [u8], m: Machine)
     requires { ⌜ length (now image) ≡ imageLength ⌝ }
@@ -164,6 +214,7 @@ pub fn save(image: &mut [u8], m: Machine)
     save_via(image, m.via);
     save_clock(image, phase, registers, cells);
     save_levels(image, lines, inputs, sense);
+    save_drives(image, m.drives);
 }
 
 // ---- a state from bytes
@@ -296,6 +347,43 @@ fn sense_of(s: &[u8]) -> [u8; 32]
     own
 }
 
+fn drive_of(s: &[u8]) -> Drive
+    requires { ⌜ 9 ≤ length (now s) ⌝ }
+    ensures { λ r. ⌜ r ≡ driveOf (now (s .entry)) ⌝ }
+{
+    Drive {
+        track: s[0],
+        direction: s[1] == 1,
+        disk: s[2] == 1,
+        locked: s[3] == 1,
+        sides: s[4] == 1,
+        motor: s[5] == 1,
+        pending: record::le16(s, 6),
+        heading: s[8] == 1,
+    }
+}
+
+fn strobe_of(s: &[u8]) -> Strobe
+    requires { ⌜ 5 ≤ length (now s) ⌝ }
+    ensures { λ r. ⌜ r ≡ strobeOf (now (s .entry)) ⌝ }
+{
+    Strobe {
+        ticks: record::le32(s, 0),
+        steady: s[4] == 1,
+    }
+}
+
+fn drives_of(s: &[u8]) -> Drives
+    requires { ⌜ length (now s) ≡ 23 ⌝ }
+    ensures { λ r. ⌜ r ≡ drivesOf (now (s .entry)) ⌝ }
+{
+    Drives {
+        internal: drive_of(s),
+        external: drive_of(&s[9..]),
+        strobe: strobe_of(&s[18..]),
+    }
+}
+
 // The state of an image.
 pub fn load(image: &[u8]) -> Machine
     requires { ⌜ length (now image) ≡ imageLength ⌝ }
@@ -306,7 +394,8 @@ pub fn load(image: &[u8]) -> Machine
         clock: clock_of(&image[CLOCK..LINES]),
         disk: lines_of(&image[LINES..INPUTS]),
         inputs: inputs_of(&image[INPUTS..SENSES]),
-        sense: sense_of(&image[SENSES..LENGTH]),
+        sense: sense_of(&image[SENSES..DRIVES]),
+        drives: drives_of(&image[DRIVES..LENGTH]),
     }
 }
 

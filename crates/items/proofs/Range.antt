@@ -9,7 +9,7 @@ use lib.Dec.{ltb, eqb}
 use borrow.Author.Tests.{ltb-false}
 use Rattle.record.specs.Record.{le32Of, Bytes}
 use Rattle.record.proofs.Laws.{le16-width, le32-width}
-use Rattle.items.specs.Items.{isKind, foundOf, sized, placed, upTo, waitOf, readOf, writeOf, lineOf, senseOf, powerOf, plainItem, plainOf, decodedOf, InRange, InWidth}
+use Rattle.items.specs.Items.{isKind, foundOf, sized, placed, upTo, waitOf, readOf, writeOf, lineOf, senseOf, powerOf, diskOf, plainItem, plainOf, decodedOf, InRange, InWidth}
 use Rattle.items.specs.declared.Item.{Item}
 use Rattle.items.specs.declared.Item.the-variants.{ReadVia, ReadIwm, WriteVia, WriteIwm}
 use Rattle.items.specs.declared.Decoded.{Decoded}
@@ -49,9 +49,9 @@ module _ (P : Item → Type 0) where
 
   -- the table of kinds, once for every P
   good-all : (s : List ℕ) → Good P (readOf s) → Good P (writeOf s) → ((k : Plain) → Good P (plainOf s k)) → Good P (lineOf s) → Good P (senseOf s) → Good P (powerOf s)
-      → Good P (decodedOf s)
+      → Good P (diskOf s) → Good P (decodedOf s)
   unfolding decodedOf
-  good-all s rd wr plain line sn pw =
+  good-all s rd wr plain line sn pw di =
       good-cond (isKind s (82 ∷ 68 ∷ [])) _ _ rd
       (good-cond (isKind s (87 ∷ 82 ∷ [])) _ _ wr
       (good-cond (isKind s (86 ∷ 66 ∷ [])) _ _ (plain Plain.Blank)
@@ -59,7 +59,8 @@ module _ (P : Item → Type 0) where
       (good-cond (isKind s (73 ∷ 78 ∷ [])) _ _ line
       (good-cond (isKind s (83 ∷ 78 ∷ [])) _ _ sn
       (good-cond (isKind s (82 ∷ 83 ∷ [])) _ _ (plain Plain.Reset)
-      (good-cond (isKind s (80 ∷ 87 ∷ [])) _ _ pw tt)))))))
+      (good-cond (isKind s (80 ∷ 87 ∷ [])) _ _ pw
+      (good-cond (isKind s (68 ∷ 73 ∷ [])) _ _ di tt))))))))
 
 plain-range : (k : Plain) (w : ℕ) → InRange (plainItem k w)
 plain-range Plain.Blank w = tt
@@ -67,7 +68,7 @@ plain-range Plain.Second w = tt
 plain-range Plain.Reset w = tt
 
 in-range : (s : List ℕ) → Good InRange (decodedOf s)
-unfolding readOf writeOf lineOf senseOf powerOf plainOf
+unfolding readOf writeOf lineOf senseOf powerOf diskOf plainOf
 in-range s =
     good-all InRange s
     (good-sized InRange s 8 _ (good-placed InRange (le32Of s 4) (λ r. ReadVia (waitOf s) r) (λ k. ReadIwm (waitOf s) k) (λ r h. h) (λ k h. h)))
@@ -76,6 +77,8 @@ in-range s =
     (good-sized InRange s 6 _ (good-upTo InRange (getD s 4 0) 4 _ (λ a. good-upTo InRange (getD s 5 0) 1 _ (λ b. (omega arith, omega arith)))))
     (good-sized InRange s 7 _ (good-upTo InRange (getD s 4 0) 1 _ (λ a. good-upTo InRange (getD s 5 0) 15 _ (λ b. good-upTo InRange (getD s 6 0) 1 _ (λ c. (omega arith, omega arith, omega arith))))))
     (good-sized InRange s 8 _ tt)
+    (good-sized InRange s 8 _
+    (good-upTo InRange (getD s 4 0) 1 _ (λ a. good-upTo InRange (getD s 5 0) 1 _ (λ b. good-upTo InRange (getD s 6 0) 1 _ (λ c. good-upTo InRange (getD s 7 0) 1 _ (λ d. (omega arith, omega arith, omega arith, omega arith)))))))
 
 -- every item that the decoder lets through is in range
 pub decoded-range : (s : List ℕ) (x : Item) → decodedOf s ≡ Done x → InRange x
@@ -87,7 +90,7 @@ plain-width Plain.Second w h = h
 plain-width Plain.Reset w h = h
 
 in-width : (s : List ℕ) → Bytes s → Good InWidth (decodedOf s)
-unfolding readOf writeOf lineOf senseOf powerOf plainOf
+unfolding readOf writeOf lineOf senseOf powerOf diskOf plainOf
 in-width s bs =
     let w : waitOf s < 65536 = le16-width s 2 bs in
     good-all InWidth s
@@ -97,6 +100,8 @@ in-width s bs =
     (good-sized InWidth s 6 _ (good-upTo InWidth (getD s 4 0) 4 _ (λ a. good-upTo InWidth (getD s 5 0) 1 _ (λ b. w))))
     (good-sized InWidth s 7 _ (good-upTo InWidth (getD s 4 0) 1 _ (λ a. good-upTo InWidth (getD s 5 0) 15 _ (λ b. good-upTo InWidth (getD s 6 0) 1 _ (λ c. w)))))
     (good-sized InWidth s 8 _ (w, le32-width s 4 bs))
+    (good-sized InWidth s 8 _
+    (good-upTo InWidth (getD s 4 0) 1 _ (λ a. good-upTo InWidth (getD s 5 0) 1 _ (λ b. good-upTo InWidth (getD s 6 0) 1 _ (λ c. good-upTo InWidth (getD s 7 0) 1 _ (λ d. w))))))
 
 -- of a record of bytes, the item's wait, value and seconds are within their widths
 pub decoded-width : (s : List ℕ) (x : Item) → Bytes s → decodedOf s ≡ Done x → InWidth x

@@ -1,10 +1,10 @@
--- Document 01's samples of records, computed by the definition: a record's bytes after its length.
+-- Document 01's samples of records and request W-203's DI, computed by the definition: a record's bytes after its length.
 use mathlib.Core.Path.{_≡_, refl}
 use mathlib.Core.List.{[], _∷_}
 use Rattle.record.specs.Record.{le16Of, le32Of}
-use Rattle.items.specs.Items.{isKind, placeFrom, foundOf, plainOf, readOf, writeOf, lineOf, senseOf, powerOf, decodedOf}
+use Rattle.items.specs.Items.{isKind, placeFrom, foundOf, plainOf, readOf, writeOf, lineOf, senseOf, powerOf, diskOf, decodedOf}
 use Rattle.items.specs.declared.Item.{Item}
-use Rattle.items.specs.declared.Item.the-variants.{ReadVia, ReadIwm, WriteVia, Line, Sense, Power}
+use Rattle.items.specs.declared.Item.the-variants.{ReadVia, ReadIwm, WriteVia, Line, Sense, Power, Disk}
 use Rattle.items.specs.declared.Decoded.the-variants.{Done, Refused}
 
 pub record Samples : Type 0 where
@@ -19,6 +19,8 @@ pub record Samples : Type 0 where
   pub sense : decodedOf (83 ∷ 78 ∷ 0 ∷ 0 ∷ 1 ∷ 15 ∷ 0 ∷ []) ≡ Done (Sense 0 1 15 0)
   -- PW with 5 seconds off
   pub power : decodedOf (80 ∷ 87 ∷ 0 ∷ 0 ∷ 5 ∷ 0 ∷ 0 ∷ 0 ∷ []) ≡ Done (Power 0 5)
+  -- DI: a locked, double-sided disk into the external drive, after 258 ticks
+  pub insert : decodedOf (68 ∷ 73 ∷ 2 ∷ 1 ∷ 1 ∷ 1 ∷ 1 ∷ 1 ∷ []) ≡ Done (Disk 258 1 1 1 1)
   -- S3: SE with a byte too many
   pub long : decodedOf (83 ∷ 69 ∷ 0 ∷ 0 ∷ 0 ∷ []) ≡ Refused 3
   -- a known kind of length 2 and 3
@@ -31,12 +33,15 @@ pub record Samples : Type 0 where
   pub five : decodedOf (73 ∷ 78 ∷ 0 ∷ 0 ∷ 5 ∷ 1 ∷ []) ≡ Refused 5
   -- SN drive 2
   pub drive : decodedOf (83 ∷ 78 ∷ 0 ∷ 0 ∷ 2 ∷ 0 ∷ 0 ∷ []) ≡ Refused 5
+  -- DI: a removal whose last value is 2, and the same with a byte too many
+  pub sides : decodedOf (68 ∷ 73 ∷ 0 ∷ 0 ∷ 0 ∷ 0 ∷ 0 ∷ 2 ∷ []) ≡ Refused 5
+  pub sidesLong : decodedOf (68 ∷ 73 ∷ 0 ∷ 0 ∷ 0 ∷ 0 ∷ 0 ∷ 2 ∷ 0 ∷ []) ≡ Refused 3
   -- an unknown kind of wrong length, and a state record, which is no item
   pub unknown : decodedOf (90 ∷ 90 ∷ 1 ∷ []) ≡ Refused 2
   pub state : decodedOf (83 ∷ 84 ∷ 0 ∷ 0 ∷ []) ≡ Refused 2
 
 pub samples : Samples
-unfolding le16Of le32Of isKind placeFrom foundOf plainOf readOf writeOf lineOf senseOf powerOf decodedOf
+unfolding le16Of le32Of isKind placeFrom foundOf plainOf readOf writeOf lineOf senseOf powerOf diskOf decodedOf
 samples =
     record {
       read = refl;
@@ -46,6 +51,7 @@ samples =
       line = refl;
       sense = refl;
       power = refl;
+      insert = refl;
       long = refl;
       bare = refl;
       stub = refl;
@@ -53,6 +59,8 @@ samples =
       high = refl;
       five = refl;
       drive = refl;
+      sides = refl;
+      sidesLong = refl;
       unknown = refl;
       state = refl;
     }

@@ -1,4 +1,4 @@
--- What the bytes of a record, its kind first, ask for: document 01, "Items and answers as bytes" and refusals 2 to 5.
+-- What the bytes of a record, its kind first, ask for: document 01, "Items and answers as bytes" and refusals 2 to 5, and request W-203's DI.
 use Prim.Native.Nat.{ℕ, _+_, _-_, _*_, _/_, _%_, _<_}
 use mathlib.Core.Bool.{Bool, cond, _&&_}
 use mathlib.Core.List.{List, [], _∷_}
@@ -6,7 +6,7 @@ use lib.ListN.{length, getD}
 use lib.Dec.{ltb, eqb}
 use Rattle.record.specs.Record.{le16Of, le32Of}
 use Rattle.items.specs.declared.Item.{Item}
-use Rattle.items.specs.declared.Item.the-variants.{ReadVia, ReadIwm, WriteVia, WriteIwm, Line, Sense, Power}
+use Rattle.items.specs.declared.Item.the-variants.{ReadVia, ReadIwm, WriteVia, WriteIwm, Line, Sense, Power, Disk}
 use Rattle.items.specs.declared.Decoded.{Decoded}
 use Rattle.items.specs.declared.Decoded.the-variants.{Done, Refused}
 use Rattle.items.specs.declared.Plain.{Plain}
@@ -80,6 +80,15 @@ senseOf s =
 unfoldable pub powerOf : List ℕ → Decoded
 powerOf s = sized s 8 (Done (Power (waitOf s) (le32Of s 4)))
 
+-- DI, 8: "drive, insert 1 or remove 0, locked 1, double-sided 1"; "in all four, always, other values get refusal 5".
+unfoldable pub diskOf : List ℕ → Decoded
+diskOf s =
+    sized s 8
+    (upTo (getD s 4 0) 1
+    (upTo (getD s 5 0) 1
+    (upTo (getD s 6 0) 1
+    (upTo (getD s 7 0) 1 (Done (Disk (waitOf s) (getD s 4 0) (getD s 5 0) (getD s 6 0) (getD s 7 0)))))))
+
 -- VB, SE, RS, 4: nothing after the wait.
 abbrev pub plainItem : Plain → ℕ → Item
 plainItem Plain.Blank w = Item.Blank w
@@ -100,9 +109,10 @@ decodedOf s =
     (cond (isKind s (83 ∷ 78 ∷ [])) (senseOf s)
     (cond (isKind s (82 ∷ 83 ∷ [])) (plainOf s Plain.Reset)
     (cond (isKind s (80 ∷ 87 ∷ [])) (powerOf s)
-    (Refused 2))))))))
+    (cond (isKind s (68 ∷ 73 ∷ [])) (diskOf s)
+    (Refused 2)))))))))
 
--- The numbers of an item are within document 01's ranges.
+-- The numbers of an item are within the papers' ranges.
 abbrev pub InRange : Item → Type 0
 InRange (ReadVia w r) = r < 16
 InRange (ReadIwm w k) = k < 16
@@ -114,6 +124,7 @@ InRange (Line w l v) = (l < 5) × (v < 2)
 InRange (Sense w d r v) = (d < 2) × (r < 16) × (v < 2)
 InRange (Item.Reset w) = Unit {0}
 InRange (Power w t) = Unit {0}
+InRange (Disk w d i l b) = (d < 2) × (i < 2) × (l < 2) × (b < 2)
 
 -- The numbers of an item are within their widths: a wait of two bytes, a value of one, seconds of four.
 abbrev pub InWidth : Item → Type 0
@@ -127,3 +138,4 @@ InWidth (Line w l v) = w < 65536
 InWidth (Sense w d r v) = w < 65536
 InWidth (Item.Reset w) = w < 65536
 InWidth (Power w t) = (w < 65536) × (t < 4294967296)
+InWidth (Disk w d i l b) = w < 65536

@@ -2,7 +2,7 @@
 ghost use mathlib.Core.Path.{_≡_};
 ghost use Prim.Native.Nat.{_≤_};
 ghost use lib.ListN.{length};
-ghost use Rattle.items.specs.Items.{refusalOf, isKind, placeFrom, foundOf, plainOf, readOf, writeOf, lineOf, senseOf, powerOf, decodedOf};
+ghost use Rattle.items.specs.Items.{refusalOf, isKind, placeFrom, foundOf, plainOf, readOf, writeOf, lineOf, senseOf, powerOf, diskOf, decodedOf};
 
 // The addresses of VIA register 0 and of IWM location 0; the others follow 512 apart.
 const VIA_BASE: u32 = 0xefe1fe;
@@ -60,6 +60,14 @@ pub enum Item {
     Power {
         wait: u16,
         seconds: u32,
+    },
+    // DI: drive 0 is internal, 1 external; insert 1 or remove 0; locked 1, double-sided 1.
+    Disk {
+        wait: u16,
+        drive: u8,
+        insert: u8,
+        locked: u8,
+        sides: u8,
     },
 }
 
@@ -259,6 +267,39 @@ fn power_item(s: &[u8]) -> Decoded
     })
 }
 
+// DI
+fn disk_item(s: &[u8]) -> Decoded
+    requires { ⌜ 2 ≤ length (now s) ⌝ }
+    ensures { λ r. ⌜ r ≡ diskOf (now (s .entry)) ⌝ }
+{
+    if s.len() != 8 {
+        return Decoded::Refused(3);
+    }
+    let external = s[4];
+    let insert = s[5];
+    let locked = s[6];
+    let sides = s[7];
+    if 1 < external {
+        return Decoded::Refused(5);
+    }
+    if 1 < insert {
+        return Decoded::Refused(5);
+    }
+    if 1 < locked {
+        return Decoded::Refused(5);
+    }
+    if 1 < sides {
+        return Decoded::Refused(5);
+    }
+    Decoded::Done(Item::Disk {
+        wait: record::le16(s, 2),
+        drive: external,
+        insert,
+        locked,
+        sides,
+    })
+}
+
 // A record's bytes after its length: an item, or refusal 2, 3, 4 or 5.
 pub fn decode(s: &[u8]) -> Decoded
     requires { ⌜ 2 ≤ length (now s) ⌝ }
@@ -287,6 +328,9 @@ pub fn decode(s: &[u8]) -> Decoded
     }
     if is(s, b"PW") {
         return power_item(s);
+    }
+    if is(s, b"DI") {
+        return disk_item(s);
     }
     Decoded::Refused(2)
 }

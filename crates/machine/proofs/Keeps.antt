@@ -3,6 +3,7 @@ use Prim.Native.Nat.{ℕ, _+_, _*_, _<_}
 use mathlib.Core.Path.{_≡_, refl, sym, ap, ap₂, _∙_}
 use mathlib.Core.Bool.{Bool, true}
 use native.Mathlib.Omega.{arith}
+use lib.Dec.{eqb}
 use lib.ListN.{set}
 use Rattle.levels.proofs.Laws.{set-levels}
 use Rattle.via.specs.declared.Via.{Via}
@@ -13,11 +14,14 @@ use Rattle.clock.specs.Step.{acceptedPhase, stepWires, shown}
 use Rattle.clock.proofs.Keep.{keeps-step}
 use Rattle.wiring.specs.Wiring.{wiresOf, inputsOf}
 use Rattle.iwm.proofs.Laws.{off-levels, access-levels}
+use Rattle.strobe.specs.declared.Watched.{Watched}
+use Rattle.drives.specs.Drives.{acceptedDrives}
+use Rattle.drives.proofs.Laws.{drivesTicks-accepted, placed-accepted, drivesPowered-accepted, drivesAfter-accepted}
 use Rattle.items.specs.Items.{InRange}
 use Rattle.items.specs.declared.Item.{Item}
-use Rattle.items.specs.declared.Item.the-variants.{ReadVia, ReadIwm, WriteVia, WriteIwm, Blank, Second, Line, Sense, Reset, Power}
+use Rattle.items.specs.declared.Item.the-variants.{ReadVia, ReadIwm, WriteVia, WriteIwm, Blank, Second, Line, Sense, Reset, Power, Disk}
 use Rattle.machine.specs.declared.Machine.{Machine}
-use Rattle.machine.specs.Machine.{cellCount, wires, acceptedOf, Levels}
+use Rattle.machine.specs.Machine.{cellCount, wires, watched, acceptedOf, Levels}
 use Rattle.machine.specs.Step.{waitOf, waited, viaRead, iwmRead, actedOf, stepOf}
 use Rattle.machine.proofs.Laws.{Parts, parts, whole, acted-phase}
 
@@ -39,6 +43,22 @@ act-keeps m (Sense w d r v) h k =
     record { levels = (k .levels .0, k .levels .1, set-levels (m .sense) (16 * d + r) v (k .levels .2) (h .2)); via = k .via }
 act-keeps m (Reset w) h k = record { levels = (off-levels, k .levels .1, k .levels .2); via = reset-accepted (m .via) }
 act-keeps m (Power w s) h k = record { levels = (off-levels, k .levels .1, k .levels .2); via = fresh-accepted }
+act-keeps m (Disk w d i l b) h k = record { levels = k .levels; via = k .via }
+
+-- And of the drives, with the levels before the item: the strobe looks at the levels afterwards.
+pub act-keeps-drives : (m : Machine) (i : Item) (v : Watched) → acceptedDrives v (m .drives) ≡ true → acceptedDrives v (actedOf m i .machine .drives) ≡ true
+unfolding actedOf viaRead iwmRead
+act-keeps-drives m (ReadVia w r) v h = h
+act-keeps-drives m (ReadIwm w k) v h = h
+act-keeps-drives m (WriteVia w r x) v h = h
+act-keeps-drives m (WriteIwm w k x) v h = h
+act-keeps-drives m (Blank w) v h = h
+act-keeps-drives m (Second w) v h = h
+act-keeps-drives m (Line w l x) v h = h
+act-keeps-drives m (Sense w d r x) v h = h
+act-keeps-drives m (Reset w) v h = h
+act-keeps-drives m (Power w s) v h = drivesPowered-accepted v (m .drives) h
+act-keeps-drives m (Disk w d i l b) v h = placed-accepted (eqb d 1) (eqb i 1) (eqb l 1) (eqb b 1) v (m .drives) h
 
 -- Enable does not hang on what the chip shows.
 enable-same : (m : Machine) (a b : Bool) → wiresOf (m .via .ports) a .enable ≡ wiresOf (m .via .ports) b .enable
@@ -59,4 +79,6 @@ step-keeps m i h a =
       via = k .via;
       phase = ap (acceptedPhase cellCount (n .phase)) (enable-same d (shown (n .phase)) (shown (d .clock .phase)))
           ∙ keeps-step cellCount (d .clock) (wires m) (wires d) (ap (λ (f : Phase). acceptedPhase cellCount f (wires m .enable)) (acted-phase w i) ∙ p .phase);
+      drives = drivesAfter-accepted (watched m) (watched d) (d .drives)
+          (act-keeps-drives w i (watched m) (drivesTicks-accepted (waitOf i) (watched m) (m .drives) (p .drives)));
     })

@@ -9,11 +9,12 @@ use Rattle.clock.specs.declared.Phase.{Phase}
 use Rattle.clock.specs.declared.Wires.{Wires}
 use Rattle.clock.specs.declared.Clock.{Clock}
 use Rattle.clock.specs.Step.{acceptedPhase}
+use Rattle.drives.specs.Drives.{acceptedDrives}
 use Rattle.items.specs.declared.Item.{Item}
-use Rattle.items.specs.declared.Item.the-variants.{ReadVia, ReadIwm, WriteVia, WriteIwm, Blank, Second, Line, Sense, Reset, Power}
+use Rattle.items.specs.declared.Item.the-variants.{ReadVia, ReadIwm, WriteVia, WriteIwm, Blank, Second, Line, Sense, Reset, Power, Disk}
 use Rattle.machine.specs.declared.Machine.{Machine}
 use Rattle.machine.specs.declared.Did.{Did}
-use Rattle.machine.specs.Machine.{cellCount, wires, acceptedOf, Levels}
+use Rattle.machine.specs.Machine.{cellCount, wires, watched, acceptedOf, Levels}
 use Rattle.machine.specs.Step.{viaRead, iwmRead, actedOf}
 
 -- The parts of an accepted state.
@@ -21,6 +22,7 @@ pub record Parts (m : Machine) : Type 0 where
   pub levels : Levels m
   pub via : acceptedVia (m .via) ≡ true
   pub phase : acceptedPhase cellCount (m .clock .phase) (wires m .enable) ≡ true
+  pub drives : acceptedDrives (watched m) (m .drives) ≡ true
 
 pub parts : (m : Machine) → acceptedOf m ≡ true → Parts m
 unfolding acceptedOf
@@ -30,11 +32,13 @@ parts m h =
     let s = allLevels (m .sense) in
     let v = acceptedVia (m .via) in
     let k = acceptedPhase cellCount (m .clock .phase) (wires m .enable) in
-    let p = both (((a && b) && s) && v) k h in
+    let g = acceptedDrives (watched m) (m .drives) in
+    let o = both ((((a && b) && s) && v) && k) g h in
+    let p = both (((a && b) && s) && v) k (o .0) in
     let q = both ((a && b) && s) v (p .0) in
     let r = both (a && b) s (q .0) in
     let t = both a b (r .0) in
-    record { levels = (t .0, t .1, r .1); via = q .1; phase = p .1 }
+    record { levels = (t .0, t .1, r .1); via = q .1; phase = p .1; drives = o .1 }
 
 pub whole : (m : Machine) → Parts m → acceptedOf m ≡ true
 unfolding acceptedOf
@@ -44,11 +48,14 @@ whole m h =
     let s = allLevels (m .sense) in
     let v = acceptedVia (m .via) in
     let k = acceptedPhase cellCount (m .clock .phase) (wires m .enable) in
-    joined (((a && b) && s) && v) k
+    let g = acceptedDrives (watched m) (m .drives) in
+    joined ((((a && b) && s) && v) && k) g
+    (joined (((a && b) && s) && v) k
     (joined ((a && b) && s) v
     (joined (a && b) s (joined a b (h .levels .0) (h .levels .1)) (h .levels .2))
     (h .via))
-    (h .phase)
+    (h .phase))
+    (h .drives)
 
 -- An action moves no phase: the clock sees its wires afterwards.
 pub acted-phase : (m : Machine) (i : Item) → actedOf m i .machine .clock .phase ≡ m .clock .phase
@@ -63,6 +70,7 @@ acted-phase m (Line w l v) = refl
 acted-phase m (Sense w d r v) = refl
 acted-phase m (Reset w) = refl
 acted-phase m (Power w s) = refl
+acted-phase m (Disk w d i l b) = refl
 
 -- The clock meets the wires after an action in a phase that goes with the wires before the item.
 pub met : (m m₁ : Machine) (i : Item) (d : Did) (w : Wires) → d ≡ actedOf m₁ i → m₁ .clock ≡ m .clock → w ≡ wires m → acceptedOf m ≡ true

@@ -1,4 +1,4 @@
--- The machine's state by document 01: its lines, the fresh machine, and which states are accepted.
+-- The machine's state by document 01 and request W-203: its lines, the fresh machine, and which states are accepted.
 use Prim.Native.Nat.{ℕ}
 use mathlib.Core.Path.{_≡_}
 use mathlib.Core.Bool.{Bool, true, _&&_}
@@ -10,27 +10,33 @@ use Rattle.via.specs.Via.{freshVia, acceptedVia}
 use Rattle.clock.specs.declared.Wires.{Wires}
 use Rattle.clock.specs.declared.Clock.{Clock}
 use Rattle.clock.specs.Step.{freshClock, shown, acceptedPhase}
-use Rattle.wiring.specs.Wiring.{wiresOf}
+use Rattle.wiring.specs.Wiring.{wiresOf, selOf, watchedOf}
 use Rattle.iwm.specs.declared.DiskLines.{DiskLines}
 use Rattle.iwm.specs.Lines.{linesOff}
+use Rattle.strobe.specs.declared.Watched.{Watched}
+use Rattle.drives.specs.declared.Drives.{Drives}
+use Rattle.drives.specs.Drives.{freshDrives, acceptedDrives}
 use Rattle.machine.specs.declared.Machine.{Machine}
 
 -- ---- the state, field by field
 
 abbrev pub withVia : Machine → Via → Machine
-withVia m x = record { via = x; clock = m .clock; disk = m .disk; inputs = m .inputs; sense = m .sense }
+withVia m x = record { via = x; clock = m .clock; disk = m .disk; inputs = m .inputs; sense = m .sense; drives = m .drives }
 
 abbrev pub withClock : Machine → Clock → Machine
-withClock m x = record { via = m .via; clock = x; disk = m .disk; inputs = m .inputs; sense = m .sense }
+withClock m x = record { via = m .via; clock = x; disk = m .disk; inputs = m .inputs; sense = m .sense; drives = m .drives }
 
 abbrev pub withDisk : Machine → DiskLines → Machine
-withDisk m x = record { via = m .via; clock = m .clock; disk = x; inputs = m .inputs; sense = m .sense }
+withDisk m x = record { via = m .via; clock = m .clock; disk = x; inputs = m .inputs; sense = m .sense; drives = m .drives }
 
 abbrev pub withInputs : Machine → List ℕ → Machine
-withInputs m x = record { via = m .via; clock = m .clock; disk = m .disk; inputs = x; sense = m .sense }
+withInputs m x = record { via = m .via; clock = m .clock; disk = m .disk; inputs = x; sense = m .sense; drives = m .drives }
 
 abbrev pub withSense : Machine → List ℕ → Machine
-withSense m x = record { via = m .via; clock = m .clock; disk = m .disk; inputs = m .inputs; sense = x }
+withSense m x = record { via = m .via; clock = m .clock; disk = m .disk; inputs = m .inputs; sense = x; drives = m .drives }
+
+abbrev pub withDrives : Machine → Drives → Machine
+withDrives m x = record { via = m .via; clock = m .clock; disk = m .disk; inputs = m .inputs; sense = m .sense; drives = x }
 
 -- "The clock chip with its 20 cells."
 abbrev pub cellCount : ℕ
@@ -45,6 +51,7 @@ freshMachine =
       disk = linesOff;
       inputs = replicate 5 1;
       sense = replicate 32 1;
+      drives = freshDrives;
     }
 
 -- ---- the lines
@@ -52,14 +59,20 @@ freshMachine =
 abbrev pub wires : Machine → Wires
 wires m = wiresOf (m .via .ports) (shown (m .clock .phase))
 
+-- The levels that the drives' strobe goes by.
+abbrev pub watched : Machine → Watched
+watched m = watchedOf (m .disk) (selOf (m .via .ports))
+
 -- ---- accepted states
 
 -- "Every line level is 0 or 1."
 abbrev pub Levels : Machine → Type 0
 Levels m = (allLevels (m .disk .lines) ≡ true) × (allLevels (m .inputs) ≡ true) × (allLevels (m .sense) ≡ true)
 
--- "Every line level is 0 or 1, the chip is idle exactly while enable is 1, .. room not in use holds 0."
+-- "Every line level is 0 or 1, the chip is idle exactly while enable is 1, .. room not in use holds 0"; W-203: both drives and the strobe
+-- within their ranges.
 unfoldable pub acceptedOf : Machine → Bool
 acceptedOf m =
-    (((allLevels (m .disk .lines) && allLevels (m .inputs)) && allLevels (m .sense)) && acceptedVia (m .via))
-    && acceptedPhase cellCount (m .clock .phase) (wires m .enable)
+    ((((allLevels (m .disk .lines) && allLevels (m .inputs)) && allLevels (m .sense)) && acceptedVia (m .via))
+    && acceptedPhase cellCount (m .clock .phase) (wires m .enable))
+    && acceptedDrives (watched m) (m .drives)

@@ -1,6 +1,8 @@
--- One item carried out, by document 01: "only then does its wait pass, and only then its action"; then the clock compares its wires.
+-- One item carried out, by document 01: "only then does its wait pass, and only then its action"; then the clock compares its wires, and
+-- by request W-203 the drives' strobe its levels.
 use Prim.Native.Nat.{ℕ, _+_, _*_}
 use mathlib.Core.Bool.{Bool, true, false, cond}
+use lib.Dec.{eqb}
 use lib.ListN.{getD, set}
 use Rattle.record.specs.declared.Answer.{Answer}
 use Rattle.via.specs.declared.Access.{Access}
@@ -10,11 +12,13 @@ use Rattle.clock.specs.declared.Wires.{Wires}
 use Rattle.clock.specs.Wire.{Event, quiet, second, off}
 use Rattle.clock.specs.Step.{withStore, counted, stepWires, shown}
 use Rattle.iwm.specs.Lines.{linesOff, accessed, lineByteOf, senseAt, readLine}
+use Rattle.strobe.specs.declared.Watched.{Watched}
+use Rattle.drives.specs.Drives.{drivesTicks, placed, placeRefused, drivesPowered, drivesAfter, drivesShown}
 use Rattle.items.specs.declared.Item.{Item}
-use Rattle.items.specs.declared.Item.the-variants.{ReadVia, ReadIwm, WriteVia, WriteIwm, Blank, Second, Line, Sense, Reset, Power}
+use Rattle.items.specs.declared.Item.the-variants.{ReadVia, ReadIwm, WriteVia, WriteIwm, Blank, Second, Line, Sense, Reset, Power, Disk}
 use Rattle.machine.specs.declared.Machine.{Machine}
 use Rattle.machine.specs.declared.Did.{Did}
-use Rattle.machine.specs.Machine.{withVia, withClock, withDisk, withInputs, withSense, cellCount, wires}
+use Rattle.machine.specs.Machine.{withVia, withClock, withDisk, withInputs, withSense, withDrives, cellCount, wires, watched}
 use Rattle.wiring.specs.Wiring.{inputsOf, selOf}
 
 -- "Every item's body begins with a wait in VIA ticks."
@@ -29,6 +33,7 @@ waitOf (Line w l v) = w
 waitOf (Sense w d r v) = w
 waitOf (Reset w) = w
 waitOf (Power w s) = w
+waitOf (Disk w d i l b) = w
 
 -- What an item does to the clock beside its wires.
 unfoldable pub eventOf : Item → Event
@@ -42,10 +47,11 @@ eventOf (Line w l v) = quiet
 eventOf (Sense w d r v) = quiet
 eventOf (Reset w) = quiet
 eventOf (Power w s) = off s
+eventOf (Disk w d i l b) = quiet
 
--- The item's wait passes.
+-- The item's wait passes, in the VIA and in the drives.
 abbrev pub waited : ℕ → Machine → Machine
-waited n m = withVia m (ticks n (m .via))
+waited n m = withDrives (withVia m (ticks n (m .via))) (drivesTicks n (m .drives))
 
 -- SE and the time off reach the clock's seconds.
 abbrev pub passed : Event → Machine → Machine
@@ -60,13 +66,15 @@ viaRead r m =
     let a = readOf r (inputsOf (shown (m .clock .phase)) (m .inputs)) (m .via) in
     record { machine = withVia m (a .via); value = a .value }
 
--- RD of an IWM location: "Any access, read or write, first sets line k/2"; the sense is that of the selected drive's register.
+-- RD of an IWM location: "Any access, read or write, first sets line k/2"; the sense is that of the selected drive's register. W-203:
+-- "Sense registers 0 to 5, 12 and 15 .. now come from the drive, the others still from SN."
 unfoldable pub iwmRead : ℕ → Machine → Did
 iwmRead k m =
     let d = accessed k (m .disk) in
-    record { machine = withDisk m d; value = readLine k (getD (m .sense) (senseAt d (selOf (m .via .ports))) 0) d }
+    let at = senseAt d (selOf (m .via .ports)) in
+    record { machine = withDisk m d; value = readLine k (drivesShown at (getD (m .sense) at 0) (m .drives)) d }
 
--- The action of an item, its wait having passed.
+-- The action of an item, its wait having passed. W-203: "RS changes no drive; PW stops motors, drops pending steps and keeps the rest".
 unfoldable pub actedOf : Machine → Item → Did
 actedOf m (ReadVia w r) = viaRead r m
 actedOf m (ReadIwm w k) = iwmRead k m
@@ -77,19 +85,40 @@ actedOf m (Second w) = noValue (passed second (withVia m (raisedOf 1 (m .via))))
 actedOf m (Line w l v) = noValue (withInputs m (set (m .inputs) l v))
 actedOf m (Sense w d r v) = noValue (withSense m (set (m .sense) (16 * d + r) v))
 actedOf m (Reset w) = noValue (withDisk (withVia m (resetOf (m .via))) linesOff)
-actedOf m (Power w s) = noValue (passed (off s) (withDisk (withVia m freshVia) linesOff))
+actedOf m (Power w s) = noValue (passed (off s) (withDrives (withDisk (withVia m freshVia) linesOff) (drivesPowered (m .drives))))
+actedOf m (Disk w d i l b) = noValue (withDrives m (placed (eqb d 1) (eqb i 1) (eqb l 1) (eqb b 1) (m .drives)))
 
 -- "Compare the levels of enable, data-clock and data before and after each item."
 abbrev pub compared : Wires → Did → Did
 compared w d =
     record { machine = withClock (d .machine) (stepWires cellCount (d .machine .clock) w (wires (d .machine))); value = d .value }
 
-unfoldable pub stepOf : Machine → Item → Did
-stepOf m i = compared (wires m) (actedOf (waited (waitOf i) m) i)
+-- W-203: the drives see the levels before the item and after it; "a write acts when LSTRB drops".
+abbrev pub strobed : Watched → Did → Did
+strobed w d =
+    record { machine = withDrives (d .machine) (drivesAfter w (watched (d .machine)) (d .machine .drives)); value = d .value }
 
--- A refusal that looks at the state; 0 where there is none. No number of document 01 does.
+unfoldable pub stepOf : Machine → Item → Did
+stepOf m i = strobed (watched m) (compared (wires m) (actedOf (waited (waitOf i) m) i))
+
+-- A refusal that looks at the state, as it stands before the wait; 0 where there is none. No number of document 01 does.
+-- W-203: "Inserting where a disk is, or removing where none is, gets refusal 8".
+abbrev pub numberIf : ℕ → Bool → ℕ
+numberIf n true = n
+numberIf n false = 0
+
 unfoldable pub refusesOf : Machine → Item → ℕ
-refusesOf m i = 0
+refusesOf m (ReadVia w r) = 0
+refusesOf m (ReadIwm w k) = 0
+refusesOf m (WriteVia w r v) = 0
+refusesOf m (WriteIwm w k v) = 0
+refusesOf m (Blank w) = 0
+refusesOf m (Second w) = 0
+refusesOf m (Line w l v) = 0
+refusesOf m (Sense w d r v) = 0
+refusesOf m (Reset w) = 0
+refusesOf m (Power w s) = 0
+refusesOf m (Disk w d i l b) = numberIf 8 (placeRefused (eqb d 1) (eqb i 1) (m .drives))
 
 -- "Level, lines and SEL are those after the item."
 unfoldable pub answerOf : Did → Answer

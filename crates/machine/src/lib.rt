@@ -5,13 +5,15 @@ ghost use Prim.Native.Nat.{_+_, _*_, _<_};
 ghost use Rattle.levels.specs.Levels.{allLevels};
 ghost use Rattle.clock.specs.Step.{shown};
 ghost use Rattle.items.specs.Items.{InRange};
-ghost use Rattle.machine.specs.Machine.{wires, acceptedOf, Levels, freshMachine};
-ghost use Rattle.machine.specs.Step.{noValue, waitOf, viaRead, iwmRead, actedOf, stepOf, refusesOf, answerOf};
+ghost use Rattle.machine.specs.Machine.{wires, watched, acceptedOf, Levels, freshMachine};
+ghost use Rattle.machine.specs.Step.{noValue, waitOf, viaRead, iwmRead, actedOf, stepOf, numberIf, refusesOf, answerOf};
 use clock::Clock;
 use clock::Wires;
+use drives::Drives;
 use items::Item;
 use iwm::DiskLines;
 use record::Answer;
+use strobe::Watched;
 use via::Via;
 
 pub struct Machine {
@@ -22,6 +24,8 @@ pub struct Machine {
     pub inputs: [u8; 5],
     // Sense registers 0 to 15 of the internal drive, then of the external one.
     pub sense: [u8; 32],
+    // The two drives behind the disk lines, and their strobe.
+    pub drives: Drives,
 }
 
 // What an item leaves: the next state and the value read.
@@ -39,6 +43,7 @@ pub fn fresh() -> Machine
         disk: iwm::off(),
         inputs: [1; 5],
         sense: [1; 32],
+        drives: Drives::fresh(),
     }
 }
 
@@ -74,6 +79,13 @@ pub fn wait_of(item: Item) -> u16
         } => wait,
         Item::Reset { wait } => wait,
         Item::Power { wait, seconds: _ } => wait,
+        Item::Disk {
+            wait,
+            drive: _,
+            insert: _,
+            locked: _,
+            sides: _,
+        } => wait,
     }
 }
 
@@ -100,6 +112,14 @@ impl Machine {
         wiring::wires_of(self.via.ports, self.shown())
     }
 
+    // The levels that the drives' strobe goes by.
+    fn watched(self) -> Watched
+        ensures { λ r. ⌜ r ≡ watched self ⌝ }
+    {
+        let d = self.disk;
+        wiring::watched_of(d, wiring::sel_of(self.via.ports))
+    }
+
     // Whether a run takes this state.
     pub fn accepted(self) -> bool
         ensures { λ r. ⌜ r ≡ acceptedOf self ⌝ }
@@ -115,7 +135,8 @@ impl Machine {
         let s = levels::all_levels(&sense);
         let v = self.via.accepted();
         let k = clock::accepted_phase(p, w.enable);
-        a & b & s & v & k
+        let g = self.drives.accepted(self.watched());
+        a & b & s & v & k & g
     }
 
     // A VIA register read.
@@ -144,14 +165,21 @@ impl Machine {
     {
         let mut m = self;
         let d = self.disk.access(location);
-        let at = d.sense_at(wiring::sel_of(self.via.ports)) as usize;
-        let sense = self.sense[at];
+        let at = d.sense_at(wiring::sel_of(self.via.ports));
+        let stored = self.sense[at as usize];
+        let sense = self.drives.shown(at, stored);
         m.disk = d;
         Did {
             machine: m,
             value: d.read(location, sense),
         }
     }
+}
+
+fn number_if(number: u8, refused: bool) -> u8
+    ensures { λ r. ⌜ r ≡ numberIf number refused ⌝ }
+{
+    if refused { number } else { 0 }
 }
 
 fn no_value(m: Machine) -> Did
@@ -227,6 +255,18 @@ impl Machine {
                 m.via = via::fresh();
                 m.disk = iwm::off();
                 m.clock = m.clock.time_off(seconds);
+                m.drives = m.drives.power_cut();
+                no_value(m)
+            }
+            Item::Disk {
+                wait: _,
+                drive,
+                insert,
+                locked,
+                sides,
+            } => {
+                m.drives = m.drives
+                    .place(drive == 1, insert == 1, locked == 1, sides == 1);
                 no_value(m)
             }
         }
@@ -236,22 +276,70 @@ impl Machine {
     pub fn refuses(self, item: Item) -> u8
         ensures { λ r. ⌜ r ≡ refusesOf self item ⌝ }
     {
-        0
+        match item {
+            Item::ReadVia {
+                wait: _,
+                register: _,
+            } => 0,
+            Item::ReadIwm {
+                wait: _,
+                location: _,
+            } => 0,
+            Item::WriteVia {
+                wait: _,
+                register: _,
+                value: _,
+            } => 0,
+            Item::WriteIwm {
+                wait: _,
+                location: _,
+                value: _,
+            } => 0,
+            Item::Blank { wait: _ } => 0,
+            Item::Second { wait: _ } => 0,
+            Item::Line {
+                wait: _,
+                line: _,
+                level: _,
+            } => 0,
+            Item::Sense {
+                wait: _,
+                drive: _,
+                register: _,
+                level: _,
+            } => 0,
+            Item::Reset { wait: _ } => 0,
+            Item::Power {
+                wait: _,
+                seconds: _,
+            } => 0,
+            Item::Disk {
+                wait: _,
+                drive,
+                insert,
+                locked: _,
+                sides: _,
+            } => number_if(8, self.drives.refuses_place(drive == 1, insert == 1)),
+        }
     }
 
-    // One item: its wait, then its action, then the clock compares its wires.
+    // One item: its wait, then its action, then the clock compares its wires and the strobe its levels.
     pub fn step(self, item: Item) -> Did
         requires { ⌜ acceptedOf self ≡ true ⌝ }
         requires { ⌜ InRange item ⌝ }
         ensures { λ r. ⌜ r ≡ stepOf self item ⌝ }
     {
         let before = self.wires();
+        let watched = self.watched();
         let mut m = self;
-        m.via = m.via.wait(wait_of(item));
+        let ticks = wait_of(item);
+        m.via = m.via.wait(ticks);
+        m.drives = m.drives.wait(ticks);
         let d = m.act(item);
         let mut next = d.machine;
         let after = next.wires();
         next.clock = next.clock.step(before, after);
+        next.drives = next.drives.after(watched, next.watched());
         Did {
             machine: next,
             value: d.value,

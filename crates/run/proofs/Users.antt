@@ -7,12 +7,15 @@ use lib.ListN.{length}
 use lib.Dec.{eqb}
 use Rattle.record.specs.Record.{answerBytes, noOf}
 use Rattle.items.specs.declared.Item.{Item}
+use Rattle.items.specs.declared.Item.the-variants.{Disk}
 use Rattle.items.specs.declared.Decoded.{Decoded}
 use Rattle.items.specs.declared.Decoded.the-variants.{Done, Refused}
 use Rattle.items.specs.Items.{decodedOf}
+use Rattle.drives.specs.Drives.{placeRefused}
 use Rattle.machine.specs.declared.Machine.{Machine}
 use Rattle.machine.specs.Machine.{acceptedOf}
 use Rattle.machine.specs.Step.{stepOf, refusesOf, answerOf}
+use Rattle.machine.proofs.Drives.{clash}
 use Rattle.run.specs.Run.{Piece, whole, refused, carriedOut, turnBy, turnOf, Out, onto, runPieces, runOf}
 use Rattle.run.proofs.Loop as loop
 use Rattle.run.proofs.Joined as joined
@@ -43,6 +46,12 @@ refused-unchanged m s h = go (decodedOf s) h
             done : (x : Item) → true ≡ answerOf (stepOf m x) .ok
             done x = refl
         judge false h = refl
+
+-- DI where a disk is, or a removal where none is: refusal 8, and the machine as it was, its counters too.
+pub clash-refused : (m : Machine) (s : List ℕ) (w d i l b : ℕ) → decodedOf s ≡ Done (Disk w d i l b) → placeRefused (eqb d 1) (eqb i 1) (m .drives) ≡ true
+    → turnOf m s ≡ refused m 8
+unfolding turnOf
+clash-refused m s w d i l b e h = simp (e, clash m w d i l b h)
 
 -- The machine handed back is accepted where the one given was.
 pub accepted-kept : (m : Machine) (s : List ℕ) (room : ℕ) → acceptedOf m ≡ true → acceptedOf (runOf m s room .machine) ≡ true

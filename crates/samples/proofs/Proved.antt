@@ -1,25 +1,30 @@
--- Samples S1 to S10 hold, by computation.
+-- Samples S1 to S10 and the short runs of the drives hold, by computation.
 use mathlib.Core.Path.{refl}
 use Rattle.levels.specs.Levels.{allLevels}
-use Rattle.via.specs.Via.{freshVia, portLevel, latchOf, tickOf, ticks, raisedOf, asking, levelOf, acceptedVia}
+use Rattle.via.specs.Via.{freshVia, portLevel, latchOf, tickOf, ticks, raisedOf, resetOf, asking, levelOf, acceptedVia}
 use Rattle.via.specs.Registers.{written, readOf}
 use Rattle.clock.specs.Wire.{named, decode}
 use Rattle.clock.specs.Step.{between, fetch, next, acts, put, act, stepWires, shown, acceptedPhase}
-use Rattle.iwm.specs.Lines.{linesOff, lineByteOf}
-use Rattle.wiring.specs.Wiring.{wiresOf, selOf, inputsOf}
+use Rattle.iwm.specs.Lines.{linesOff, accessed, lineByteOf, senseAt, readLine}
+use Rattle.drive.specs.Drive as drive
+use Rattle.drive.specs.Drive.{registerWritten, neighbour, tickDrive, driveTicks, drivesSense, shownOf, acceptedDrive}
+use Rattle.strobe.specs.Strobe.{tickStrobe, strobeTicks, heldStill, unspoilt, strobeAfter, registerOf, longEnough, strobeWrites, acceptedStrobe}
+use Rattle.drives.specs.Drives.{drivesTicks, placed, placeRefused, drivesPowered, drivesAfter, drivesShown, acceptedDrives}
+use Rattle.wiring.specs.Wiring.{wiresOf, selOf, inputsOf, watchedOf}
 use Rattle.record.specs.Record.{le16Of, le32Of, frameOf, answerBytes, noOf}
-use Rattle.items.specs.Items.{isKind, placeFrom, foundOf, writeOf, plainOf, decodedOf}
+use Rattle.items.specs.Items.{isKind, placeFrom, foundOf, writeOf, plainOf, powerOf, diskOf, decodedOf}
 use Rattle.items.specs.Items as items
 use Rattle.machine.specs.Machine.{acceptedOf}
-use Rattle.machine.specs.Step.{waitOf, viaRead, actedOf, stepOf, refusesOf, answerOf}
+use Rattle.machine.specs.Step.{waitOf, viaRead, iwmRead, actedOf, stepOf, refusesOf, answerOf}
 use Rattle.run.specs.Run.{cut, piecesFrom, turnOf, onto, onPiece, runPieces, runOf}
 use Rattle.samples.specs.Lists.{sent}
 use Rattle.samples.specs.Samples.{Samples, values}
+use Rattle.samples.specs.Drives.{DriveSamples}
 
 pub samples : Samples
 unfolding allLevels freshVia portLevel latchOf tickOf ticks raisedOf asking levelOf acceptedVia written readOf named decode between fetch next acts put act
     stepWires shown acceptedPhase linesOff lineByteOf wiresOf selOf inputsOf le16Of le32Of frameOf answerBytes noOf isKind placeFrom foundOf writeOf plainOf
-    decodedOf items.readOf acceptedOf waitOf viaRead actedOf stepOf refusesOf answerOf cut piecesFrom turnOf onto onPiece runPieces runOf sent values
+    decodedOf items.readOf acceptedOf acceptedDrives acceptedDrive acceptedStrobe waitOf viaRead actedOf stepOf refusesOf answerOf cut piecesFrom turnOf onto onPiece runPieces runOf sent values
 samples =
     record {
       S1 = refl;
@@ -34,4 +39,25 @@ samples =
       S9-B5 = refl;
       S9-B1 = refl;
       S10 = refl;
+    }
+
+pub driveSamples : DriveSamples
+unfolding allLevels freshVia tickOf ticks resetOf asking levelOf acceptedVia written between stepWires next acts act shown acceptedPhase linesOff accessed lineByteOf
+    senseAt readLine wiresOf selOf watchedOf le16Of le32Of frameOf answerBytes noOf isKind placeFrom foundOf writeOf plainOf powerOf diskOf decodedOf items.readOf items.senseOf
+    registerWritten neighbour tickDrive driveTicks drivesSense drive.senseOf shownOf acceptedDrive tickStrobe strobeTicks heldStill unspoilt strobeAfter registerOf
+    longEnough strobeWrites acceptedStrobe drivesTicks placed placeRefused drivesPowered drivesAfter drivesShown acceptedDrives
+    acceptedOf waitOf iwmRead actedOf stepOf refusesOf answerOf cut piecesFrom turnOf onto onPiece runPieces runOf values
+driveSamples =
+    record {
+      refusals = refl;
+      step = refl;
+      short = refl;
+      spoilt = refl;
+      noDisk = refl;
+      motor = refl;
+      overReset = refl;
+      overPower = refl;
+      stored = refl;
+      shown = refl;
+      drive = (refl, refl, refl);
     }

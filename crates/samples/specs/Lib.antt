@@ -1,2 +1,3 @@
 pub mod Lists
 pub mod Samples
+pub mod Drives

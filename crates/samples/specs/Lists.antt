@@ -17,6 +17,29 @@ rd wait r = 8 ∷ 0 ∷ 82 ∷ 68 ∷ wait % 256 ∷ wait / 256 ∷ word (regist
 abbrev pub wr : ℕ → ℕ → ℕ → List ℕ
 wr wait r v = 9 ∷ 0 ∷ 87 ∷ 82 ∷ wait % 256 ∷ wait / 256 ∷ (word (register r) ++ (v ∷ []))
 
+-- IWM location k is at $DFE1FF + 512k: an access by WR, after a wait in VIA ticks, and a RD with no wait.
+abbrev pub location : ℕ → ℕ
+location k = 0xdfe1ff + 512 * k
+
+abbrev pub access : ℕ → ℕ → List ℕ
+access wait k = 9 ∷ 0 ∷ 87 ∷ 82 ∷ wait % 256 ∷ wait / 256 ∷ (word (location k) ++ (0 ∷ []))
+
+abbrev pub rdIwm : ℕ → List ℕ
+rdIwm k = 8 ∷ 0 ∷ 82 ∷ 68 ∷ 0 ∷ 0 ∷ word (location k)
+
+-- SN, DI, RS and PW with 0 seconds off, with no wait.
+abbrev pub sn : ℕ → ℕ → ℕ → List ℕ
+sn drive r level = 7 ∷ 0 ∷ 83 ∷ 78 ∷ 0 ∷ 0 ∷ drive ∷ r ∷ level ∷ []
+
+abbrev pub di : ℕ → ℕ → ℕ → ℕ → List ℕ
+di drive insert locked sides = 8 ∷ 0 ∷ 68 ∷ 73 ∷ 0 ∷ 0 ∷ drive ∷ insert ∷ locked ∷ sides ∷ []
+
+abbrev pub rs : List ℕ
+rs = 4 ∷ 0 ∷ 82 ∷ 83 ∷ 0 ∷ 0 ∷ []
+
+abbrev pub pw : List ℕ
+pw = 8 ∷ 0 ∷ 80 ∷ 87 ∷ 0 ∷ 0 ∷ 0 ∷ 0 ∷ 0 ∷ 0 ∷ []
+
 -- SE with no wait.
 abbrev pub se : List ℕ
 se = 4 ∷ 0 ∷ 83 ∷ 69 ∷ 0 ∷ 0 ∷ []
@@ -50,3 +73,14 @@ byte b = sent 8 8 b
 -- One whole write transaction.
 abbrev pub transaction : ℕ → ℕ → List ℕ
 transaction command b = select ++ byte command ++ byte b ++ end
+
+-- SEL 0, by PA5 made an output; ENABLE on, Q6 on.
+abbrev pub selDown : List ℕ
+selDown = wr 0 3 32
+
+abbrev pub ready : List ℕ
+ready = selDown ++ access 0 9 ++ access 0 13
+
+-- CA0 and CA1 on: locations 1 and 3. LSTRB on, and off again after so many ticks.
+abbrev pub strobe : ℕ → List ℕ
+strobe n = access 0 7 ++ access n 6

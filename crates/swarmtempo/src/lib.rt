@@ -4,7 +4,9 @@ ghost use lib.ListN.{length};
 ghost use mathlib.Core.Bool.{true};
 ghost use Rattle.image.specs.Image.{imageLength, machineOf, validImage};
 ghost use Rattle.history.specs.Runs.{Run3};
+ghost use Rattle.units.specs.Units.{ticksOf};
 ghost use Rattle.swarmtempo.specs.Call.{callOf, callImage, callAnswers, freshStop, freshImage};
+use units::Micros;
 
 // The length of an image in bytes.
 #[no_mangle]
@@ -57,4 +59,13 @@ pub extern "C" fn swarmtempo_run(
     *written = r.written as u64;
     image::save(image, r.machine);
     r.stop
+}
+
+// Microseconds in VIA ticks, rounded up.
+#[no_mangle]
+pub extern "C" fn swarmtempo_ticks_of_micros(micros: u32) -> u32
+    ensures { λ r. ⌜ r ≡ ticksOf micros ⌝ }
+{
+    let t = units::ticks_of_micros(Micros(micros));
+    t.0
 }

@@ -1,4 +1,4 @@
--- How the board wires the VIA's ports: document 01, "VIA".
+-- How the board wires the VIA's ports: document 01, "VIA"; and which levels reach the drives: request W-203.
 use Prim.Native.Nat.{ℕ, _+_, _*_, _/_, _%_}
 use mathlib.Core.Bool.{Bool, true, false, cond}
 use mathlib.Core.List.{List}
@@ -8,6 +8,9 @@ use Rattle.via.specs.declared.Ports.{Ports}
 use Rattle.via.specs.declared.Inputs.{Inputs}
 use Rattle.clock.specs.declared.Wires.{Wires}
 use Rattle.clock.specs.Wire.{bit}
+use Rattle.iwm.specs.declared.DiskLines.{DiskLines}
+use Rattle.iwm.specs.Lines as lines
+use Rattle.strobe.specs.declared.Watched.{Watched}
 
 -- One line of a port, by its weight in the port's byte: "the output bit where its direction is 1. Otherwise it is the input."
 abbrev pub pin : ℕ → ℕ → ℕ → Bool → Bool
@@ -33,4 +36,17 @@ inputsOf line lines =
     record {
       b = bit line + 2 + 4 + (8 * getD lines 0 0 + 16 * getD lines 1 0 + 32 * getD lines 2 0 + 64 * getD lines 3 0) + 128;
       a = 127 + 128 * getD lines 4 0;
+    }
+
+-- "LSTRB", "ENABLE", "CA0 to CA2, SEL and SELECT": the levels that a drive's strobe goes by. Q6 and Q7 are not watched.
+unfoldable pub watchedOf : DiskLines → ℕ → Watched
+watchedOf d sel =
+    record {
+      lstrb = eqb (lines.lstrb d) 1;
+      enable = eqb (lines.enable d) 1;
+      ca0 = eqb (lines.ca0 d) 1;
+      ca1 = eqb (lines.ca1 d) 1;
+      ca2 = eqb (lines.ca2 d) 1;
+      sel = eqb sel 1;
+      select = eqb (lines.select d) 1;
     }

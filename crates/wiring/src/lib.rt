@@ -1,11 +1,13 @@
-// How the board wires the VIA's ports: the clock's three wires, SEL, and the IN lines.
+// How the board wires the VIA's ports: the clock's three wires, SEL, and the IN lines; and the levels that reach the drives.
 ghost use mathlib.Core.Path.{_≡_};
 ghost use mathlib.Core.Bool.{true};
 ghost use Prim.Native.Nat.{_+_, _*_, _<_};
 ghost use Rattle.levels.specs.Levels.{allLevels};
 ghost use Rattle.clock.specs.Wire.{bit};
-ghost use Rattle.wiring.specs.Wiring.{pin, wiresOf, selOf, inputsOf};
+ghost use Rattle.wiring.specs.Wiring.{pin, wiresOf, selOf, inputsOf, watchedOf};
 use clock::Wires;
+use iwm::DiskLines;
+use strobe::Watched;
 use via::Inputs;
 use via::Ports;
 
@@ -78,5 +80,21 @@ pub fn inputs_of(line: bool, lines: [u8; 5]) -> Inputs
     Inputs {
         b: inputs_b(level_of(line), between),
         a: inputs_a(lines[4]),
+    }
+}
+
+// The levels that a drive's strobe goes by.
+pub fn watched_of(d: DiskLines, sel: u8) -> Watched
+    ensures { λ r. ⌜ r ≡ watchedOf d sel ⌝ }
+{
+    let l = d.lines;
+    Watched {
+        lstrb: l[3] == 1,
+        enable: l[4] == 1,
+        ca0: l[0] == 1,
+        ca1: l[1] == 1,
+        ca2: l[2] == 1,
+        sel: sel == 1,
+        select: l[5] == 1,
     }
 }

@@ -6,7 +6,7 @@ use crate::refusal;
 use crate::run::Run;
 
 /// Bytes of an image, its length included.
-pub const IMAGE_LEN: usize = 98;
+pub const IMAGE_LEN: usize = 121;
 
 struct Writer {
     bytes: [u8; IMAGE_LEN],
@@ -111,6 +111,16 @@ impl Machine {
         w.levels(self.lines.into(), 8);
         w.levels(self.inputs.into(), 5);
         w.levels(self.sense, 32);
+        for drive in &self.drives.drives {
+            w.put(&[drive.track]);
+            let flags =
+                [drive.direction, drive.disk, drive.locked, drive.double_sided, drive.motor];
+            flags.into_iter().for_each(|on| w.flag(on));
+            w.put(&drive.step_left.to_le_bytes());
+            w.flag(drive.step_direction);
+        }
+        w.put(&self.drives.strobe.ticks.to_le_bytes());
+        w.flag(self.drives.strobe.steady);
         debug_assert_eq!(w.at, IMAGE_LEN);
         w.bytes
     }
@@ -146,6 +156,18 @@ impl Machine {
         m.lines = r.levels(8)? as u8;
         m.inputs = r.levels(5)? as u8;
         m.sense = r.levels(32)?;
+        for drive in &mut m.drives.drives {
+            drive.track = r.byte()?;
+            drive.direction = r.flag()?;
+            drive.disk = r.flag()?;
+            drive.locked = r.flag()?;
+            drive.double_sided = r.flag()?;
+            drive.motor = r.flag()?;
+            drive.step_left = r.word()?;
+            drive.step_direction = r.flag()?;
+        }
+        m.drives.strobe.ticks = u32::from_le_bytes(r.take()?);
+        m.drives.strobe.steady = r.flag()?;
         debug_assert!(r.bytes.is_empty());
         m.accepted().then_some(m)
     }

@@ -20,6 +20,7 @@ pub enum Item {
     Second,
     Line { line: u8, level: bool },
     Sense { drive: u8, register: u8, level: bool },
+    Disk { drive: u8, insert: bool, locked: bool, double_sided: bool },
     Reset,
     Power { seconds: u32 },
 }
@@ -63,7 +64,7 @@ fn below(byte: u8, limit: u8) -> Result<u8, u8> {
 /// The length that each kind has, counting what follows the length.
 fn length_of(kind: [u8; 2]) -> Option<usize> {
     match &kind {
-        b"RD" | b"PW" => Some(8),
+        b"RD" | b"PW" | b"DI" => Some(8),
         b"WR" => Some(9),
         b"VB" | b"SE" | b"RS" => Some(4),
         b"IN" => Some(6),
@@ -100,6 +101,12 @@ pub fn decode(record: &[u8]) -> Result<(u16, Item), u8> {
             drive: below(body[0], 2)?,
             register: below(body[1], 16)?,
             level: level(body[2])?,
+        },
+        b"DI" => Item::Disk {
+            drive: below(body[0], 2)?,
+            insert: level(body[1])?,
+            locked: level(body[2])?,
+            double_sided: level(body[3])?,
         },
         b"RS" => Item::Reset,
         _ => Item::Power { seconds: u32::from_le_bytes([body[0], body[1], body[2], body[3]]) },

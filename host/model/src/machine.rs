@@ -1,13 +1,16 @@
 //! The whole state, and one item carried out.
 
 use crate::clock::{Clock, Phase};
+use crate::drive::{Drives, Watched};
 use crate::items::Item;
+use crate::refusal;
 use crate::via::{self, Via};
 
 /// Bits of the disk-line byte.
 pub const CA0: u8 = 0x01;
 pub const CA1: u8 = 0x02;
 pub const CA2: u8 = 0x04;
+pub const LSTRB: u8 = 0x08;
 pub const ENABLE: u8 = 0x10;
 pub const SELECT: u8 = 0x20;
 pub const Q6: u8 = 0x40;
@@ -22,6 +25,7 @@ pub struct Machine {
     pub inputs: u8,
     /// Register r of the internal drive in bit r, of the external drive in bit 16 + r.
     pub sense: u32,
+    pub drives: Drives,
 }
 
 impl Default for Machine {
@@ -32,6 +36,7 @@ impl Default for Machine {
             lines: 0,
             inputs: 0x1F,
             sense: 0xFFFF_FFFF,
+            drives: Drives::default(),
         }
     }
 }
@@ -79,14 +84,45 @@ impl Machine {
     /// those of the types, and of the image's reader.
     pub fn accepted(&self) -> bool {
         (self.clock.phase == Phase::Idle) == self.wires().enable
+            && self.drives.accepted(self.watched())
+    }
+
+    /// The levels that a strobe of the drives watches.
+    fn watched(&self) -> Watched {
+        let on = |line: u8| self.lines & line != 0;
+        Watched {
+            lstrb: on(LSTRB),
+            enable: on(ENABLE),
+            ca: [on(CA0), on(CA1), on(CA2)],
+            sel: self.sel(),
+            select: on(SELECT),
+        }
+    }
+
+    /// The refusal of an item that the state does not allow.
+    pub fn refuses(&self, item: &Item) -> Option<u8> {
+        match *item {
+            Item::Disk { drive, insert, .. } => {
+                let there = self.drives.drives[usize::from(drive)].disk;
+                (insert == there).then_some(refusal::DISK)
+            }
+            _ => None,
+        }
     }
 
     /// Carries out an item and gives the value read, 0 unless it reads.
     pub fn step(&mut self, wait: u16, item: &Item) -> u8 {
         let before = self.wires();
+        let strobe = (self.lines & LSTRB != 0).then(|| self.watched());
         self.via.wait(wait);
+        self.drives.wait(wait);
         let value = self.act(item);
         self.settle(before);
+        if let Some(before) = strobe {
+            self.drives.settle(before, self.watched());
+        } else if self.lines & LSTRB != 0 {
+            self.drives.strobe.steady = self.lines & ENABLE != 0;
+        }
         value
     }
 
@@ -112,6 +148,14 @@ impl Machine {
                 let bit = 1u32 << (16 * drive + register);
                 self.sense = if level { self.sense | bit } else { self.sense & !bit };
             }
+            Item::Disk { drive, insert, locked, double_sided } => {
+                let drive = &mut self.drives.drives[usize::from(drive)];
+                if insert {
+                    drive.insert(locked, double_sided);
+                } else {
+                    drive.remove();
+                }
+            }
             Item::Reset => {
                 self.via.reset();
                 self.lines = 0;
@@ -121,6 +165,7 @@ impl Machine {
                 self.clock.phase = Phase::Idle;
                 self.lines = 0;
                 self.clock.store.advance(seconds);
+                self.drives.drives.iter_mut().for_each(|drive| drive.power_cut());
             }
         }
         0
@@ -146,7 +191,9 @@ impl Machine {
         }
         let on = |line: u8| u32::from(self.lines & line != 0);
         let register = 8 * on(CA2) + 4 * on(CA1) + 2 * on(CA0) + u32::from(self.sel());
-        self.sense >> (16 * on(SELECT) + register) & 1 != 0
+        let drive = on(SELECT);
+        let stored = self.sense >> (16 * drive + register) & 1 != 0;
+        self.drives.drives[drive as usize].sense(register).unwrap_or(stored)
     }
 
     /// The clock sees the wires after the item.

@@ -31,7 +31,12 @@ fn refused(number: u8) -> [u8; 8] {
 impl Machine {
     /// The answer to a record, given without its length.
     fn answer(&mut self, record: &[u8]) -> [u8; 8] {
-        match decode(record) {
+        let decoded = decode(record);
+        let allowed = decoded.and_then(|(wait, item)| match self.refuses(&item) {
+            Some(number) => Err(number),
+            None => Ok((wait, item)),
+        });
+        match allowed {
             Ok((wait, item)) => {
                 let value = self.step(wait, &item);
                 [6, 0, b'O', b'K', value, self.level(), self.lines, u8::from(self.sel())]

@@ -1,116 +1,9 @@
 //! The samples of the requirements, and the errors that look right.
 
+mod common;
+
+use common::*;
 use swarmtempo_model::{fresh_image, run_image, Machine, Phase, Run, IMAGE_LEN};
-
-const ORB: u32 = 0;
-const DDRB: u32 = 2;
-
-fn via(register: u32) -> u32 {
-    0xEFE1FE + 512 * register
-}
-
-fn iwm(location: u32) -> u32 {
-    0xDFE1FF + 512 * location
-}
-
-fn record(kind: &[u8; 2], wait: u16, rest: &[u8]) -> Vec<u8> {
-    let mut bytes = ((4 + rest.len()) as u16).to_le_bytes().to_vec();
-    bytes.extend_from_slice(kind);
-    bytes.extend_from_slice(&wait.to_le_bytes());
-    bytes.extend_from_slice(rest);
-    bytes
-}
-
-/// A machine with short forms of the items; each gives its answer.
-#[derive(Clone)]
-struct Bench(Machine);
-
-impl Bench {
-    fn new() -> Self {
-        Bench(Machine::new())
-    }
-
-    fn item(&mut self, record: &[u8]) -> [u8; 8] {
-        let mut answer = [0xEE; 8];
-        let run = self.0.run(record, &mut answer);
-        assert_eq!(run, Run { stop: 0, consumed: record.len(), written: 8 });
-        answer
-    }
-
-    fn ok(&mut self, record: &[u8]) -> [u8; 4] {
-        let answer = self.item(record);
-        assert_eq!(answer[..4], *b"\x06\0OK", "{answer:02X?}");
-        [answer[4], answer[5], answer[6], answer[7]]
-    }
-
-    fn refused(&mut self, record: &[u8]) -> u8 {
-        let before = self.0.clone();
-        let answer = self.item(record);
-        assert_eq!(answer[..4], *b"\x06\0NO", "{answer:02X?}");
-        assert_eq!(answer[5..], [0; 3]);
-        assert_eq!(self.0, before);
-        answer[4]
-    }
-
-    fn wr(&mut self, wait: u16, address: u32, value: u8) -> [u8; 4] {
-        let mut rest = address.to_le_bytes().to_vec();
-        rest.push(value);
-        self.ok(&record(b"WR", wait, &rest))
-    }
-
-    fn rd(&mut self, wait: u16, address: u32) -> [u8; 4] {
-        self.ok(&record(b"RD", wait, &address.to_le_bytes()))
-    }
-
-    fn value(&mut self, register: u32) -> u8 {
-        self.rd(0, via(register))[0]
-    }
-
-    /// Enable low, with data-clock low and data an output.
-    fn begin(&mut self) {
-        self.wr(0, via(ORB), 0x04);
-        self.wr(0, via(DDRB), 0x07);
-        self.wr(0, via(ORB), 0x00);
-    }
-
-    fn bit(&mut self, bit: u8) {
-        self.wr(0, via(ORB), bit);
-        self.wr(0, via(ORB), bit | 2);
-    }
-
-    fn byte(&mut self, byte: u8) {
-        (0..8).rev().for_each(|i| self.bit(byte >> i & 1));
-    }
-
-    fn end(&mut self) {
-        self.wr(0, via(ORB), 0x04);
-    }
-
-    fn send(&mut self, bytes: &[u8]) {
-        self.begin();
-        bytes.iter().for_each(|&byte| self.byte(byte));
-        self.end();
-    }
-
-    /// A read transaction: the byte shown by the falls.
-    fn receive(&mut self, command: u8) -> u8 {
-        self.begin();
-        self.byte(command);
-        self.wr(0, via(DDRB), 0x06);
-        let mut byte = 0;
-        for _ in 0..8 {
-            self.wr(0, via(ORB), 0);
-            byte = byte << 1 | self.value(ORB) & 1;
-            self.wr(0, via(ORB), 2);
-        }
-        self.end();
-        byte
-    }
-
-    fn cells(&self) -> &[u8] {
-        &self.0.clock.store.cells
-    }
-}
 
 #[test]
 fn s1_empty_list() {
@@ -388,7 +281,11 @@ fn disk_lines_and_sense() {
     assert_eq!(b.rd(0, iwm(14)), [0x80, 0, 0x40, 1], "ENABLE off reads 1");
     b.wr(0, iwm(9), 0);
     b.ok(&record(b"SN", 0, &[0, 1, 0]));
-    assert_eq!(b.rd(0, iwm(14)), [0x00, 0, 0x50, 1], "SEL is 1 when undriven: register 1");
+    assert_eq!(b.rd(0, iwm(14)), [0x80, 0, 0x50, 1], "register 1 is the drive's: no disk");
+    b.wr(0, iwm(5), 0);
+    b.ok(&record(b"SN", 0, &[0, 9, 0]));
+    assert_eq!(b.rd(0, iwm(14)), [0x00, 0, 0x54, 1], "SEL is 1 when undriven: register 9");
+    b.wr(0, iwm(4), 0);
     assert_eq!(b.wr(0, iwm(14), 0xFF), [0x00, 0, 0x50, 1]);
     assert_eq!(b.rd(0, iwm(11)), [0xFF, 0, 0x70, 1]);
     assert_eq!(b.rd(0, iwm(14))[0], 0x80, "the external drive");
@@ -400,7 +297,7 @@ fn disk_lines_and_sense() {
     assert_eq!(b.rd(0, iwm(14)), [0x00, 0, 0x77, 0]);
     b.ok(&record(b"RS", 0, &[]));
     assert_eq!(b.0.lines, 0);
-    assert_eq!(b.0.sense, !(1 << 1 | 1 << 30));
+    assert_eq!(b.0.sense, !(1 << 1 | 1 << 9 | 1 << 30));
 }
 
 #[test]
@@ -464,7 +361,7 @@ fn images_come_back() {
     b.bit(1);
     b.bit(0);
     let mut image = b.0.image();
-    assert_eq!(image[..4], [96, 0, b'S', b'T']);
+    assert_eq!(image[..4], [119, 0, b'S', b'T']);
     assert_eq!(image[23..27], [2, 0x41, 2, 2]);
     assert_eq!(Machine::from_image(&image), Some(b.0.clone()));
     let mut answers = [0; 8];
@@ -473,7 +370,8 @@ fn images_come_back() {
     b.ok(&record(b"SE", 0, &[]));
     assert_eq!(image, b.0.image());
     let fresh = fresh_image();
-    assert_eq!(fresh[61..], [1; 37]);
+    assert_eq!(fresh[61..98], [1; 37]);
+    assert_eq!(fresh[98..], [0; 23]);
     assert!(fresh[4..61].iter().all(|&byte| byte == 0));
 }
 
@@ -498,7 +396,8 @@ fn images_that_no_state_has() {
         changes.iter().for_each(|&(at, value)| image[at] = value);
         image
     };
-    refused(&with(&fresh, &[(0, 97)]), "length");
+    refused(&with(&fresh, &[(0, 96)]), "length");
+    refused(&[&[96, 0][..], &fresh[2..98]].concat(), "an older length");
     refused(&with(&fresh, &[(1, 1)]), "length, high byte");
     refused(&with(&fresh, &[(3, b'X')]), "kind");
     for at in (12..14).chain([17, 27]).chain(53..98) {

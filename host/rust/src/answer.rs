@@ -23,10 +23,12 @@ pub enum Refusal {
     Room = 6,
     /// The image is none of an accepted state. Nothing is done.
     State = 7,
+    /// A disk inserted where one is, or removed where none is.
+    Disk = 8,
 }
 
 impl Refusal {
-    const ALL: [Refusal; 7] = [
+    const ALL: [Refusal; 8] = [
         Refusal::Cut,
         Refusal::Kind,
         Refusal::Length,
@@ -34,6 +36,7 @@ impl Refusal {
         Refusal::Range,
         Refusal::Room,
         Refusal::State,
+        Refusal::Disk,
     ];
 
     /// The refusal of a number.
@@ -57,6 +60,7 @@ impl fmt::Display for Refusal {
             Refusal::Range => "line, drive, register or level out of range",
             Refusal::Room => "no room for an answer",
             Refusal::State => "image is none of an accepted state",
+            Refusal::Disk => "a disk is there already, or none is",
         })
     }
 }

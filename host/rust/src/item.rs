@@ -1,6 +1,6 @@
 //! Items as types, and lists of them.
 
-use crate::Refusal;
+use crate::{sys, Refusal};
 
 /// VIA ticks in a second.
 pub const TICKS_PER_SECOND: u32 = 783_360;
@@ -12,6 +12,28 @@ pub struct ViaTicks(pub u16);
 /// A time in seconds.
 #[derive(Clone, Copy, Debug, Default, PartialEq, Eq, PartialOrd, Ord, Hash)]
 pub struct Seconds(pub u32);
+
+/// A time in microseconds.
+#[derive(Clone, Copy, Debug, Default, PartialEq, Eq, PartialOrd, Ord, Hash)]
+pub struct Micros(pub u32);
+
+impl Micros {
+    /// In VIA ticks, rounded up.
+    pub fn ticks(self) -> TickCount {
+        TickCount(sys::ticks_of_micros(self.0))
+    }
+}
+
+/// A number of VIA ticks, which may be more than one wait takes.
+#[derive(Clone, Copy, Debug, Default, PartialEq, Eq, PartialOrd, Ord, Hash)]
+pub struct TickCount(pub u32);
+
+impl TickCount {
+    /// As one wait, where it is not too long.
+    pub fn wait(self) -> Option<ViaTicks> {
+        u16::try_from(self.0).ok().map(ViaTicks)
+    }
+}
 
 /// A VIA register, by the data sheet's names.
 #[derive(Clone, Copy, Debug, PartialEq, Eq, Hash)]
@@ -217,6 +239,17 @@ pub enum Item {
     In(InLine, bool),
     /// SN: a sense register of a drive takes a level.
     Sense(Drive, SenseRegister, bool),
+    /// DI: a disk is inserted or removed.
+    Disk {
+        /// Where.
+        drive: Drive,
+        /// True to insert, false to remove.
+        insert: bool,
+        /// Counts on insertion only.
+        locked: bool,
+        /// Counts on insertion only.
+        double_sided: bool,
+    },
     /// RS: reset.
     Reset,
     /// PW: power cut, with the time off.
@@ -233,6 +266,7 @@ impl Item {
             Item::Second => b"SE",
             Item::In(..) => b"IN",
             Item::Sense(..) => b"SN",
+            Item::Disk { .. } => b"DI",
             Item::Reset => b"RS",
             Item::Power(_) => b"PW",
         }
@@ -255,6 +289,10 @@ impl Item {
             Item::Sense(drive, register, level) => {
                 out.extend_from_slice(&[drive as u8, register.0, u8::from(level)]);
             }
+            Item::Disk { drive, insert, locked, double_sided } => {
+                out.push(drive as u8);
+                out.extend([insert, locked, double_sided].map(u8::from));
+            }
             Item::Power(seconds) => out.extend_from_slice(&seconds.0.to_le_bytes()),
         }
         let length = (out.len() - start - 2) as u16;
@@ -264,14 +302,14 @@ impl Item {
     /// Reads a record, given without its length.
     ///
     /// # Errors
-    /// The refusal that a run answers whatever the state.
+    /// The refusal that a run answers whatever the state. [`Refusal::Disk`] is none of those.
     pub fn read(record: &[u8]) -> Result<(ViaTicks, Item), Refusal> {
         let (kind, rest) = record.split_first_chunk::<2>().ok_or(Refusal::Cut)?;
         let length = match kind {
             b"VB" | b"SE" | b"RS" => 4,
             b"IN" => 6,
             b"SN" => 7,
-            b"RD" | b"PW" => 8,
+            b"RD" | b"PW" | b"DI" => 8,
             b"WR" => 9,
             _ => return Err(Refusal::Kind),
         };
@@ -289,6 +327,7 @@ impl Item {
             b"RD" => Item::Read(address()?),
             b"WR" => Item::Write(address()?, rest[4]),
             b"IN" => read_in(rest).ok_or(Refusal::Range)?,
+            b"DI" => read_disk(rest).ok_or(Refusal::Range)?,
             _ => read_sense(rest).ok_or(Refusal::Range)?,
         };
         Ok((ViaTicks(u16::from_le_bytes(*wait)), item))
@@ -302,6 +341,15 @@ fn read_in(rest: &[u8]) -> Option<Item> {
 fn read_sense(rest: &[u8]) -> Option<Item> {
     let register = SenseRegister::new(rest[1])?;
     Some(Item::Sense(Drive::from_byte(rest[0])?, register, level(rest[2])?))
+}
+
+fn read_disk(rest: &[u8]) -> Option<Item> {
+    Some(Item::Disk {
+        drive: Drive::from_byte(rest[0])?,
+        insert: level(rest[1])?,
+        locked: level(rest[2])?,
+        double_sided: level(rest[3])?,
+    })
 }
 
 fn level(byte: u8) -> Option<bool> {

@@ -39,8 +39,8 @@ pub use answer::{answers, Answer, Lines, Refusal, Seen, ANSWER_LEN};
 pub use chunks::{pieces, Chunks, Piece, Pieces, CHUNK_LEN};
 pub use command::{Command, Target};
 pub use item::{
-    Address, DiskLine, Drive, InLine, Item, List, Register, Seconds, SenseRegister, ViaTicks,
-    TICKS_PER_SECOND,
+    Address, DiskLine, Drive, InLine, Item, List, Micros, Register, Seconds, SenseRegister,
+    TickCount, ViaTicks, TICKS_PER_SECOND,
 };
 pub use machine::{Machine, Run};
-pub use state::{Phase, State, Timer1, Timer2, Wires};
+pub use state::{DriveState, Phase, State, Strobe, Timer1, Timer2, Wires};

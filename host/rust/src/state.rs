@@ -58,6 +58,36 @@ pub enum Phase {
     Ignoring,
 }
 
+/// A drive.
+#[derive(Clone, Copy, Debug, PartialEq, Eq)]
+pub struct DriveState {
+    /// 0 to 79.
+    pub track: u8,
+    /// False towards track 79, true towards track 0.
+    pub direction: bool,
+    /// A disk is in place.
+    pub disk: bool,
+    /// It is locked.
+    pub locked: bool,
+    /// Double-sided.
+    pub double_sided: bool,
+    /// The motor runs.
+    pub motor: bool,
+    /// VIA ticks left of a step, 0 where none is under way.
+    pub step_left: u16,
+    /// The direction of that step.
+    pub step_direction: bool,
+}
+
+/// A strobe of LSTRB.
+#[derive(Clone, Copy, Debug, PartialEq, Eq)]
+pub struct Strobe {
+    /// VIA ticks since LSTRB rose, 391,680 at most; 0 unless steady.
+    pub ticks: u32,
+    /// ENABLE was on and the other lines held still since LSTRB rose.
+    pub steady: bool,
+}
+
 /// The levels of the clock's wires.
 #[derive(Clone, Copy, Debug, PartialEq, Eq)]
 pub struct Wires {
@@ -110,6 +140,10 @@ pub struct State {
     pub inputs: Vec<bool>,
     /// The levels of the sense registers, internal drive first.
     pub sense: [[bool; 16]; 2],
+    /// The drives, internal first.
+    pub drives: [DriveState; 2],
+    /// The strobe under way.
+    pub strobe: Strobe,
 }
 
 /// Takes the fields of an image from its front.
@@ -136,6 +170,19 @@ impl Fields<'_> {
 
     fn flags<const N: usize>(&mut self) -> [bool; N] {
         self.bytes::<N>().map(|byte| byte != 0)
+    }
+
+    fn drive(&mut self) -> DriveState {
+        DriveState {
+            track: self.byte(),
+            direction: self.flag(),
+            disk: self.flag(),
+            locked: self.flag(),
+            double_sided: self.flag(),
+            motor: self.flag(),
+            step_left: self.word(),
+            step_direction: self.flag(),
+        }
     }
 
     fn phase(&mut self) -> Phase {
@@ -180,6 +227,8 @@ impl State {
             ),
             inputs: f.flags::<5>().to_vec(),
             sense: [f.flags(), f.flags()],
+            drives: [f.drive(), f.drive()],
+            strobe: Strobe { ticks: u32::from_le_bytes(f.bytes()), steady: f.flag() },
         }
     }
 

@@ -14,6 +14,7 @@ extern "C" {
         written: *mut u64,
     ) -> u8;
     fn swarmtempo_image_len() -> u64;
+    fn swarmtempo_ticks_of_micros(micros: u32) -> u32;
     fn swarmtempo_fresh(image: *mut c_uchar, image_len: usize) -> u8;
 }
 
@@ -40,6 +41,12 @@ pub fn run(image: &mut [u8], list: &[u8], answers: &mut [u8]) -> (u8, usize, usi
 pub fn image_len() -> usize {
     // SAFETY: takes nothing.
     unsafe { swarmtempo_image_len() as usize }
+}
+
+/// VIA ticks, rounded up.
+pub fn ticks_of_micros(micros: u32) -> u32 {
+    // SAFETY: takes and gives a number.
+    unsafe { swarmtempo_ticks_of_micros(micros) }
 }
 
 /// 0, or 6 where the image is too short.

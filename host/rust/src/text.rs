@@ -8,6 +8,7 @@
 //! 0t  VB                  ; also SE and RS
 //! 0t  IN 3 1              ; line, level
 //! 0t  SN internal 1 0     ; drive, register, level
+//! 0t  DI internal 1 0 1   ; drive, insert, locked, double-sided
 //! 0t  PW 5s               ; power cut, 5 seconds off
 //! RAW 05 00 53 45 00 00 00  ; bytes as they are
 //! ```
@@ -88,7 +89,7 @@ pub fn assemble_line(line: &str, out: &mut Vec<u8>) -> Result<(), LineError> {
         return Ok(());
     }
     let wait = ViaTicks(first.with_unit('t', "a wait", "VIA ticks", u16::MAX.into())? as u16);
-    let kind = words.need("a kind: RD, WR, VB, SE, IN, SN, RS or PW")?;
+    let kind = words.need("a kind: RD, WR, VB, SE, IN, SN, DI, RS or PW")?;
     let item = match kind.text.to_ascii_uppercase().as_str() {
         "RD" => Item::Read(words.need("an address")?.address()?),
         "WR" => {
@@ -109,6 +110,12 @@ pub fn assemble_line(line: &str, out: &mut Vec<u8>) -> Result<(), LineError> {
             let register = SenseRegister::new(register).expect("in range");
             Item::Sense(drive, register, words.need("a level")?.level()?)
         }
+        "DI" => Item::Disk {
+            drive: words.need("a drive: internal or external")?.drive()?,
+            insert: words.need("insert 1 or remove 0")?.level()?,
+            locked: words.need("locked 0 or 1")?.level()?,
+            double_sided: words.need("double-sided 0 or 1")?.level()?,
+        },
         "RS" => Item::Reset,
         "PW" => {
             let time = words.need("the time off, as 5s")?;
@@ -116,7 +123,7 @@ pub fn assemble_line(line: &str, out: &mut Vec<u8>) -> Result<(), LineError> {
         }
         _ => {
             return kind.wrong(format!(
-                "unknown kind `{}`; RD, WR, VB, SE, IN, SN, RS, PW, or a line of RAW bytes",
+                "unknown kind `{}`; RD, WR, VB, SE, IN, SN, DI, RS, PW, or a line of RAW bytes",
                 kind.text
             ))
         }
@@ -263,6 +270,10 @@ pub fn item(wait: ViaTicks, item: &Item) -> String {
         Item::In(line, level) => format!("{head} {} {}", line.number(), u8::from(level)),
         Item::Sense(drive, register, level) => {
             format!("{head} {} {} {}", drive.name(), register.number(), u8::from(level))
+        }
+        Item::Disk { drive, insert, locked, double_sided } => {
+            let [insert, locked, sides] = [insert, locked, double_sided].map(u8::from);
+            format!("{head} {} {insert} {locked} {sides}", drive.name())
         }
         Item::Power(seconds) => format!("{head} {}s", seconds.0),
     }

@@ -133,7 +133,7 @@ fn exit_statuses() {
     let folder = Folder::new("status");
     let list = folder.put("list", transaction().as_bytes());
     let cut = folder.put("cut", &transaction().as_bytes()[..30]);
-    let bad = folder.put("bad", &[0; 98]);
+    let bad = folder.put("bad", &[0; 121]);
     for (words, expected) in [
         (&["run", &list][..], 0),
         (&["run", &cut], 1),

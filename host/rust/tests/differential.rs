@@ -175,6 +175,7 @@ impl Maker<'_> {
                 self.record(b"SN", wait, &rest);
             }
             10 if self.random.one_in(4) => self.record(b"RS", wait, &[]),
+            10 if self.random.one_in(2) => self.place(wait, odd),
             10 => self.disk(),
             _ if self.random.one_in(4) => {
                 let seconds = self.random.next() as u32;
@@ -182,6 +183,78 @@ impl Maker<'_> {
                 self.record(b"PW", wait, &seconds.to_le_bytes());
             }
             _ => self.rd(wait, Register::IFR),
+        }
+    }
+
+    /// A disk inserted or removed.
+    fn place(&mut self, wait: u16, odd: usize) {
+        let rest = [0; 4].map(|_: u8| self.random.below(2 + odd) as u8);
+        self.record(b"DI", wait, &rest);
+    }
+
+    fn line(&mut self, wait: u16, line: DiskLine, on: bool) {
+        let mut rest = Address::Iwm(line, on).number().to_le_bytes().to_vec();
+        if self.random.one_in(2) {
+            self.record(b"RD", wait, &rest);
+        } else {
+            rest.push(0);
+            self.record(b"WR", wait, &rest);
+        }
+    }
+
+    /// A write to a drive: lines aimed, LSTRB on, waits around the edges, LSTRB off, a look.
+    fn strobe(&mut self) {
+        if self.random.one_in(3) {
+            self.place(0, 0);
+        }
+        if !self.random.one_in(8) {
+            self.wr(0, Register::DDRA, 0x20);
+            let sel = if self.random.one_in(10) { 0x20 } else { 0 };
+            self.wr(0, Register::ORANH, sel);
+        }
+        if self.random.one_in(3) {
+            let on = self.random.one_in(2);
+            self.line(0, DiskLine::SELECT, on);
+        }
+        self.line(0, DiskLine::ENABLE, true);
+        let lines = [DiskLine::CA0, DiskLine::CA1, DiskLine::CA2];
+        for line in lines {
+            let on = self.random.one_in(2);
+            self.line(0, line, on);
+        }
+        self.line(0, DiskLine::LSTRB, true);
+        let mut left = self.random.pick(&[0, 1, 2, 783, 784, 700, 391_679, 391_680, 500_000]);
+        while left > 0 {
+            let part = if self.random.one_in(3) { 1 + left / 2 } else { left };
+            let wait = part.min(65_535) as u16;
+            left -= u32::from(wait);
+            if left == 0 && !self.random.one_in(5) {
+                self.line(wait, DiskLine::LSTRB, false);
+            } else if self.random.one_in(12) {
+                let line = self.random.pick(&DiskLine::ALL);
+                let on = self.random.one_in(2);
+                self.line(wait, line, on);
+            } else {
+                self.record(b"VB", wait, &[]);
+            }
+        }
+        self.line(0, DiskLine::LSTRB, false);
+        if self.random.one_in(2) {
+            let wait = self.random.pick(&[1, 8_618, 9_400, 9_401, 9_402]);
+            self.record(b"SE", wait, &[]);
+        }
+        self.sense();
+    }
+
+    /// Reads a sense register of the enabled drive.
+    fn sense(&mut self) {
+        self.line(0, DiskLine::Q6, true);
+        for _ in 0..1 + self.random.below(3) {
+            let line = self.random.pick(&[DiskLine::CA0, DiskLine::CA1, DiskLine::CA2]);
+            let on = self.random.one_in(2);
+            self.line(0, line, on);
+            let sense = Address::Iwm(DiskLine::Q7, false).number().to_le_bytes();
+            self.record(b"RD", 0, &sense);
         }
     }
 
@@ -385,7 +458,8 @@ impl Maker<'_> {
     }
 
     fn part(&mut self) {
-        match self.random.below(20) {
+        match self.random.below(24) {
+            20..=23 => (0..1 + self.random.below(3)).for_each(|_| self.strobe()),
             0..=4 => self.by_port(),
             5..=7 => self.by_direction(),
             8..=11 => self.timers(),
@@ -422,6 +496,26 @@ fn some_image(random: &mut Random) -> Vec<u8> {
     for at in [12, 13, 17, 27].into_iter().chain(53..98) {
         image[at] = random.byte() & 1;
     }
+    for drive in [98, 107] {
+        let disk = random.byte() & 1;
+        let left = random.pick(&[0u16, 0, 1, 2, 9_400, 9_401]);
+        let fields = [
+            random.pick(&[0, 1, 2, 40, 78, 79]),
+            random.byte() & 1,
+            disk,
+            random.byte() & disk,
+            random.byte() & 1,
+            random.byte() & disk,
+        ];
+        image[drive..drive + 6].copy_from_slice(&fields);
+        image[drive + 6..drive + 8].copy_from_slice(&left.to_le_bytes());
+        image[drive + 8] = u8::from(left > 0) & random.byte();
+    }
+    if image[56] == 1 && image[57] == 1 && !random.one_in(4) {
+        let ticks = random.pick(&[0u32, 1, 782, 783, 784, 391_679, 391_680]);
+        image[116..120].copy_from_slice(&ticks.to_le_bytes());
+        image[120] = 1;
+    }
     let low = !random.one_in(5);
     image[4] = image[4] & 0xFB | if low { 0 } else { 4 };
     image[6] |= 4;
@@ -454,6 +548,26 @@ fn odd_phase(random: &mut Random) -> [u8; 4] {
     [random.below(6) as u8, command, bits, value]
 }
 
+/// A field of the drives or of the strobe at or past the edges of its range.
+fn odd_drives(random: &mut Random, image: &mut [u8]) {
+    let drive = random.pick(&[98, 107]);
+    match random.below(5) {
+        0 => image[drive] = random.pick(&[79, 80, 255]),
+        1 => {
+            let left = random.pick(&[0u16, 1, 9_401, 9_402, 65_535]);
+            image[drive + 6..drive + 8].copy_from_slice(&left.to_le_bytes());
+            image[drive + 8] = random.byte() & 1;
+        }
+        2 => {
+            let ticks = random.pick(&[0u32, 1, 391_680, 391_681, 1 << 24]);
+            image[116..120].copy_from_slice(&ticks.to_le_bytes());
+            image[120] = random.byte() & 1;
+        }
+        3 => image[56 + random.below(2)] ^= 1,
+        _ => image[drive + 1 + random.below(5)] ^= random.pick(&[1, 1, 2]),
+    }
+}
+
 fn some_case(seed: u64) -> Case {
     let random = &mut Random(seed);
     let mut image = match random.below(4) {
@@ -472,7 +586,8 @@ fn some_case(seed: u64) -> Case {
         match random.below(12) {
             0 => image.truncate(random.below(image.len())),
             1 => image.push(0),
-            2..=6 => image[23..27].copy_from_slice(&odd_phase(random)),
+            2..=4 => image[23..27].copy_from_slice(&odd_phase(random)),
+            5 | 6 => odd_drives(random, &mut image),
             _ => {
                 let at = random.below(image.len());
                 image[at] = random.pick(&[0, 1, 2, 3, 8, 128, 255]);
@@ -550,13 +665,16 @@ fn number(name: &str, otherwise: u64) -> u64 {
 #[derive(Default, Debug)]
 struct Reached {
     stops: [u64; 8],
-    refusals: [u64; 8],
+    refusals: [u64; 9],
     phases: [u64; 5],
     protected: u64,
     cells: u64,
     seconds: u64,
     asked: u64,
     answers: u64,
+    moved: u64,
+    motors: u64,
+    strobes: u64,
 }
 
 impl Reached {
@@ -574,13 +692,18 @@ impl Reached {
             self.phases[usize::from(left.image[23])] += 1;
             self.protected += u64::from(left.image[27]);
             self.cells += u64::from(left.image[33..53] != case.image[33..53]);
+            self.moved += u64::from(left.image[98] != case.image[98]);
+            self.motors += u64::from(left.image[103] != case.image[103]);
+            self.strobes += u64::from(left.image[120]);
             self.seconds += u64::from(left.image[29..33] != case.image[29..33]);
         }
     }
 
     fn enough(&self, lists: u64) {
         let counts = [0, 1, 6, 7].map(|i| self.stops[i]).into_iter();
-        let counts = counts.chain(self.refusals[1..=5].iter().copied()).chain(self.phases);
+        let refusals = [1, 2, 3, 4, 5, 8].map(|i| self.refusals[i]);
+        let counts = counts.chain(refusals).chain(self.phases);
+        let counts = counts.chain([self.moved, self.motors, self.strobes]);
         let counts = counts.chain([self.protected, self.cells, self.seconds, self.asked]);
         for count in counts {
             assert!(count * 500 >= lists, "too little of something: {self:?}");

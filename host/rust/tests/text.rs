@@ -26,13 +26,13 @@ impl Random {
 
 /// Records of right and wrong kinds, lengths and values, and now and then a broken rest.
 fn some_list(random: &mut Random) -> Vec<u8> {
-    let kinds: [&[u8]; 11] =
-        [b"RD", b"WR", b"VB", b"SE", b"IN", b"SN", b"RS", b"PW", b"ST", b"XX", b"rd"];
+    let kinds: [&[u8]; 12] =
+        [b"RD", b"WR", b"VB", b"SE", b"IN", b"SN", b"DI", b"RS", b"PW", b"ST", b"XX", b"rd"];
     let mut list = Vec::new();
     for _ in 0..random.below(12) {
         let mut record = random.pick(&kinds).to_vec();
         let right = match &record[..] {
-            b"RD" | b"PW" => 8,
+            b"RD" | b"PW" | b"DI" => 8,
             b"WR" => 9,
             b"IN" => 6,
             b"SN" => 7,
@@ -43,7 +43,7 @@ fn some_list(random: &mut Random) -> Vec<u8> {
             let small = random.below(3) > 0;
             record.push((random.next() % if small { 3 } else { 256 }) as u8);
         }
-        if length >= 8 && random.below(5) > 0 {
+        if length >= 8 && record[..2] != *b"DI" && random.below(5) > 0 {
             let any = Address::all().nth(random.below(32) as usize).expect("32 of them");
             record[4..8].copy_from_slice(&any.number().to_le_bytes());
         }
@@ -121,6 +121,8 @@ fn errors_have_line_and_column() {
         ("0t SN middle 1 0", 1, 7, "internal or external"),
         ("0t SN internal 16 0", 1, 16, "0 to 15"),
         ("0t SE 1", 1, 7, "too much"),
+        ("0t DI internal 1 0 2", 1, 20, "0 to 1"),
+        ("0t DI internal 1 0", 1, 20, "double-sided 0 or 1 is missing"),
         ("0t XX", 1, 4, "unknown kind"),
         ("0t", 1, 4, "a kind"),
         ("RAW 1", 1, 5, "two hexadecimal digits"),

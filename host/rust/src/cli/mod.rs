@@ -33,7 +33,8 @@ A file named - is standard input or output; asm and disasm take them where no fi
 Time is in VIA ticks, 783,360 a second. In text a wait ends in t (ticks), a time off in s (seconds):
 
   12t WR VIA.ORB $41     0t RD $EFE1FE     0t VB     0t SE     0t RS
-  0t IN 3 1              0t SN internal 1 0          0t PW 5s  RAW 05 00     ; comment
+  0t IN 3 1              0t SN internal 1 0          0t DI internal 1 0 1
+  0t PW 5s               RAW 05 00                   ; comment
 
 Exit status of run: 0 at the end of the list, 1 a record is cut, 6 no room for an answer, 7 the
 image is none of an accepted state. Of all: 64 wrong words, 65 an error in a text, 74 a file

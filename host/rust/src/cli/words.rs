@@ -1,6 +1,6 @@
 //! A state image in words.
 
-use swarmtempo::{Command, Machine, Phase, State};
+use swarmtempo::{Command, DriveState, Machine, Phase, State};
 
 const FLAGS: [&str; 7] =
     ["0 one second", "1 vertical blanking", "2 shift register", "3 CB2", "4 CB1", "5 T2", "6 T1"];
@@ -122,6 +122,30 @@ fn disk(state: &State, out: &mut String) {
         let shown: Vec<&str> = levels.iter().map(|&on| if on { "1" } else { "0" }).collect();
         out.push_str(&format!("  {name}  {}\n", shown.join(" ")));
     }
+    for (name, state) in ["internal", "external"].iter().zip(&state.drives) {
+        out.push_str(&format!("  {name}  {}\n", drive(state)));
+    }
+    if state.strobe.steady {
+        out.push_str(&format!("  strobe    steady for {} ticks\n", state.strobe.ticks));
+    }
+}
+
+fn drive(drive: &DriveState) -> String {
+    let towards = |out: bool| if out { "towards track 0" } else { "towards track 79" };
+    let disk = match (drive.disk, drive.locked) {
+        (false, _) => "no disk",
+        (true, false) => "disk",
+        (true, true) => "locked disk",
+    };
+    let sides = if drive.double_sided { "double-sided" } else { "single-sided" };
+    let motor = if drive.motor { "motor on" } else { "motor off" };
+    let mut words =
+        format!("track {}, {}, {disk}, {sides}, {motor}", drive.track, towards(drive.direction));
+    if drive.step_left > 0 {
+        let way = towards(drive.step_direction);
+        words.push_str(&format!(", stepping {way} with {} ticks left", drive.step_left));
+    }
+    words
 }
 
 /// The date of so many seconds since 1 January 1904, midnight.

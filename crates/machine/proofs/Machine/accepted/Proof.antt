@@ -5,51 +5,63 @@ use Rattle.machine.proofs.Machine.accepted.Tie as tie
 use Rattle.machine.proofs.Machine.accepted.Reads as reads
 use Rattle.machine.proofs.Machine.accepted.Lts as lts
 use Rattle.clock.proofs.accepted_phase.Reads as accepted-phase-reads
+use Rattle.drives.proofs.Drives.accepted.Reads as Drives-accepted-reads
 use Rattle.levels.proofs.all_levels.Reads as all-levels-reads
+use Rattle.machine.proofs.Machine.watched.Reads as watched-reads
 use Rattle.machine.proofs.Machine.wires.Reads as wires-reads
-use Rattle.via.proofs.Via.accepted.Reads as accepted-reads
+use Rattle.via.proofs.Via.accepted.Reads as Via-accepted-reads
 
--- src/lib.rt:112:13
+-- src/lib.rt:132:13
 wires-requires : tie.Need-wires-requires
 wires-requires c κs = search needs
 
--- src/lib.rt:113:36
+-- src/lib.rt:133:36
 slice-aggregate-all-levels : tie.Need-slice-aggregate-all-levels
 slice-aggregate-all-levels c = search needs
 
--- src/lib.rt:113:13
+-- src/lib.rt:133:13
 all-levels-requires : tie.Need-all-levels-requires
 all-levels-requires c κs = search needs
 
--- src/lib.rt:114:36
+-- src/lib.rt:134:36
 slice-aggregate-all-levels-2 : tie.Need-slice-aggregate-all-levels-2
 slice-aggregate-all-levels-2 c = search needs
 
--- src/lib.rt:114:13
+-- src/lib.rt:134:13
 all-levels-requires-2 : tie.Need-all-levels-requires-2
 all-levels-requires-2 c κs = search needs
 
--- src/lib.rt:115:36
+-- src/lib.rt:135:36
 slice-aggregate-all-levels-3 : tie.Need-slice-aggregate-all-levels-3
 slice-aggregate-all-levels-3 c = search needs
 
--- src/lib.rt:115:13
+-- src/lib.rt:135:13
 all-levels-requires-3 : tie.Need-all-levels-requires-3
 all-levels-requires-3 c κs = search needs
 
--- src/lib.rt:116:13
+-- src/lib.rt:136:13
 accepted-requires : tie.Need-accepted-requires
 accepted-requires c κs = search needs
 
--- src/lib.rt:117:13
+-- src/lib.rt:137:13
 accepted-phase-requires : tie.Need-accepted-phase-requires
 accepted-phase-requires c κs = search needs
 
--- src/lib.rt:104:5
+-- src/lib.rt:138:38
+watched-requires : tie.Need-watched-requires
+watched-requires c κs = search needs
+
+-- src/lib.rt:138:13
+accepted-requires-2 : tie.Need-accepted-requires-2
+accepted-requires-2 c κs = search needs
+
+-- src/lib.rt:124:5
 returns : tie.Need-returns
 unfolding acceptedOf
-returns c = let b = c .before .before in
-    simp (c .accepted-phase .ensures, c .before .accepted .ensures, b .all-levels3 .ensures, b .before .before .all-levels2 .ensures, b .before .before .before .before .all-levels .ensures, b .before .before .before .before .before .before .wires .ensures)
+returns c =
+    let a = c .before .before in
+    let b = a .before .before in
+    simp (c .accepted2 .ensures, c .before .watched .ensures, a .accepted-phase .ensures, a .before .accepted .ensures, b .all-levels3 .ensures, b .before .before .all-levels2 .ensures, b .before .before .before .before .all-levels .ensures, b .before .before .before .before .before .before .wires .ensures)
 
 pub accepted-spec : {M : Type 1} → statement M
 accepted-spec =
@@ -64,4 +76,6 @@ accepted-spec =
     all-levels-requires-3
     accepted-requires
     accepted-phase-requires
+    watched-requires
+    accepted-requires-2
     returns)

@@ -5,48 +5,57 @@ use mathlib.Core.Path.{sym, ap, subst, _∙_}
 use native.Mathlib.Omega.{arith}
 use Rattle.levels.proofs.Laws.{level-at}
 use Rattle.iwm.proofs.Laws.{access-levels, sense-below}
+use Rattle.drives.proofs.Laws.{shown-below}
 use borrow.Author.Needs.{needs}
 use Rattle.machine.proofs.Machine.read_iwm.Statement.{statement}
 use Rattle.machine.proofs.Machine.read_iwm.Tie as tie
 use Rattle.machine.proofs.Machine.read_iwm.Reads as reads
 use Rattle.machine.proofs.Machine.read_iwm.Lts as lts
+use Rattle.drives.proofs.Drives.shown.Reads as shown-reads
 use Rattle.iwm.proofs.DiskLines.access.Reads as access-reads
 use Rattle.iwm.proofs.DiskLines.read.Reads as read-reads
 use Rattle.iwm.proofs.DiskLines.sense_at.Reads as sense-at-reads
 use Rattle.wiring.proofs.sel_of.Reads as sel-of-reads
 
--- src/lib.rt:146:13
+-- src/lib.rt:167:13
 access-requires : tie.Need-access-requires
 access-requires c κs = search needs
 
--- src/lib.rt:147:29
+-- src/lib.rt:168:29
 sel-of-requires : tie.Need-sel-of-requires
 sel-of-requires c κs = search needs
 
--- src/lib.rt:147:18
+-- src/lib.rt:168:13
 sense-at-requires : tie.Need-sense-at-requires
 sense-at-requires c κs =
     let a = c .before .before in
     (ap (λ (d : DiskLines). allLevels (d .lines)) (a .access .ensures) ∙ access-levels _ _ (a .before .before .pre .1 .0), c .sel-of .ensures .1)
 
--- src/lib.rt:147:18
-cast-at : tie.Need-cast-at
-cast-at c = search needs
+-- src/lib.rt:169:33
+cast-stored : tie.Need-cast-stored
+cast-stored c = search needs
 
--- src/lib.rt:148:21
-element-copy-out-sense : tie.Need-element-copy-out-sense
-element-copy-out-sense c =
+-- src/lib.rt:169:22
+element-copy-out-stored : tie.Need-element-copy-out-stored
+element-copy-out-stored c =
     let a = c .before .before .before in
     rw (c .sense-at .ensures) (sense-below _ _ (ap (λ (d : DiskLines). allLevels (d .lines)) (a .access .ensures) ∙ access-levels _ _ (a .before .before .pre .1 .0)) (c .before .sel-of .ensures .1))
 
--- src/lib.rt:152:20
-read-requires : tie.Need-read-requires
-read-requires c κs = level-at _ _ (c .before .before .before .before .before .before .pre .1 .2)
+-- src/lib.rt:170:13
+shown-requires : tie.Need-shown-requires
+shown-requires c κs = search needs
 
--- src/lib.rt:140:5
+-- src/lib.rt:174:20
+read-requires : tie.Need-read-requires
+read-requires c κs =
+    rw (c .shown .ensures) (shown-below _ _ _ (level-at _ _ (c .before .before .before .before .before .before .before .before .pre .1 .2)))
+
+-- src/lib.rt:161:5
 returns : tie.Need-returns
 unfolding iwmRead
-returns c = simp (c .read .ensures, c .before .before .sense-at .ensures, c .before .before .before .sel-of .ensures .0, c .before .before .before .before .before .access .ensures)
+returns c =
+    let b = c .before .before .before .before in
+    simp (c .read .ensures, c .before .shown .ensures, b .sense-at .ensures, b .before .sel-of .ensures .0, b .before .before .before .access .ensures)
 
 pub read-iwm-spec : {M : Type 1} → statement M
 read-iwm-spec =
@@ -55,7 +64,8 @@ read-iwm-spec =
     access-requires
     sel-of-requires
     sense-at-requires
-    cast-at
-    element-copy-out-sense
+    cast-stored
+    element-copy-out-stored
+    shown-requires
     read-requires
     returns)

@@ -1,0 +1,29 @@
+use Rattle.drives.specs.Drives.{acceptedDrives}
+use borrow.Author.Needs.{needs}
+use Rattle.drives.proofs.Drives.accepted.Statement.{statement}
+use Rattle.drives.proofs.Drives.accepted.Tie as tie
+use Rattle.drives.proofs.Drives.accepted.Reads as reads
+use Rattle.drives.proofs.Drives.accepted.Lts as lts
+use Rattle.drive.proofs.Drive.accepted.Reads as Drive-accepted-reads
+use Rattle.strobe.proofs.Strobe.accepted.Reads as Strobe-accepted-reads
+
+-- src/lib.rt:129:9
+accepted-requires : tie.Need-accepted-requires
+accepted-requires c κs = search needs
+
+-- src/lib.rt:129:37
+accepted-requires-2 : tie.Need-accepted-requires-2
+accepted-requires-2 c κs = search needs
+
+-- src/lib.rt:129:64
+accepted-requires-3 : tie.Need-accepted-requires-3
+accepted-requires-3 c κs = search needs
+
+-- src/lib.rt:126:5
+returns : tie.Need-returns
+unfolding acceptedDrives
+returns c = simp (← c .before .before .accepted .ensures, ← c .before .accepted2 .ensures, ← c .accepted3 .ensures)
+
+pub accepted-spec : {M : Type 1} → statement M
+accepted-spec =
+    tie.close (tie.spec accepted-requires accepted-requires-2 accepted-requires-3 returns)

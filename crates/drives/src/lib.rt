@@ -1,0 +1,144 @@
+// The two drives and the strobe that writes to them.
+ghost use mathlib.Core.Path.{_≡_};
+ghost use mathlib.Core.Bool.{true, false};
+ghost use Rattle.drives.specs.Drives.{withStrobe, selected, withSelected, freshDrives, drivesTicks, diskMoved, placed, placeRefused, drivesPowered, writtenBy, drivesAfter, drivesShown, acceptedDrives};
+use drive::Drive;
+use strobe::Strobe;
+use strobe::Watched;
+
+pub struct Drives {
+    pub internal: Drive,
+    pub external: Drive,
+    pub strobe: Strobe,
+}
+
+fn move_disk(d: Drive, insert: bool, locked: bool, sides: bool) -> Drive
+    ensures { λ r. ⌜ r ≡ diskMoved insert locked sides d ⌝ }
+{
+    if insert {
+        return d.insert(locked, sides);
+    }
+    d.remove()
+}
+
+impl Drives {
+    pub fn fresh() -> Drives
+        ensures { λ r. ⌜ r ≡ freshDrives ⌝ }
+    {
+        Drives {
+            internal: Drive::fresh(),
+            external: Drive::fresh(),
+            strobe: Strobe::off(),
+        }
+    }
+
+    fn with_strobe(self, strobe: Strobe) -> Drives
+        ensures { λ r. ⌜ r ≡ withStrobe self strobe ⌝ }
+    {
+        Drives {
+            strobe: strobe,
+            ..self
+        }
+    }
+
+    fn at(self, external: bool) -> Drive
+        ensures { λ r. ⌜ r ≡ selected external self ⌝ }
+    {
+        if external {
+            return self.external;
+        }
+        self.internal
+    }
+
+    fn with_at(self, external: bool, drive: Drive) -> Drives
+        ensures { λ r. ⌜ r ≡ withSelected external self drive ⌝ }
+    {
+        if external {
+            return Drives {
+                external: drive,
+                ..self
+            };
+        }
+        Drives {
+            internal: drive,
+            ..self
+        }
+    }
+
+    // `ticks` VIA ticks pass.
+    pub fn wait(self, ticks: u16) -> Drives
+        ensures { λ r. ⌜ r ≡ drivesTicks ticks self ⌝ }
+    {
+        Drives {
+            internal: self.internal.wait(ticks),
+            external: self.external.wait(ticks),
+            strobe: self.strobe.wait(ticks),
+        }
+    }
+
+    // DI: a disk comes or leaves.
+    pub fn place(self, external: bool, insert: bool, locked: bool, sides: bool) -> Drives
+        ensures { λ r. ⌜ r ≡ placed external insert locked sides self ⌝ }
+    {
+        self.with_at(
+            external,
+            move_disk(self.at(external), insert, locked, sides),
+        )
+    }
+
+    // Whether DI gets refusal 8 here.
+    pub fn refuses_place(self, external: bool, insert: bool) -> bool
+        ensures { λ r. ⌜ r ≡ placeRefused external insert self ⌝ }
+    {
+        let d = self.at(external);
+        if insert {
+            return d.disk;
+        }
+        !d.disk
+    }
+
+    // PW: motors stop and pending steps are dropped.
+    pub fn power_cut(self) -> Drives
+        ensures { λ r. ⌜ r ≡ drivesPowered self ⌝ }
+    {
+        let strobe = self.strobe;
+        Drives {
+            internal: self.internal.power_cut(),
+            external: self.external.power_cut(),
+            strobe: strobe,
+        }
+    }
+
+    fn written(self, acts: bool, w: Watched) -> Drives
+        ensures { λ r. ⌜ r ≡ writtenBy acts w self ⌝ }
+    {
+        if acts {
+            let d = self.at(w.select);
+            return self.with_at(w.select, d.write_register(w.register(), w.ca2));
+        }
+        self
+    }
+
+    // The drives after an item, whose wait and action are over, with these levels before and after it.
+    pub fn after(self, before: Watched, after: Watched) -> Drives
+        ensures { λ r. ⌜ r ≡ drivesAfter before after self ⌝ }
+    {
+        let acts = self.strobe.writes(before, after);
+        let next = self.strobe.after(before, after);
+        self.written(acts, after).with_strobe(next)
+    }
+
+    // The level of sense register `place % 16` of the selected drive, where SN gave it the level `stored`.
+    pub fn shown(self, place: u8, stored: u8) -> u8
+        ensures { λ r. ⌜ r ≡ drivesShown place stored self ⌝ }
+    {
+        self.at(place / 16 == 1).shown(place % 16, stored)
+    }
+
+    // Whether both drives and the strobe are in their ranges, with these levels.
+    pub fn accepted(self, levels: Watched) -> bool
+        ensures { λ r. ⌜ r ≡ acceptedDrives levels self ⌝ }
+    {
+        self.internal.accepted() & (self.external.accepted() & self.strobe.accepted(levels))
+    }
+}

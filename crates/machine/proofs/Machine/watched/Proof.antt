@@ -1,0 +1,22 @@
+use borrow.Author.Needs.{needs}
+use Rattle.machine.proofs.Machine.watched.Statement.{statement}
+use Rattle.machine.proofs.Machine.watched.Tie as tie
+use Rattle.machine.proofs.Machine.watched.Reads as reads
+use Rattle.machine.proofs.Machine.watched.Lts as lts
+use Rattle.wiring.proofs.sel_of.Reads as sel-of-reads
+use Rattle.wiring.proofs.watched_of.Reads as watched-of-reads
+
+-- src/lib.rt:120:31
+sel-of-requires : tie.Need-sel-of-requires
+sel-of-requires c κs = search needs
+
+-- src/lib.rt:120:9
+watched-of-requires : tie.Need-watched-of-requires
+watched-of-requires c κs = search needs
+
+-- src/lib.rt:116:5
+returns : tie.Need-returns
+returns c = simp (c .watched-of .ensures, c .before .sel-of .ensures .0)
+
+pub watched-spec : {M : Type 1} → statement M
+watched-spec = tie.close (tie.spec sel-of-requires watched-of-requires returns)

@@ -1,0 +1,3 @@
+pub mod Bounds
+pub mod Pulses
+pub mod Ticks

@@ -1,0 +1,30 @@
+use borrow.Author.Needs.{needs}
+use Rattle.strobe.specs.Strobe.{strobeWrites}
+use Rattle.strobe.proofs.Strobe.writes.Statement.{statement}
+use Rattle.strobe.proofs.Strobe.writes.Tie as tie
+use Rattle.strobe.proofs.Strobe.writes.Reads as reads
+use Rattle.strobe.proofs.Strobe.writes.Lts as lts
+use Rattle.strobe.proofs.Watched.register.Reads as register-reads
+use Rattle.strobe.proofs.leaves_unspoilt.Reads as leaves-unspoilt-reads
+use Rattle.strobe.proofs.long_enough.Reads as long-enough-reads
+
+-- src/lib.rt:123:31
+leaves-unspoilt-requires : tie.Need-leaves-unspoilt-requires
+leaves-unspoilt-requires c κs = search needs
+
+-- src/lib.rt:123:91
+register-requires : tie.Need-register-requires
+register-requires c κs = search needs
+
+-- src/lib.rt:123:79
+long-enough-requires : tie.Need-long-enough-requires
+long-enough-requires c κs = search needs
+
+-- src/lib.rt:119:5
+returns : tie.Need-returns
+unfolding strobeWrites
+returns c = simp (← c .before .before .before .before .leaves-unspoilt .ensures, ← c .before .register .ensures, ← c .long-enough .ensures)
+
+pub writes-spec : {M : Type 1} → statement M
+writes-spec =
+    tie.close (tie.spec leaves-unspoilt-requires register-requires long-enough-requires returns)

@@ -1,0 +1,19 @@
+use borrow.Author.Needs.{needs}
+use Rattle.strobe.specs.Strobe.{unspoilt}
+use Rattle.strobe.proofs.leaves_unspoilt.Statement.{statement}
+use Rattle.strobe.proofs.leaves_unspoilt.Tie as tie
+use Rattle.strobe.proofs.leaves_unspoilt.Reads as reads
+use Rattle.strobe.proofs.leaves_unspoilt.Lts as lts
+use Rattle.strobe.proofs.held_still.Reads as held-still-reads
+
+-- src/lib.rt:37:20
+held-still-requires : tie.Need-held-still-requires
+held-still-requires c κs = search needs
+
+-- src/lib.rt:34:1
+returns : tie.Need-returns
+unfolding unspoilt
+returns c = simp (← c .before .held-still .ensures)
+
+pub leaves-unspoilt-spec : {M : Type 1} → statement M
+leaves-unspoilt-spec = tie.close (tie.spec held-still-requires returns)
