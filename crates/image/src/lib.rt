@@ -433,7 +433,7 @@ pub fn valid(image: &[u8]) -> bool
         return false;
     }
     let m = load(image);
-    let mut own = [0; 123];
+    let mut own = [0; LENGTH];
     save(&mut own, m);
     let written = same(&own, image);
     let taken = m.accepted();

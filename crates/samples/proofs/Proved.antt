@@ -10,7 +10,7 @@ use Rattle.drive.specs.Drive as drive
 use Rattle.drive.specs.Drive.{registerWritten, neighbour, tickDrive, driveTicks, drivesSense, shownOf, acceptedDrive}
 use Rattle.strobe.specs.Strobe.{tickStrobe, strobeTicks, heldStill, unspoilt, strobeAfter, registerOf, longEnough, strobeWrites, acceptedStrobe}
 use Rattle.drives.specs.Drives.{drivesTicks, placed, placeRefused, drivesPowered, drivesAfter, drivesShown, acceptedDrives}
-use Rattle.wiring.specs.Wiring.{wiresOf, selOf, inputsOf, watchedOf}
+use Rattle.wiring.specs.Wiring.{wiresOf, selOf, inputsOf, interruptLevel, watchedOf}
 use Rattle.record.specs.Record.{le16Of, le32Of, frameOf, answerBytes, noOf}
 use Rattle.items.specs.Items.{isKind, placeFrom, foundOf, writeOf, plainOf, powerOf, diskOf, decodedOf}
 use Rattle.items.specs.Items as items
@@ -23,7 +23,7 @@ use Rattle.samples.specs.Drives.{DriveSamples}
 
 pub samples : Samples
 unfolding allLevels freshVia portLevel latchOf tickOf ticks raisedOf asking levelOf acceptedVia written readOf named decode between fetch next acts put act
-    stepWires shown acceptedPhase linesOff lineByteOf wiresOf selOf inputsOf le16Of le32Of frameOf answerBytes noOf isKind placeFrom foundOf writeOf plainOf
+    stepWires shown acceptedPhase linesOff lineByteOf wiresOf selOf inputsOf interruptLevel le16Of le32Of frameOf answerBytes noOf isKind placeFrom foundOf writeOf plainOf
     decodedOf items.readOf acceptedOf acceptedDrives acceptedDrive acceptedStrobe waitOf viaRead actedOf stepOf refusesOf answerOf cut piecesFrom turnOf onto onPiece runPieces runOf sent values
 samples =
     record {

@@ -13,7 +13,7 @@ use units::Micros;
 pub extern "C" fn swarmtempo_image_len() -> u64
     ensures { λ r. ⌜ r ≡ imageLength ⌝ }
 {
-    123
+    image::LENGTH as u64
 }
 
 // Writes the fresh machine's image. 0, or 6 where the room is shorter than an image.
@@ -22,10 +22,10 @@ pub extern "C" fn swarmtempo_fresh(image: &mut [u8]) -> u8
     ensures { λ r. ⌜ r ≡ freshStop (now (image .entry)) ⌝ }
     ensures { λ _. ⌜ now (image .exit) ≡ freshImage (now (image .entry)) ⌝ }
 {
-    if image.len() < 123 {
+    if image.len() < image::LENGTH {
         return 6;
     }
-    let mut own = [0; 123];
+    let mut own = [0; image::LENGTH];
     image::save(&mut own, machine::fresh());
     record::copy(image, 0, &own);
     0
