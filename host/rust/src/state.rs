@@ -202,7 +202,7 @@ impl State {
     pub(crate) fn of_accepted(image: &[u8]) -> State {
         let mut f = Fields(image);
         let _length_and_kind: [u8; 4] = f.bytes();
-        let mut state = State {
+        State {
             out_b: f.byte(),
             out_a: f.byte(),
             dir_b: f.byte(),
@@ -229,8 +229,7 @@ impl State {
             sense: [f.flags(), f.flags()],
             drives: [f.drive(), f.drive()],
             strobe: Strobe { ticks: u32::from_le_bytes(f.bytes()), steady: f.flag() },
-        };
-        state
+        }
     }
 
     /// The level of the clock's data line as the chip gives it; 1 where it does not drive it.
