@@ -1,6 +1,6 @@
 -- What users of the run may rely on, besides its contract.
 use Prim.Native.Nat.{ℕ, _+_, _-_, _≤_}
-use mathlib.Core.Path.{_≡_, refl, sym, ap, _∙_}
+use mathlib.Core.Path.{_≡_, refl, sym, ap, ap₂, _∙_}
 use mathlib.Core.Bool.{Bool, true, false, cond, true≢false}
 use mathlib.Core.List.{List, _∷_, _++_}
 use lib.ListN.{length}
@@ -13,8 +13,12 @@ use Rattle.items.specs.declared.Decoded.the-variants.{Done, Refused}
 use Rattle.items.specs.Items.{decodedOf}
 use Rattle.drives.specs.Drives.{placeRefused}
 use Rattle.machine.specs.declared.Machine.{Machine}
-use Rattle.machine.specs.Machine.{acceptedOf}
-use Rattle.machine.specs.Step.{stepOf, refusesOf, answerOf}
+use Rattle.via.specs.declared.Via.{Via}
+use Rattle.via.proofs.Waits.{ticks-add}
+use Rattle.drives.specs.declared.Drives.{Drives}
+use Rattle.drives.proofs.Laws.{drivesTicks-add}
+use Rattle.machine.specs.Machine.{withVia, withDrives, acceptedOf}
+use Rattle.machine.specs.Step.{waited, stepOf, refusesOf, answerOf}
 use Rattle.machine.proofs.Drives.{clash}
 use Rattle.run.specs.Run.{Piece, whole, refused, carriedOut, turnBy, turnOf, Out, onto, runPieces, runOf}
 use Rattle.run.proofs.Loop as loop
@@ -60,3 +64,13 @@ accepted-kept = joined.run-accepted
 -- The answers fit the room.
 pub answers-fit : (m : Machine) (l : List ℕ) (room : ℕ) → length (runOf m l room .answers) ≤ room
 answers-fit = loop.answers-fit
+
+-- Waiting a and then b VIA ticks leaves the state that a + b leaves, for all whole numbers.
+pub waits-add : (a b : ℕ) (m : Machine) → waited (a + b) m ≡ waited b (waited a m)
+waits-add a b m =
+    ap₂ (λ (v : Via) (d : Drives). withDrives (withVia m v) d) (ticks-add a b (m .via)) (drivesTicks-add a b (m .drives))
+
+-- W-202: "No answer and no state may differ from what document 01 gives tick by tick." A step is defined by `waited`, which passes the VIA ticks of an item one
+-- after the other, and the code equals it for every list and every state: `Machine::step` is `stepOf`, `run` is `runOf`.
+pub tick-by-tick : (n : ℕ) (m : Machine) → waited (n + 1) m ≡ waited 1 (waited n m)
+tick-by-tick n m = waits-add n 1 m
