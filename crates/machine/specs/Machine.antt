@@ -42,7 +42,7 @@ withDrives m x = record { via = m .via; clock = m .clock; disk = m .disk; inputs
 abbrev pub cellCount : ℕ
 cellCount = 20
 
--- "Fresh: all zero, timers disarmed, no load due, IN lines and sense levels 1, chip idle, protect clear."
+-- "Fresh: all zero, timers disarmed, no load due, IN lines and sense levels 1, chip idle, protect clear." W-205: IN lines 5 and 6 "both 0 when fresh".
 abbrev pub freshMachine : Machine
 freshMachine =
     record {

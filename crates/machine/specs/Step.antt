@@ -101,7 +101,7 @@ strobed w d =
 unfoldable pub stepOf : Machine → Item → Did
 stepOf m i = strobed (watched m) (compared (wires m) (actedOf (waited (waitOf i) m) i))
 
--- A refusal that looks at the state, as it stands before the wait; 0 where there is none. No number of document 01 does.
+-- A refusal that looks at the state, as it stands before the wait; 0 where there is none. Document 01's numbers look at the bytes alone.
 -- W-203: "Inserting where a disk is, or removing where none is, gets refusal 8".
 abbrev pub numberIf : ℕ → Bool → ℕ
 numberIf n true = n

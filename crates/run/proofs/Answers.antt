@@ -101,5 +101,21 @@ turn-ordinary m s h = go (decodedOf s) refl
         judge true = done-ordinary m x (decoded-range s x p) h
         judge false = no-ordinary (refusesOf m x)
 
-pub levels-3-and-7-never : (m : Machine) (list : List ℕ) (room : ℕ) → acceptedOf m ≡ true → Each Ordinary (answersOf m (pieces list) room)
-levels-3-and-7-never m list room h = each-answer Ordinary turn-ordinary (no-ordinary 1) (pieces list) m room h
+-- The bytes of some answers, none of which has level 3 or 7.
+pub record Levelled (bytes : List ℕ) : Type 0 where
+  pub answers : List Answer
+  pub are : bytes ≡ bytesOf answers
+  pub each : Each Ordinary answers
+
+pub levels-3-and-7-never : (m : Machine) (list : List ℕ) (room : ℕ) → Levelled (runOf m list room .answers)
+unfolding runOf bytesOf
+levels-3-and-7-never m list room = go (acceptedOf m) refl
+  where
+    go : (t : Bool) → acceptedOf m ≡ t → Levelled ((cond t (runPieces m (pieces list) room) (halt m 7)) .answers)
+    go true h =
+        record {
+          answers = answersOf m (pieces list) room;
+          are = answers-are (pieces list) m room;
+          each = each-answer Ordinary turn-ordinary (no-ordinary 1) (pieces list) m room h;
+        }
+    go false h = record { answers = []; are = refl; each = tt }

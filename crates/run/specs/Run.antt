@@ -62,7 +62,7 @@ turnOf m s = turnBy m (decodedOf s)
 
 -- ---- the run
 
--- The machine handed back, the stop number, the bytes consumed and the bytes written.
+-- The machine handed back, the stop number, the bytes consumed and the answers' bytes.
 pub record Out : Type 0 where
   pub machine : Machine
   pub stop : ℕ
@@ -82,7 +82,7 @@ unfoldable pub onPiece : Machine → Piece → (Machine → Out) → Out
 onPiece m broken go = record { machine = m; stop = 1; consumed = 0; answers = answerBytes (noOf 1) }
 onPiece m (whole s) go = onto (answerBytes (turnOf m s .answer)) (length s + 2) (go (turnOf m s .machine))
 
--- "Order: 7; end of list; 6; 1; 2; 3; 4; 5."
+-- "Order: 7; end of list; 6; 1; 2; 3; 4; 5." W-203: 8 after 5.
 unfoldable pub runPieces : Machine → List Piece → ℕ → Out
 unfolding onPiece
 runPieces m [] room = halt m 0

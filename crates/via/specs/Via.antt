@@ -80,7 +80,7 @@ raisedOf mask v = withFlags v (bitOr (v .flags) mask)
 unfoldable pub asking : Via → Bool
 asking v = not (eqb (bitAnd (bitAnd (v .flags) (v .enables)) 127) 0)
 
--- "The level is 1 if an enabled flag is set, else 0."
+-- "The level is 1 if an enabled flag is set, else 0." Since W-205 it is the VIA's part of the level.
 unfoldable pub levelOf : Via → ℕ
 levelOf v = cond (asking v) 1 0
 

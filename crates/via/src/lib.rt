@@ -171,7 +171,7 @@ impl Via {
         self.flags & self.enables & 127 != 0
     }
 
-    // The interrupt level, 0 or 1.
+    // The VIA's own part of the interrupt level, 0 or 1.
     pub fn level(self) -> u8
         ensures { λ r. ⌜ r ≡ levelOf self ⌝ }
     {

@@ -1,4 +1,4 @@
--- How the board wires the VIA's ports: document 01, "VIA"; and which levels reach the drives: request W-203.
+-- How the board wires the VIA's ports: document 01, "VIA"; which levels reach the drives: request W-203; and the interrupt level: request W-205.
 use Prim.Native.Nat.{ℕ, _+_, _*_, _/_, _%_}
 use mathlib.Core.Bool.{Bool, true, false, cond}
 use mathlib.Core.List.{List}
