@@ -63,7 +63,7 @@ uint64_t swarmtempo_image_len(void);
  */
 uint8_t swarmtempo_fresh(uint8_t *image, size_t image_len);
 
-/* Microseconds as VIA ticks, rounded up. */
+/* Microseconds as VIA ticks, rounded up: 12,000 gives 9,401. One wait takes 65,535 ticks at most. */
 uint32_t swarmtempo_ticks_of_micros(uint32_t micros);
 
 /*

@@ -13,12 +13,34 @@ pub struct ViaTicks(pub u16);
 #[derive(Clone, Copy, Debug, Default, PartialEq, Eq, PartialOrd, Ord, Hash)]
 pub struct Seconds(pub u32);
 
-/// A time in microseconds.
+/// A time in microseconds. Only the library turns it into VIA ticks:
+///
+/// ```
+/// use swarmtempo::{Item, List, Micros, TickCount, ViaTicks};
+///
+/// // 12 ms, a step of a drive: 9,400.32 ticks.
+/// let step = Micros(12_000).ticks();
+/// assert_eq!(step, TickCount(9_401));
+/// assert_eq!(step.wait(), Some(ViaTicks(9_401)));
+/// if let Some(wait) = step.wait() {
+///     List::new().push(wait, Item::Second);
+/// }
+/// // Half a second is longer than one wait.
+/// assert_eq!(Micros(500_000).ticks(), TickCount(391_680));
+/// assert_eq!(Micros(500_000).ticks().wait(), None);
+/// ```
+///
+/// It is no wait itself:
+///
+/// ```compile_fail
+/// use swarmtempo::{Item, List, Micros};
+/// List::new().push(Micros(12_000), Item::Second);
+/// ```
 #[derive(Clone, Copy, Debug, Default, PartialEq, Eq, PartialOrd, Ord, Hash)]
 pub struct Micros(pub u32);
 
 impl Micros {
-    /// In VIA ticks, rounded up.
+    /// In VIA ticks, rounded up (`swarmtempo_ticks_of_micros`).
     pub fn ticks(self) -> TickCount {
         TickCount(sys::ticks_of_micros(self.0))
     }

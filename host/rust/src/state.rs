@@ -264,6 +264,11 @@ impl State {
         self.port_a() & 0x20 != 0
     }
 
+    /// Neither a one-second tick nor time off moves the seconds: test bit 7 or 6 is 1.
+    pub fn seconds_stopped(&self) -> bool {
+        self.test & 0xC0 != 0
+    }
+
     /// The interrupt level.
     pub fn level(&self) -> u8 {
         let (serial, switch) = (self.inputs[5], self.inputs[6]);

@@ -1,10 +1,14 @@
 //! The command line, run as a program.
 
+use std::collections::HashMap;
 use std::fs;
 use std::io::Write;
 use std::path::{Path, PathBuf};
 use std::process::{Command, Output, Stdio};
-use swarmtempo::{answers, Address, Answer, Item, List, Machine, Refusal, Register, ViaTicks};
+use swarmtempo::{
+    answers, pieces, Address, Answer, Item, List, Machine, Piece, Refusal, Register, State,
+    ViaTicks,
+};
 
 const PROGRAM: &str = env!("CARGO_BIN_EXE_swarmtempo");
 
@@ -75,12 +79,17 @@ fn port_b(value: u8) -> Item {
 
 /// Sets cell 0 to $AA.
 fn transaction() -> List {
+    clock_write(0x41, 0xAA)
+}
+
+/// A write command of the clock chip, and its byte.
+fn clock_write(command: u8, byte: u8) -> List {
     let mut list = List::new();
     list.push(ViaTicks(0), port_b(4));
     list.push(ViaTicks(0), Item::Write(Address::Via(Register::DDRB), 7));
     list.push(ViaTicks(1), port_b(0));
     for i in (0..16).rev() {
-        let bit = (0x41AAu16 >> i & 1) as u8;
+        let bit = (u16::from_be_bytes([command, byte]) >> i & 1) as u8;
         list.push(ViaTicks(1), port_b(bit));
         list.push(ViaTicks(1), port_b(bit | 2));
     }
@@ -246,6 +255,49 @@ fn image_in_words() {
 }
 
 #[test]
+fn drives_lines_and_test_in_words() {
+    let folder = Folder::new("words-drives");
+    let words_after = |name: &str, list: &[u8], text: bool| {
+        let (list, image) = (folder.put(name, list), folder.path("image"));
+        let mut words = vec!["run", &list, "--save", &image, "--quiet"];
+        words.extend(text.then_some("--text"));
+        assert_eq!(status(&program(&words, b"")), 0);
+        stdout(&program(&["image", &image], b""))
+    };
+    let lines: Vec<&str> = SEEK.lines().collect();
+    let until = |text: &str| {
+        let at = lines.iter().position(|line| line.contains(text)).expect("there");
+        lines[..at].join("\n")
+    };
+    let words = words_after("stepping", until("9400t").as_bytes(), true);
+    let stepping = "internal  track 0, towards track 79, disk, double-sided, motor on, \
+                    stepping towards track 79 with 9401 ticks left\n";
+    assert!(words.contains(stepping), "{words}");
+    let external = "external  track 0, towards track 79, no disk, single-sided, motor off\n";
+    assert!(words.contains(external), "{words}");
+    assert!(words.contains("IN 5      0 (serial chip asks)\n"), "{words}");
+    assert!(words.contains("IN 6      0 (programmer's switch)\n"), "{words}");
+    assert!(words.contains("level     0\n"), "{words}");
+    let words = words_after("asking", until("1t IN 5 0").as_bytes(), true);
+    assert!(words.contains("IN 5      1 (serial chip asks)\n"), "{words}");
+    assert!(words.contains("IN 6      1 (programmer's switch)\n"), "{words}");
+    assert!(words.contains("level     6\n"), "{words}");
+    assert!(words.contains("internal  track 2, "), "{words}");
+    assert!(words.contains("external  track 1, "), "{words}");
+    let words = words_after("strobe", (until("65280t") + "\n500t VB\n").as_bytes(), true);
+    assert!(words.contains("strobe    steady for 500 ticks\n"), "{words}");
+    // Test bit 7 or 6 stops the seconds, and no other bit.
+    for test in [0x00, 0x3F, 0x40, 0x80, 0xC1] {
+        let mut list = clock_write(0x31, test);
+        list.push(ViaTicks(0), Item::Second);
+        let words = words_after("test", list.as_bytes(), false);
+        let (stopped, seconds) = if test < 64 { ("", 1) } else { (" (seconds stopped)", 0) };
+        assert!(words.contains(&format!("test      ${test:02X}{stopped}\n")), "{words}");
+        assert!(words.contains(&format!("seconds   {seconds} s: ")), "{words}");
+    }
+}
+
+#[test]
 fn value_change_dump() {
     let folder = Folder::new("vcd");
     let list = folder.put("list", transaction().as_bytes());
@@ -269,6 +321,184 @@ fn value_change_dump() {
     assert!(times.windows(2).all(|pair| pair[0] < pair[1]), "{times:?}");
     // 34 waits of one tick each.
     assert_eq!(times[times.len() - 2], 34 * 1_000_000_000 / 783_360);
+}
+
+/// The numbers of a dump over time: for each track its changes, with their times in nanoseconds.
+struct Dump {
+    tracks: HashMap<String, Vec<(u64, u64)>>,
+    times: Vec<u64>,
+}
+
+impl Dump {
+    fn of(text: &str) -> Dump {
+        let mut names = HashMap::new();
+        let mut dump = Dump { tracks: HashMap::new(), times: Vec::new() };
+        for line in text.lines() {
+            let words: Vec<&str> = line.split(' ').collect();
+            if let ["$var", _, bits, code, name, "$end"] = words[..] {
+                let before = names.insert(code, (name, bits.parse::<u32>().expect("bits")));
+                assert!(before.is_none(), "one track for {code}");
+                let before = dump.tracks.insert(name.to_string(), Vec::new());
+                assert!(before.is_none(), "one track named {name}");
+            } else if let Some(time) = line.strip_prefix('#') {
+                dump.times.push(time.parse().expect("a time"));
+            } else if !line.starts_with(['$', 's']) {
+                let (value, code) = match words[..] {
+                    [value, code] => (value.strip_prefix('b').expect("a vector"), code),
+                    _ => line.split_at(1),
+                };
+                let (name, bits) = names[code];
+                assert!(value.len() <= bits as usize, "{line}");
+                let value = u64::from_str_radix(value, 2).expect("a number");
+                let time = *dump.times.last().expect("a time before a change");
+                dump.tracks.get_mut(name).expect("named").push((time, value));
+            }
+        }
+        dump
+    }
+
+    fn values(&self, name: &str) -> Vec<u64> {
+        self.tracks[name].iter().map(|&(_, value)| value).collect()
+    }
+
+    /// What a track shows at a time.
+    fn at(&self, name: &str, time: u64) -> u64 {
+        let until = self.tracks[name].iter().take_while(|change| change.0 <= time);
+        until.last().expect("shown from the start").1
+    }
+
+    /// Every track of a state that is not about a transaction.
+    fn shows(&self, state: &State, time: u64) {
+        for (name, drive) in ["internal", "external"].iter().zip(&state.drives) {
+            for (what, value) in [
+                ("disk", u64::from(drive.disk)),
+                ("motor", u64::from(drive.motor)),
+                ("step", u64::from(drive.step_left > 0)),
+                ("track", u64::from(drive.track)),
+            ] {
+                assert_eq!(self.at(&format!("{name}_{what}"), time), value, "{name} {what} {time}");
+            }
+        }
+        let wires = state.wires();
+        for (name, value) in [
+            ("enable", u64::from(wires.enable)),
+            ("data_clock", u64::from(wires.data_clock)),
+            ("data", u64::from(wires.data)),
+            ("serial_chip", u64::from(state.inputs[5])),
+            ("switch", u64::from(state.inputs[6])),
+            ("level", u64::from(state.level())),
+            ("SEL", u64::from(state.sel())),
+            ("seconds", u64::from(state.seconds.0)),
+            ("seconds_stopped", u64::from(state.test >= 64)),
+        ] {
+            assert_eq!(self.at(name, time), value, "{name} {time}");
+        }
+        for line in swarmtempo::DiskLine::ALL {
+            let on = u64::from(state.lines.on(line));
+            assert_eq!(self.at(line.name(), time), on, "{} {time}", line.name());
+        }
+    }
+}
+
+/// The nanosecond that so many VIA ticks end in.
+fn nanoseconds(ticks: u64) -> u64 {
+    ticks * 1_000_000_000 / 783_360
+}
+
+/// Motor on and steps of both drives, two lines of IN, a step that a power cut drops, an eject.
+const SEEK: &str = include_str!("../../captures/seek.txt");
+
+#[test]
+fn drives_in_the_dump() {
+    let folder = Folder::new("drives");
+    let list = folder.put("list", SEEK.as_bytes());
+    let vcd = folder.path("vcd");
+    let output = program(&["run", &list, "--text", "--vcd", &vcd, "--quiet"], b"");
+    assert_eq!(status(&output), 0, "{}", stderr(&output));
+    let dump = Dump::of(&String::from_utf8(folder.get("vcd")).expect("UTF-8"));
+    for (name, values) in [
+        ("internal_disk", &[0, 1, 0][..]),
+        ("internal_motor", &[0, 1, 0, 1, 0]),
+        ("internal_step", &[0, 1, 0, 1, 0, 1, 0]),
+        ("internal_track", &[0, 1, 2]),
+        ("external_disk", &[0]),
+        ("external_motor", &[0]),
+        ("external_step", &[0, 1, 0]),
+        ("external_track", &[0, 1]),
+        ("serial_chip", &[0, 1, 0]),
+        ("switch", &[0, 1, 0]),
+        ("level", &[0, 2, 6, 4, 0]),
+        ("refused", &[0, 8, 0]),
+        ("seconds_stopped", &[0]),
+    ] {
+        assert_eq!(dump.values(name), values, "{name}");
+    }
+    // Steps begin and end where the ticks say; one that ends within a wait shows at its end.
+    let times = |name: &str| dump.tracks[name].iter().map(|change| change.0).collect::<Vec<_>>();
+    let track: Vec<u64> = [0, 9_421, 29_440].map(nanoseconds).into();
+    assert_eq!(times("internal_track"), track);
+    let step: Vec<u64> = [0, 20, 9_421, 9_440, 29_440].map(nanoseconds).into();
+    assert_eq!(times("internal_step")[..5], step);
+    let track: Vec<u64> = [0, 38_901].map(nanoseconds).into();
+    assert_eq!(times("external_track"), track);
+    // The dump replayed beside the library, item by item.
+    let records = program(&["asm", &list], b"").stdout;
+    let mut machine = Machine::fresh();
+    dump.shows(&machine.state(), 0);
+    assert_eq!(dump.times.len(), 2 + pieces(&records).count());
+    for (piece, &time) in pieces(&records).zip(&dump.times[1..]) {
+        let (Piece::Record(bytes) | Piece::Rest(bytes)) = piece;
+        assert!(machine.run(bytes, &mut Vec::new()).at_end());
+        dump.shows(&machine.state(), time);
+    }
+}
+
+/// Test bit 6 stops the seconds.
+#[test]
+fn stopped_seconds_in_the_dump() {
+    let mut list = List::new();
+    list.push(ViaTicks(0), Item::Second);
+    list.push_raw(clock_write(0x31, 0x40).as_bytes());
+    list.push(ViaTicks(0), Item::Second);
+    list.push_raw(clock_write(0x31, 0x3F).as_bytes());
+    list.push(ViaTicks(0), Item::Second);
+    let output = program(&["run", "-", "--vcd", "-", "--quiet"], list.as_bytes());
+    assert_eq!(status(&output), 0, "{}", stderr(&output));
+    let dump = Dump::of(&stdout(&output));
+    assert_eq!(dump.values("seconds_stopped"), [0, 1, 0]);
+    assert_eq!(dump.values("seconds"), [0, 1, 2]);
+}
+
+/// A dump goes on from an image with all the tracks of the first part's end.
+#[test]
+fn a_dump_from_an_image() {
+    let folder = Folder::new("vcd-image");
+    let lines: Vec<&str> = SEEK.lines().collect();
+    let at = lines.iter().position(|line| line.contains("9400t")).expect("there");
+    let first = folder.put("first", lines[..at].join("\n").as_bytes());
+    let (image, vcd) = (folder.path("image"), folder.path("vcd"));
+    let words = ["run", &first, "--text", "--save", &image, "--quiet"];
+    assert_eq!(status(&program(&words, b"")), 0);
+    let words = ["run", "-", "--text", "--image", &image, "--vcd", &vcd, "--quiet"];
+    assert_eq!(status(&program(&words, b"9401t VB\n")), 0);
+    let dump = Dump::of(&String::from_utf8(folder.get("vcd")).expect("UTF-8"));
+    dump.shows(&Machine::from_image(&folder.get("image")).expect("accepted").state(), 0);
+    assert_eq!(dump.tracks["internal_step"], [(0, 1), (nanoseconds(9_401), 0)]);
+    assert_eq!(dump.tracks["internal_track"], [(0, 0), (nanoseconds(9_401), 1)]);
+    assert_eq!(dump.tracks["internal_motor"], [(0, 1)]);
+}
+
+/// A dump longer than the memory, with drives that change at every item.
+#[test]
+fn dumps_in_fixed_memory() {
+    let disk = |insert| [8, 0, b'D', b'I', 1, 0, 1, insert, 0, 0];
+    let input = [disk(1), disk(0)].concat().repeat(600_000);
+    let script = "ulimit -v 32768; \"$0\" run - --quiet --vcd - | tail -c 200";
+    let output = feed(Command::new("sh").args(["-c", script, PROGRAM]), &input);
+    let end = stdout(&output);
+    let last = format!("#{}\n", nanoseconds(1_200_000) + 10);
+    assert!(end.ends_with(&last), "{end}{}", stderr(&output));
+    assert!(end.contains(&format!("\n#{}\n", nanoseconds(1_200_000))), "{end}");
 }
 
 #[test]

@@ -1,7 +1,8 @@
-//! Wires and lines over time, as a Value Change Dump.
+//! Wires, lines and drives over time, as a Value Change Dump.
 //!
 //! A VIA tick is 1,276.55 ns. Items with no wait between them are drawn 10 ns apart, so that their
-//! order shows; where more than 127 come in one tick, what follows is late by that much.
+//! order shows; where more than 127 come in one tick, what follows is late by that much. The state
+//! is taken after each item: what ends within a wait (a step of a drive, a timer) shows at its end.
 
 use super::files::Out;
 use super::Failure;
@@ -10,8 +11,12 @@ use swarmtempo::{Command, DiskLine, Phase, State, TICKS_PER_SECOND};
 /// Nanoseconds between two items at least.
 const GAP: u64 = 10;
 
-/// The tracks: scope, name, bits (0: a string).
-const TRACKS: [(&str, &str, u32); 19] = [
+/// Tracks in a dump.
+const COUNT: usize = 30;
+
+/// The tracks: scope, name, bits (0: a string). Names are unique, for a viewer that leaves the scope
+/// out.
+const TRACKS: [(&str, &str, u32); COUNT] = [
     ("clock", "enable", 1),
     ("clock", "data_clock", 1),
     ("clock", "data", 1),
@@ -19,8 +24,11 @@ const TRACKS: [(&str, &str, u32); 19] = [
     ("clock", "command", 8),
     ("clock", "byte", 8),
     ("clock", "seconds", 32),
+    ("clock", "seconds_stopped", 1),
     ("via", "SEL", 1),
     ("via", "level", 3),
+    ("inputs", "serial_chip", 1),
+    ("inputs", "switch", 1),
     ("disk", "CA0", 1),
     ("disk", "CA1", 1),
     ("disk", "CA2", 1),
@@ -29,6 +37,14 @@ const TRACKS: [(&str, &str, u32); 19] = [
     ("disk", "SELECT", 1),
     ("disk", "Q6", 1),
     ("disk", "Q7", 1),
+    ("drives", "internal_disk", 1),
+    ("drives", "internal_motor", 1),
+    ("drives", "internal_step", 1),
+    ("drives", "internal_track", 7),
+    ("drives", "external_disk", 1),
+    ("drives", "external_motor", 1),
+    ("drives", "external_step", 1),
+    ("drives", "external_track", 7),
     ("list", "item", 32),
     ("list", "refused", 4),
 ];
@@ -36,7 +52,10 @@ const TRACKS: [(&str, &str, u32); 19] = [
 /// Writes a dump.
 pub struct Vcd {
     out: Out,
-    shown: Vec<String>,
+    /// What each track shows; none before the first sample.
+    shown: [Option<u64>; COUNT],
+    /// What the track of words shows.
+    shown_words: String,
     before: State,
     decoded: Decoded,
     items: u64,
@@ -75,12 +94,19 @@ impl Vcd {
         }
         head.push_str("$upscope $end\n$upscope $end\n$enddefinitions $end\n");
         out.put(head.as_bytes())?;
-        let shown = vec![String::new(); TRACKS.len()];
         let words = open_command(&start.phase);
         let command = if let Phase::Taking { command, .. } = start.phase { command } else { 0 };
         let decoded = Decoded { words, command, byte: 0 };
-        let mut vcd =
-            Vcd { out, shown, before: start.clone(), decoded, items: 0, ticks: 0, time: 0 };
+        let mut vcd = Vcd {
+            out,
+            shown: [None; COUNT],
+            shown_words: String::new(),
+            before: start.clone(),
+            decoded,
+            items: 0,
+            ticks: 0,
+            time: 0,
+        };
         vcd.out.put(b"#0\n$dumpvars\n")?;
         vcd.changes(&start, 0)?;
         vcd.out.put(b"$end\n")?;
@@ -107,9 +133,36 @@ impl Vcd {
         self.out.keep()
     }
 
+    /// Writes the tracks that changed.
     fn changes(&mut self, state: &State, refused: u8) -> Result<(), Failure> {
+        let values = self.values(state, refused);
+        for (i, (value, (_, _, bits))) in values.into_iter().zip(TRACKS).enumerate() {
+            let text = if bits == 0 {
+                if self.shown_words == self.decoded.words {
+                    continue;
+                }
+                self.shown_words.clone_from(&self.decoded.words);
+                format!("s{} {}\n", self.shown_words.replace(' ', "_"), code(i))
+            } else {
+                if self.shown[i].replace(value) == Some(value) {
+                    continue;
+                }
+                match bits {
+                    1 => format!("{value}{}\n", code(i)),
+                    _ => format!("b{value:b} {}\n", code(i)),
+                }
+            };
+            self.out.put(text.as_bytes())?;
+        }
+        Ok(())
+    }
+
+    /// A number for each track; that of the words is not looked at.
+    fn values(&self, state: &State, refused: u8) -> [u64; COUNT] {
         let wires = state.wires();
-        let mut values = vec![
+        let line = |line: DiskLine| u64::from(state.lines.on(line));
+        let [internal, external] = &state.drives;
+        [
             u64::from(wires.enable),
             u64::from(wires.data_clock),
             u64::from(wires.data),
@@ -117,24 +170,30 @@ impl Vcd {
             u64::from(self.decoded.command),
             u64::from(self.decoded.byte),
             u64::from(state.seconds.0),
+            u64::from(state.seconds_stopped()),
             u64::from(state.sel()),
             u64::from(state.level()),
-        ];
-        values.extend(DiskLine::ALL.into_iter().map(|line| u64::from(state.lines.on(line))));
-        values.extend([self.items & 0xFFFF_FFFF, u64::from(refused)]);
-        for (i, (value, &(_, _, bits))) in values.into_iter().zip(&TRACKS).enumerate() {
-            let text = match bits {
-                0 => format!("s{} {}", self.decoded.words.replace(' ', "_"), code(i)),
-                1 => format!("{value}{}", code(i)),
-                _ => format!("b{value:b} {}", code(i)),
-            };
-            if text != self.shown[i] {
-                self.out.put(text.as_bytes())?;
-                self.out.put(b"\n")?;
-                self.shown[i] = text;
-            }
-        }
-        Ok(())
+            u64::from(state.inputs[5]),
+            u64::from(state.inputs[6]),
+            line(DiskLine::CA0),
+            line(DiskLine::CA1),
+            line(DiskLine::CA2),
+            line(DiskLine::LSTRB),
+            line(DiskLine::ENABLE),
+            line(DiskLine::SELECT),
+            line(DiskLine::Q6),
+            line(DiskLine::Q7),
+            u64::from(internal.disk),
+            u64::from(internal.motor),
+            u64::from(internal.step_left > 0),
+            u64::from(internal.track),
+            u64::from(external.disk),
+            u64::from(external.motor),
+            u64::from(external.step_left > 0),
+            u64::from(external.track),
+            self.items & 0xFFFF_FFFF,
+            u64::from(refused),
+        ]
     }
 }
 

@@ -83,8 +83,8 @@ fn clock(state: &State, out: &mut String) {
     ));
     out.push_str(&format!("  command   {}\n", phase(&state.phase)));
     out.push_str(&format!("  protect   {}\n", if state.protect { "set" } else { "clear" }));
-    let stands = if state.test & 0xC0 == 0 { "" } else { " (the seconds stand)" };
-    out.push_str(&format!("  test      ${:02X}{stands}\n", state.test));
+    let stopped = if state.seconds_stopped() { " (seconds stopped)" } else { "" };
+    out.push_str(&format!("  test      ${:02X}{stopped}\n", state.test));
     out.push_str(&format!("  seconds   {} s: {}\n", state.seconds.0, date(state.seconds.0)));
     for (row, cells) in state.cells.chunks(16).enumerate() {
         let shown: Vec<String> = cells.iter().map(|cell| format!("{cell:02X}")).collect();
@@ -119,11 +119,14 @@ fn disk(state: &State, out: &mut String) {
     out.push_str("\nDisk\n");
     out.push_str(&format!("  lines on  {}\n", state.lines));
     out.push_str(&format!("  SEL       {}\n", u8::from(state.sel())));
-    out.push_str("  sense     0 1 2 3 4 5 6 7 8 9 A B C D E F\n");
+    out.push_str(
+        "  SN set    0 1 2 3 4 5 6 7 8 9 A B C D E F (0 to 5, C and F are the drive's own)\n",
+    );
     for (name, levels) in ["internal", "external"].iter().zip(&state.sense) {
         let shown: Vec<&str> = levels.iter().map(|&on| if on { "1" } else { "0" }).collect();
         out.push_str(&format!("  {name}  {}\n", shown.join(" ")));
     }
+    out.push_str("  drives\n");
     for (name, state) in ["internal", "external"].iter().zip(&state.drives) {
         out.push_str(&format!("  {name}  {}\n", drive(state)));
     }
