@@ -7,13 +7,14 @@ use native.Mathlib.Omega.{arith}
 use native.Mathlib.Nat.{mod-lt}
 use lib.Dec.{eqb}
 use lib.ListN.{length, take, drop}
-use Rattle.clock.specs.Wire.{stops, decode, Written, writeBy, num, wrap, replace}
+use Rattle.clock.specs.Wire.{stops, decode, Written, writeBy, num, wrap}
 use Rattle.clock.specs.declared.Target.{Target}
 use Rattle.clock.specs.declared.Target.the-variants.{Seconds, Test, Protect, Cell}
 use Rattle.clock.specs.declared.Command.{Command}
 use Rattle.clock.specs.declared.Command.the-variants.{Write, Read, Illegal}
 use Rattle.history.specs.History.{Start, History, rose, complete, completeIn, met, testAt, replaced, wiresAt, rises, ended, protectAt, endedClear, secondsAt}
 use Rattle.clock.specs.Parts.{InRange, Legal}
+use Rattle.clock.proofs.Places.{replace-small}
 use Rattle.clock.proofs.Range.{cond-case, decode-legal}
 use Rattle.history.proofs.Bits.{num-bound}
 
@@ -37,14 +38,6 @@ ended-fine : (N : ℕ) (S : Start) (h : History) → Fine N (ended N S h)
 unfolding ended
 ended-fine N S [] = tt
 ended-fine N S (e ∷ h) = cond-case (Fine N) (rose (wiresAt N S h) (e .wires)) (λ q. complete-fine N (rises N S (e ∷ h))) (λ q. tt)
-
-replace-small : (k b s : ℕ) → k < 4 → b < 256 → s < 2 ^ 32 → replace k b s < 2 ^ 32
-unfolding replace
-replace-small zero b s k h l = omega arith
-replace-small (suc zero) b s k h l = omega arith
-replace-small (suc (suc zero)) b s k h l = omega arith
-replace-small (suc (suc (suc zero))) b s k h l = omega arith
-replace-small (suc (suc (suc (suc n)))) b s k h l = absurd (omega arith)
 
 replaced-small : (N : ℕ) (o : Option Written) (s : ℕ) → Fine N o → s < 2 ^ 32 → replaced o s < 2 ^ 32
 replaced-small N none s f l = l
