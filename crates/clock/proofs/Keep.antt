@@ -7,16 +7,20 @@ use native.Mathlib.Omega.{arith}
 use native.Mathlib.Numerals.{add-one}
 use lib.Dec.{ltb, eqb}
 use borrow.Author.Tests.{ltb-true, lt-ltb, eqb-false}
-use Rattle.clock.specs.Wire.{Written, decode, bit}
-use Rattle.clock.specs.Step.{edgeOf, between, judged, next, acts, act, stepWires, fewBits, isWrite, acceptedPhase}
-use Rattle.clock.specs.declared.Command.{Command}
-use Rattle.clock.specs.declared.Command.the-variants.{Write, Read, Illegal}
-use Rattle.clock.specs.declared.Phase.{Phase}
-use Rattle.clock.specs.declared.Phase.the-variants.{Idle, Listening, Taking, Sending, Ignoring}
-use Rattle.clock.specs.declared.Wires.{Wires}
-use Rattle.clock.specs.declared.Store.{Store}
+use Rattle.command.specs.Command.{decode, bit, isWrite}
+use Rattle.store.specs.Shared.{Written}
+use Rattle.store.specs.Store.{act}
+use Rattle.phase.specs.Phase.{edgeOf, between, judged, fewBits, acceptedPhase}
+use Rattle.clock.specs.Step.{next, acts, stepWires}
+use Rattle.command.specs.declared.Command.{Command}
+use Rattle.command.specs.declared.Command.the-variants.{Write, Read, Illegal}
+use Rattle.phase.specs.declared.Phase.{Phase}
+use Rattle.phase.specs.declared.Phase.the-variants.{Idle, Listening, Taking, Sending, Ignoring}
+use Rattle.phase.specs.declared.Wires.{Wires}
+use Rattle.store.specs.declared.Store.{Store}
 use Rattle.clock.specs.declared.Clock.{Clock}
-use Rattle.clock.proofs.Range.{and-left, and-right, few-count, few-value, bit-le}
+use Rattle.command.proofs.Range.{bit-le}
+use Rattle.phase.proofs.Range.{and-left, and-right, few-count, few-value}
 
 both : (a b : Bool) → a ≡ true → b ≡ true → (a && b) ≡ true
 both true b h k = k

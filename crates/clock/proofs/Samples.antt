@@ -4,11 +4,14 @@ use mathlib.Core.Bool.{Bool, true, false}
 use mathlib.Core.List.{List, [], _∷_, _++_}
 use Prim.Native.Nat.{ℕ, _/_}
 use lib.ListN.{getD}
-use Rattle.clock.specs.Wire.{decode, named, replace}
-use Rattle.clock.specs.Step.{freshClock, between, fetch, next, acts, put, act, stepWires}
-use Rattle.clock.specs.Patterns.{bitsOf}
-use Rattle.clock.specs.declared.Phase.the-variants.{Listening, Sending, Ignoring}
-use Rattle.clock.specs.declared.Wires.{Wires}
+use Rattle.command.specs.Command.{decode, named}
+use Rattle.command.specs.Patterns.{bitsOf}
+use Rattle.store.specs.Shared.{replace}
+use Rattle.store.specs.Store.{fetch, put, act}
+use Rattle.phase.specs.Phase.{between}
+use Rattle.clock.specs.Step.{freshClock, next, acts, stepWires}
+use Rattle.phase.specs.declared.Phase.the-variants.{Listening, Sending, Ignoring}
+use Rattle.phase.specs.declared.Wires.{Wires}
 use Rattle.clock.specs.declared.Clock.{Clock}
 
 abbrev levels : Bool → Bool → Bool → Wires

@@ -6,10 +6,13 @@ use mathlib.Core.Option.{some}
 use Prim.Native.Nat.{ℕ, zero, suc, _-_, _/_, _%_, _^_}
 use lib.Dec.{eqb}
 use lib.ListN.{getD}
-use Rattle.clock.specs.Wire.{Event, quiet, second, off, named, decode, replace}
-use Rattle.clock.specs.Step.{freshClock, between, fetch, next, acts, put, act, stepWires}
-use Rattle.clock.specs.declared.Phase.the-variants.{Taking}
-use Rattle.clock.specs.declared.Wires.{Wires}
+use Rattle.command.specs.Command.{named, decode}
+use Rattle.store.specs.Shared.{Event, quiet, second, off, replace}
+use Rattle.store.specs.Store.{fetch, put, act}
+use Rattle.phase.specs.Phase.{between}
+use Rattle.clock.specs.Step.{freshClock, next, acts, stepWires}
+use Rattle.phase.specs.declared.Phase.the-variants.{Taking}
+use Rattle.phase.specs.declared.Wires.{Wires}
 use Rattle.clock.specs.declared.Clock.{Clock}
 use Rattle.history.specs.History.{Entry, History, wiresAt, rises, ended, protectAt, endedClear, last, cellAt, testAt, secondsAt}
 use Rattle.history.specs.Start.{startOf, undriven, freshStart}

@@ -4,12 +4,13 @@ use mathlib.Core.Bool.{Bool, true, false, not, _&&_, false≢true}
 use Prim.Native.Nat.{ℕ, _+_, _-_, _/_, _%_, _^_, _<_}
 use lib.Dec.{ltb, leb, eqb}
 use borrow.Author.Tests.{ltb-true, leb-false, not-true}
-use Rattle.clock.specs.Wire.{named, decode}
-use Rattle.clock.specs.Step.{isWrite, fewBits, acceptedPhase}
-use Rattle.clock.proofs.Range.{cond-case, and-left, and-right, few-count, few-value}
-use Rattle.clock.specs.declared.Command.{Command}
-use Rattle.clock.specs.declared.Phase.{Phase}
-use Rattle.clock.specs.declared.Phase.the-variants.{Idle, Listening, Taking, Sending, Ignoring}
+use Rattle.command.specs.Command.{named, decode, isWrite}
+use Rattle.phase.specs.Phase.{fewBits, acceptedPhase}
+use Rattle.command.proofs.Range.{cond-case}
+use Rattle.phase.proofs.Range.{and-left, and-right, few-count, few-value}
+use Rattle.command.specs.declared.Command.{Command}
+use Rattle.phase.specs.declared.Phase.{Phase}
+use Rattle.phase.specs.declared.Phase.the-variants.{Idle, Listening, Taking, Sending, Ignoring}
 
 -- The chip is idle exactly while enable, e, is 1; n bits taken have a value below 2 ^ n.
 abbrev pub Parts : ℕ → Phase → Bool → Type 0

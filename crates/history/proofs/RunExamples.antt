@@ -7,9 +7,12 @@ use Rattle.levels.specs.Levels.{allLevels}
 use Rattle.record.specs.Record.{le16Of, le32Of, frameOf}
 use Rattle.via.specs.Via.{freshVia, ticks, acceptedVia}
 use Rattle.via.specs.Registers.{written, portsWritten}
-use Rattle.clock.specs.Wire.{named, decode, replace}
-use Rattle.clock.specs.Step.{between, fetch, next, acts, put, act, stepWires, shown, acceptedPhase}
-use Rattle.clock.specs.declared.Target.the-variants.{Cell}
+use Rattle.command.specs.Command.{named, decode}
+use Rattle.store.specs.Shared.{replace}
+use Rattle.store.specs.Store.{fetch, put, act}
+use Rattle.phase.specs.Phase.{between, shown, acceptedPhase}
+use Rattle.clock.specs.Step.{next, acts, stepWires}
+use Rattle.command.specs.declared.Target.the-variants.{Cell}
 use Rattle.iwm.specs.Lines.{linesOff}
 use Rattle.drive.specs.Drive.{acceptedDrive}
 use Rattle.strobe.specs.Strobe.{acceptedStrobe}

@@ -10,10 +10,12 @@ use Rattle.levels.specs.Levels.{allLevels}
 use Rattle.via.specs.declared.Ports.{Ports}
 use Rattle.via.specs.Via.{freshVia, acceptedVia}
 use Rattle.iwm.specs.Lines.{linesOff}
-use Rattle.clock.specs.Wire.{quiet}
-use Rattle.clock.specs.Step.{withStore, counted, stepWires, stepClock, shown, acceptedPhase}
+use Rattle.store.specs.Shared.{quiet}
+use Rattle.store.specs.Store.{counted}
+use Rattle.phase.specs.Phase.{shown, acceptedPhase}
+use Rattle.clock.specs.Step.{withStore, stepWires, stepClock}
 use Rattle.clock.proofs.Line.{settled-step}
-use Rattle.clock.specs.declared.Wires.{Wires}
+use Rattle.phase.specs.declared.Wires.{Wires}
 use Rattle.clock.specs.declared.Clock.{Clock}
 use Rattle.drive.specs.Drive.{acceptedDrive}
 use Rattle.strobe.specs.Strobe.{acceptedStrobe}

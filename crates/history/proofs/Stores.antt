@@ -8,11 +8,11 @@ use lib.Dec.{eqb}
 use lib.ListN.{length, getD, set, length-set}
 use lib.Seq.{getD-set-same, getD-set-other}
 use borrow.Author.Tests.{eqb-true, eqb-false, not-false}
-use Rattle.clock.specs.Wire.{Written, bit7}
-use Rattle.clock.specs.Step.{put, writable, act}
-use Rattle.clock.specs.declared.Target.{Target}
-use Rattle.clock.specs.declared.Target.the-variants.{Seconds, Test, Protect, Cell}
-use Rattle.clock.specs.declared.Store.{Store}
+use Rattle.store.specs.Shared.{Written, bit7}
+use Rattle.store.specs.Store.{put, writable, act}
+use Rattle.command.specs.declared.Target.{Target}
+use Rattle.command.specs.declared.Target.the-variants.{Seconds, Test, Protect, Cell}
+use Rattle.store.specs.declared.Store.{Store}
 use Rattle.history.specs.History.{protectBy, clears, same, byteTo, replaced}
 
 abbrev wr : Target → ℕ → Option Written

@@ -10,13 +10,15 @@ use lib.Dec.{eqb}
 use lib.ListN.{length, take, drop, length-append}
 use lib.Seq.{take-at, drop-at}
 use borrow.Author.Tests.{eqb-true, eqb-false}
-use Rattle.clock.specs.Wire.{decode, Written, writeBy, bit, num}
-use Rattle.clock.specs.Step.{edgeOf, judged, next, acts}
-use Rattle.clock.specs.declared.Command.{Command}
-use Rattle.clock.specs.declared.Command.the-variants.{Write, Read, Illegal}
-use Rattle.clock.specs.declared.Phase.{Phase}
-use Rattle.clock.specs.declared.Phase.the-variants.{Idle, Listening, Taking, Sending, Ignoring}
-use Rattle.clock.specs.declared.Store.{Store}
+use Rattle.command.specs.Command.{decode, bit, num}
+use Rattle.store.specs.Shared.{Written, writeBy}
+use Rattle.phase.specs.Phase.{edgeOf, judged}
+use Rattle.clock.specs.Step.{next, acts}
+use Rattle.command.specs.declared.Command.{Command}
+use Rattle.command.specs.declared.Command.the-variants.{Write, Read, Illegal}
+use Rattle.phase.specs.declared.Phase.{Phase}
+use Rattle.phase.specs.declared.Phase.the-variants.{Idle, Listening, Taking, Sending, Ignoring}
+use Rattle.store.specs.declared.Store.{Store}
 use Rattle.history.specs.History.{push, complete, completeIn}
 use Rattle.history.specs.Start.{bitsOf, begunBy}
 use Rattle.history.proofs.Phases.{Parts, write-small}

@@ -7,10 +7,11 @@ use mathlib.Core.Option.{Option, none, some}
 use Prim.Native.Nat.{ℕ, _+_}
 use lib.Dec.{eqb}
 use lib.ListN.{length, take, drop, getD}
-use Rattle.clock.specs.Wire.{Event, quiet, second, off, stops, wrap, decode, Written, writeBy, num, bit7, replace}
-use Rattle.clock.specs.declared.Target.{Target}
-use Rattle.clock.specs.declared.Target.the-variants.{Seconds, Test, Protect, Cell}
-use Rattle.clock.specs.declared.Wires.{Wires}
+use Rattle.command.specs.Command.{decode, num}
+use Rattle.store.specs.Shared.{Event, quiet, second, off, stops, wrap, Written, writeBy, bit7, replace}
+use Rattle.command.specs.declared.Target.{Target}
+use Rattle.command.specs.declared.Target.the-variants.{Seconds, Test, Protect, Cell}
+use Rattle.phase.specs.declared.Wires.{Wires}
 
 -- "It has an entry for the start and for each item answered: enable, data-clock and data after it, unchanged by a refused one."
 -- The start's entry has with the wires what is known there. `begun` is the stretch that is open at the start: the bits of the rises already

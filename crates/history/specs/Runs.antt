@@ -5,7 +5,7 @@ use mathlib.Core.List.{List, [], _∷_, _++_}
 use Prim.Native.Nat.{ℕ, _+_, _-_, _<_}
 use lib.Dec.{ltb, eqb}
 use lib.ListN.{getD}
-use Rattle.clock.specs.Wire.{Event, quiet, wrap}
+use Rattle.store.specs.Shared.{Event, quiet, wrap}
 use Rattle.clock.specs.declared.Clock.{Clock}
 use Rattle.items.specs.declared.Decoded.{Decoded}
 use Rattle.items.specs.declared.Decoded.the-variants.{Done, Refused}

@@ -11,10 +11,10 @@ use borrow.Author.Tests.{eq-eqb, eqb-true}
 use Rattle.levels.proofs.Laws.{no, both}
 use Rattle.record.specs.Record.{le16Of, le32Of, putAt, Bytes}
 use Rattle.record.proofs.Laws.{put-length, le16-width, le32-width, bytes-take, bytes-drop}
-use Rattle.clock.specs.Wire.{bit}
-use Rattle.clock.specs.declared.Phase.{Phase}
-use Rattle.clock.specs.declared.Phase.the-variants.{Idle, Listening, Taking, Sending, Ignoring}
-use Rattle.clock.specs.declared.Store.{Store}
+use Rattle.command.specs.Command.{bit}
+use Rattle.phase.specs.declared.Phase.{Phase}
+use Rattle.phase.specs.declared.Phase.the-variants.{Idle, Listening, Taking, Sending, Ignoring}
+use Rattle.store.specs.declared.Store.{Store}
 use Rattle.clock.specs.declared.Clock.{Clock}
 use Rattle.via.specs.declared.Via.{Via}
 use Rattle.drive.specs.declared.Drive.{Drive}

@@ -9,10 +9,10 @@ use Rattle.via.specs.declared.Ports.{Ports}
 use Rattle.via.specs.declared.Timer1.{Timer1}
 use Rattle.via.specs.declared.Timer2.{Timer2}
 use Rattle.via.specs.declared.Via.{Via}
-use Rattle.clock.specs.Wire.{bit}
-use Rattle.clock.specs.declared.Phase.{Phase}
-use Rattle.clock.specs.declared.Phase.the-variants.{Idle, Listening, Taking, Sending, Ignoring}
-use Rattle.clock.specs.declared.Store.{Store}
+use Rattle.command.specs.Command.{bit}
+use Rattle.phase.specs.declared.Phase.{Phase}
+use Rattle.phase.specs.declared.Phase.the-variants.{Idle, Listening, Taking, Sending, Ignoring}
+use Rattle.store.specs.declared.Store.{Store}
 use Rattle.clock.specs.declared.Clock.{Clock}
 use Rattle.drive.specs.declared.Drive.{Drive}
 use Rattle.strobe.specs.declared.Strobe.{Strobe}

@@ -5,7 +5,7 @@ use mathlib.Core.Bool.{Bool, true, false}
 use lib.Dec.{eqb}
 use Rattle.via.proofs.Kept.{ticks-ports}
 use Rattle.via.specs.declared.Ports.{Ports}
-use Rattle.clock.specs.Step.{shown}
+use Rattle.phase.specs.Phase.{shown}
 use Rattle.wiring.specs.Wiring.{wiresOf, watchedOf}
 use Rattle.iwm.specs.Lines.{linesOff}
 use Rattle.strobe.specs.declared.Watched.{Watched}

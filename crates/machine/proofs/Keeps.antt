@@ -9,8 +9,9 @@ use Rattle.levels.proofs.Laws.{set-levels}
 use Rattle.via.specs.declared.Via.{Via}
 use Rattle.via.specs.Via.{acceptedVia, ticks}
 use Rattle.via.proofs.Accepted.{fresh-accepted, reset-accepted, raised-accepted, ticks-accepted, written-accepted, read-accepted}
-use Rattle.clock.specs.declared.Phase.{Phase}
-use Rattle.clock.specs.Step.{acceptedPhase, stepWires, shown}
+use Rattle.phase.specs.declared.Phase.{Phase}
+use Rattle.phase.specs.Phase.{acceptedPhase, shown}
+use Rattle.clock.specs.Step.{stepWires}
 use Rattle.clock.proofs.Keep.{keeps-step}
 use Rattle.wiring.specs.Wiring.{wiresOf, inputsOf}
 use Rattle.iwm.proofs.Laws.{off-levels, access-levels}

@@ -7,10 +7,10 @@ use Rattle.levels.specs.Levels.{allLevels}
 use Rattle.levels.proofs.Laws.{both, joined}
 use Rattle.via.specs.declared.Via.{Via}
 use Rattle.via.specs.Via.{acceptedVia, asking, levelOf}
-use Rattle.clock.specs.declared.Phase.{Phase}
-use Rattle.clock.specs.declared.Wires.{Wires}
+use Rattle.phase.specs.declared.Phase.{Phase}
+use Rattle.phase.specs.declared.Wires.{Wires}
 use Rattle.clock.specs.declared.Clock.{Clock}
-use Rattle.clock.specs.Step.{acceptedPhase}
+use Rattle.phase.specs.Phase.{acceptedPhase}
 use Rattle.drives.specs.Drives.{acceptedDrives}
 use Rattle.items.specs.declared.Item.{Item}
 use Rattle.items.specs.declared.Item.the-variants.{ReadVia, ReadIwm, WriteVia, WriteIwm, Blank, Second, Line, Sense, Reset, Power, Disk}

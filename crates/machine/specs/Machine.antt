@@ -7,9 +7,10 @@ use lib.ListN.{replicate}
 use Rattle.levels.specs.Levels.{allLevels}
 use Rattle.via.specs.declared.Via.{Via}
 use Rattle.via.specs.Via.{freshVia, acceptedVia}
-use Rattle.clock.specs.declared.Wires.{Wires}
+use Rattle.phase.specs.declared.Wires.{Wires}
 use Rattle.clock.specs.declared.Clock.{Clock}
-use Rattle.clock.specs.Step.{freshClock, shown, acceptedPhase}
+use Rattle.phase.specs.Phase.{shown, acceptedPhase}
+use Rattle.clock.specs.Step.{freshClock}
 use Rattle.wiring.specs.Wiring.{wiresOf, selOf, watchedOf}
 use Rattle.iwm.specs.declared.DiskLines.{DiskLines}
 use Rattle.iwm.specs.Lines.{linesOff}

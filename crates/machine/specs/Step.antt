@@ -8,9 +8,11 @@ use Rattle.record.specs.declared.Answer.{Answer}
 use Rattle.via.specs.declared.Access.{Access}
 use Rattle.via.specs.Via.{freshVia, ticks, raisedOf, resetOf, levelOf}
 use Rattle.via.specs.Registers.{written, readOf}
-use Rattle.clock.specs.declared.Wires.{Wires}
-use Rattle.clock.specs.Wire.{Event, quiet, second, off}
-use Rattle.clock.specs.Step.{withStore, counted, stepWires, shown}
+use Rattle.phase.specs.declared.Wires.{Wires}
+use Rattle.store.specs.Shared.{Event, quiet, second, off}
+use Rattle.store.specs.Store.{counted}
+use Rattle.phase.specs.Phase.{shown}
+use Rattle.clock.specs.Step.{withStore, stepWires}
 use Rattle.iwm.specs.Lines.{linesOff, accessed, lineByteOf, senseAt, readLine}
 use Rattle.strobe.specs.declared.Watched.{Watched}
 use Rattle.drives.specs.Drives.{drivesTicks, placed, placeRefused, drivesPowered, drivesAfter, drivesShown}

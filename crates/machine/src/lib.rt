@@ -3,15 +3,15 @@ ghost use mathlib.Core.Path.{_≡_};
 ghost use mathlib.Core.Bool.{Bool, true, false};
 ghost use Prim.Native.Nat.{_+_, _*_, _<_};
 ghost use Rattle.levels.specs.Levels.{allLevels};
-ghost use Rattle.clock.specs.Step.{shown};
+ghost use Rattle.phase.specs.Phase.{shown};
 ghost use Rattle.items.specs.Items.{InRange};
 ghost use Rattle.machine.specs.Machine.{wires, watched, acceptedOf, Levels, freshMachine};
 ghost use Rattle.machine.specs.Step.{noValue, waitOf, viaRead, iwmRead, actedOf, stepOf, numberIf, refusesOf, answerOf};
 use clock::Clock;
-use clock::Wires;
 use drives::Drives;
 use items::Item;
 use iwm::DiskLines;
+use phase::Wires;
 use record::Answer;
 use strobe::Watched;
 use via::Via;
@@ -103,7 +103,7 @@ impl Machine {
     {
         let c = self.clock;
         let p = c.phase;
-        clock::shown_line(p)
+        phase::shown_line(p)
     }
 
     fn wires(self) -> Wires
@@ -134,7 +134,7 @@ impl Machine {
         let b = levels::all_levels(&inputs);
         let s = levels::all_levels(&sense);
         let v = self.via.accepted();
-        let k = clock::accepted_phase(p, w.enable);
+        let k = phase::accepted_phase(p, w.enable);
         let g = self.drives.accepted(self.watched());
         a & b & s & v & k & g
     }

@@ -3,8 +3,10 @@ use mathlib.Core.Path.{refl}
 use Rattle.levels.specs.Levels.{allLevels}
 use Rattle.via.specs.Via.{freshVia, portLevel, latchOf, tickOf, ticks, raisedOf, resetOf, asking, levelOf, acceptedVia}
 use Rattle.via.specs.Registers.{written, readOf}
-use Rattle.clock.specs.Wire.{named, decode}
-use Rattle.clock.specs.Step.{between, fetch, next, acts, put, act, stepWires, shown, acceptedPhase}
+use Rattle.command.specs.Command.{named, decode}
+use Rattle.store.specs.Store.{fetch, put, act}
+use Rattle.phase.specs.Phase.{between, shown, acceptedPhase}
+use Rattle.clock.specs.Step.{next, acts, stepWires}
 use Rattle.iwm.specs.Lines.{linesOff, accessed, lineByteOf, senseAt, readLine}
 use Rattle.drive.specs.Drive as drive
 use Rattle.drive.specs.Drive.{registerWritten, neighbour, tickDrive, driveTicks, drivesSense, shownOf, acceptedDrive}

@@ -3,8 +3,8 @@ use Prim.Native.Nat.{ℕ, zero, suc, _+_, _*_}
 use mathlib.Core.Path.{_≡_}
 use mathlib.Core.List.{List, [], _∷_, _++_}
 use lib.ListN.{getD}
-use Rattle.clock.specs.declared.Phase.{Phase}
-use Rattle.clock.specs.declared.Phase.the-variants.{Listening, Ignoring}
+use Rattle.phase.specs.declared.Phase.{Phase}
+use Rattle.phase.specs.declared.Phase.the-variants.{Listening, Ignoring}
 use Rattle.machine.specs.Machine.{freshMachine}
 use Rattle.run.specs.Run.{Out, halt, runOf}
 use Rattle.samples.specs.Lists.{rd, wr, se, begin, end, select, sent, byte, transaction}

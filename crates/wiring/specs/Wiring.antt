@@ -6,8 +6,8 @@ use lib.Dec.{eqb}
 use lib.ListN.{getD}
 use Rattle.via.specs.declared.Ports.{Ports}
 use Rattle.via.specs.declared.Inputs.{Inputs}
-use Rattle.clock.specs.declared.Wires.{Wires}
-use Rattle.clock.specs.Wire.{bit}
+use Rattle.phase.specs.declared.Wires.{Wires}
+use Rattle.command.specs.Command.{bit}
 use Rattle.iwm.specs.declared.DiskLines.{DiskLines}
 use Rattle.iwm.specs.Lines as lines
 use Rattle.strobe.specs.declared.Watched.{Watched}

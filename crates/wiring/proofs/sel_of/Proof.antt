@@ -1,5 +1,5 @@
 use mathlib.Core.Path.{ap, _∙_}
-use Rattle.clock.specs.Wire.{bit}
+use Rattle.command.specs.Command.{bit}
 use borrow.Author.Needs.{needs}
 use Rattle.wiring.specs.Wiring.{selOf}
 use borrow.Author.Tests.{lt-ltb, le-ltb, le-leb, lt-leb, eq-eqb, ne-eqb}

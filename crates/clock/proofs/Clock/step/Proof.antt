@@ -1,7 +1,7 @@
 use mathlib.Core.Path.{sym, ap, _∙_}
-use Rattle.clock.specs.Step.{next, acts, act, stepWires}
-use Rattle.clock.specs.Parts.{edged}
-use Rattle.clock.proofs.Range.{accepted-counts}
+use Rattle.store.specs.Store.{act}
+use Rattle.clock.specs.Step.{next, acts, stepWires, edged}
+use Rattle.phase.proofs.Range.{accepted-counts}
 use borrow.Author.Needs.{needs}
 use Rattle.clock.proofs.Clock.step.Statement.{statement}
 use Rattle.clock.proofs.Clock.step.Tie as tie
@@ -12,14 +12,8 @@ edge-between-requires c κs = search needs
 enum-told : tie.Need-enum-told
 enum-told c = search needs
 
-with-phase-requires : tie.Need-with-phase-requires
-with-phase-requires c κs = search needs
-
 enum-told-2 : tie.Need-enum-told-2
 enum-told-2 c = search needs
-
-with-phase-requires-2 : tie.Need-with-phase-requires-2
-with-phase-requires-2 c κs = search needs
 
 enum-told-3 : tie.Need-enum-told-3
 enum-told-3 c = search needs
@@ -38,11 +32,11 @@ rise-requires c κs = accepted-counts 20 _ _ (c .before .before .before .before 
 
 returns : tie.Need-returns
 unfolding stepWires edged next acts act
-returns c = c .with-phase .ensures ∙ ap (edged 20 (c .before .before .before .before .args .self)) (sym (c .before .enum-told .given .1) ∙ c .before .before .before .edge-between .ensures)
+returns c = ap (edged 20 (c .before .before .before .before .args .self)) (sym (c .before .enum-told .given .1) ∙ c .before .before .before .edge-between .ensures)
 
 returns-2 : tie.Need-returns-2
 unfolding stepWires edged next acts act
-returns-2 c = c .with-phase2 .ensures ∙ ap (edged 20 (c .before .before .before .before .args .self)) (sym (c .before .enum-told2 .given .1) ∙ c .before .before .before .edge-between .ensures)
+returns-2 c = ap (edged 20 (c .before .before .before .before .args .self)) (sym (c .before .enum-told2 .given .1) ∙ c .before .before .before .edge-between .ensures)
 
 returns-3 : tie.Need-returns-3
 unfolding stepWires edged next acts act
@@ -62,9 +56,7 @@ step-spec =
     (tie.spec
     edge-between-requires
     enum-told
-    with-phase-requires
     enum-told-2
-    with-phase-requires-2
     enum-told-3
     enum-told-4
     fall-requires

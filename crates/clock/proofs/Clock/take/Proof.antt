@@ -1,9 +1,11 @@
 use mathlib.Core.Path.{sym, subst}
 use native.Mathlib.Omega.{arith}
 use borrow.Author.Tests.{eq-eqb, ne-eqb}
-use Rattle.clock.specs.Step.{next, acts, act}
-use Rattle.clock.specs.Parts.{Legal, edged}
-use Rattle.clock.proofs.Range.{few-count, few-small, decode-legal}
+use Rattle.command.specs.Command.{Legal}
+use Rattle.command.proofs.Range.{decode-legal}
+use Rattle.store.specs.Store.{act}
+use Rattle.phase.proofs.Range.{few-count, few-small}
+use Rattle.clock.specs.Step.{next, acts, edged}
 use borrow.Author.Needs.{needs}
 use Rattle.clock.proofs.Clock.take.Statement.{statement}
 use Rattle.clock.proofs.Clock.take.Tie as tie

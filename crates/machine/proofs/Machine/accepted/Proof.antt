@@ -4,7 +4,7 @@ use Rattle.machine.proofs.Machine.accepted.Statement.{statement}
 use Rattle.machine.proofs.Machine.accepted.Tie as tie
 use Rattle.machine.proofs.Machine.accepted.Reads as reads
 use Rattle.machine.proofs.Machine.accepted.Lts as lts
-use Rattle.clock.proofs.accepted_phase.Reads as accepted-phase-reads
+use Rattle.phase.proofs.accepted_phase.Reads as accepted-phase-reads
 use Rattle.drives.proofs.Drives.accepted.Reads as Drives-accepted-reads
 use Rattle.levels.proofs.all_levels.Reads as all-levels-reads
 use Rattle.machine.proofs.Machine.watched.Reads as watched-reads

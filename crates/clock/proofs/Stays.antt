@@ -1,0 +1,42 @@
+-- Phases that an edge leaves as they are, by the tag of the phase.
+use mathlib.Core.Path.{_≡_, refl}
+use mathlib.Core.Bool.{Bool}
+use mathlib.Core.List.{List, [], _∷_}
+use Prim.Native.Nat.{ℕ}
+use types.Run.{OneOf, miss}
+use denote.Enum.Declared.{tagOf}
+use Rattle.store.specs.Store.{act}
+use Rattle.phase.proofs.Phase.{the-type}
+use Rattle.phase.specs.declared.Phase.{Phase}
+use Rattle.phase.specs.declared.Phase.the-variants.{Idle, Listening, Taking, Sending, Ignoring}
+use Rattle.phase.specs.declared.Edge.the-variants.{Fall, Rise}
+use Rattle.clock.specs.Step.{withPhase, next, acts, edged}
+use Rattle.clock.specs.declared.Clock.{Clock}
+
+abbrev not-sending : List ℕ
+not-sending = 0 ∷ 1 ∷ 2 ∷ 4 ∷ []
+
+abbrev not-counting : List ℕ
+not-counting = 0 ∷ 3 ∷ 4 ∷ []
+
+pub fall-stays : (N : ℕ) (c : Clock) → OneOf not-sending (tagOf the-type (c .phase)) → c ≡ edged N c Fall
+unfolding edged next acts act
+fall-stays N c h = go (c .phase) h
+  where
+    go : (p : Phase) → OneOf not-sending (tagOf the-type p) → withPhase c p ≡ edged N (withPhase c p) Fall
+    go Idle h = refl
+    go (Listening n v) h = refl
+    go (Taking k n v) h = refl
+    go (Sending y n) h = absurd (miss not-sending 3 tt h)
+    go Ignoring h = refl
+
+pub rise-stays : (N : ℕ) (c : Clock) (b : Bool) → OneOf not-counting (tagOf the-type (c .phase)) → c ≡ edged N c (Rise b)
+unfolding edged next acts act
+rise-stays N c b h = go (c .phase) h
+  where
+    go : (p : Phase) → OneOf not-counting (tagOf the-type p) → withPhase c p ≡ edged N (withPhase c p) (Rise b)
+    go Idle h = refl
+    go (Listening n v) h = absurd (miss not-counting 1 tt h)
+    go (Taking k n v) h = absurd (miss not-counting 2 tt h)
+    go (Sending y n) h = refl
+    go Ignoring h = refl

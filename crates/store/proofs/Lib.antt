@@ -1,0 +1,3 @@
+pub mod Places
+pub mod Stopped
+pub mod Unwritten
