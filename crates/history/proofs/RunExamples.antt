@@ -21,7 +21,8 @@ use Rattle.items.specs.Items.{isKind, placeFrom, foundOf, writeOf, powerOf, dec
 use Rattle.machine.specs.declared.Machine.{Machine}
 use Rattle.wiring.specs.Wiring.{wiresOf}
 use Rattle.machine.specs.Machine.{acceptedOf, freshMachine}
-use Rattle.machine.specs.Step.{waitOf, eventOf, actedOf, stepOf, refusesOf}
+use Rattle.action.specs.Action.{eventOf, actedOf}
+use Rattle.step.specs.Step.{waitOf, stepOf, refusesOf}
 use Rattle.run.specs.Run.{cut, piecesFrom, turnOf, onto, onPiece, runPieces, runOf}
 use Rattle.history.specs.History.{History, wiresAt, rises, ended, protectAt, endedClear, last, secondsAt}
 use Rattle.history.specs.Start.{freshStart}

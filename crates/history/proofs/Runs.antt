@@ -28,9 +28,10 @@ use Rattle.items.specs.Items.{decodedOf}
 use Rattle.machine.specs.declared.Machine.{Machine}
 use Rattle.wiring.specs.Wiring.{pin, wiresOf}
 use Rattle.machine.specs.Machine.{cellCount, wires, acceptedOf, freshMachine}
-use Rattle.machine.specs.Step.{eventOf, viaRead, iwmRead, actedOf, waitOf, waited, stepOf, refusesOf}
+use Rattle.action.specs.Action.{eventOf, viaRead, iwmRead, actedOf}
+use Rattle.step.specs.Step.{waitOf, waited, stepOf, refusesOf}
 use Rattle.machine.proofs.Laws.{parts}
-use Rattle.machine.proofs.Drives.{disk-wires}
+use Rattle.step.proofs.Drives.{disk-wires}
 use Rattle.run.specs.Run.{Piece, whole, broken, pieces, refused, carriedOut, turnBy, turnOf, halt, onto, onPiece, runPieces, runOf}
 use Rattle.history.specs.History.{wiresAt}
 use Rattle.history.specs.Start.{Accepted, freshStart}

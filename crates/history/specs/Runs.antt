@@ -12,7 +12,8 @@ use Rattle.items.specs.declared.Decoded.the-variants.{Done, Refused}
 use Rattle.items.specs.Items.{decodedOf}
 use Rattle.machine.specs.declared.Machine.{Machine}
 use Rattle.machine.specs.Machine.{cellCount, wires}
-use Rattle.machine.specs.Step.{eventOf, refusesOf}
+use Rattle.action.specs.Action.{eventOf}
+use Rattle.step.specs.Step.{refusesOf}
 use Rattle.run.specs.Run.{Piece, whole, broken, pieces, turnOf}
 use Rattle.history.specs.History.{Start, Entry, History, cellAt, testAt, protectAt, secondsAt, gained, Kept}
 use Rattle.history.specs.Start.{startOf}

@@ -18,9 +18,10 @@ use Rattle.items.specs.Items.{InRange, decodedOf}
 use Rattle.items.proofs.Range.{decoded-range}
 use Rattle.machine.specs.declared.Machine.{Machine}
 use Rattle.machine.specs.Machine.{acceptedOf}
-use Rattle.machine.specs.Step.{stepOf, refusesOf, answerOf}
-use Rattle.machine.proofs.Laws.{parts, via-level}
-use Rattle.machine.proofs.Keeps.{step-keeps}
+use Rattle.step.specs.Step.{stepOf, refusesOf, answerOf}
+use Rattle.machine.proofs.Laws.{parts}
+use Rattle.step.proofs.Laws.{via-level}
+use Rattle.step.proofs.Keeps.{step-keeps}
 use Rattle.run.specs.Run.{Piece, whole, broken, pieces, refused, carriedOut, turnBy, turnOf, Out, halt, onto, onPiece, runPieces, runOf}
 use Rattle.run.proofs.Keeps.{turn-keeps}
 

@@ -10,8 +10,8 @@ use Rattle.items.specs.declared.Decoded.the-variants.{Done, Refused}
 use Rattle.items.proofs.Range.{decoded-range}
 use Rattle.machine.specs.declared.Machine.{Machine}
 use Rattle.machine.specs.Machine.{acceptedOf}
-use Rattle.machine.specs.Step.{stepOf, refusesOf}
-use Rattle.machine.proofs.Keeps.{step-keeps}
+use Rattle.step.specs.Step.{stepOf, refusesOf}
+use Rattle.step.proofs.Keeps.{step-keeps}
 use Rattle.run.specs.Run.{carriedOut, refused, turnBy, turnOf}
 
 pub turn-keeps : (m : Machine) (s : List ℕ) → acceptedOf m ≡ true → acceptedOf (turnOf m s .machine) ≡ true

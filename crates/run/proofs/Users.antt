@@ -18,8 +18,8 @@ use Rattle.via.proofs.Waits.{ticks-add}
 use Rattle.drives.specs.declared.Drives.{Drives}
 use Rattle.drives.proofs.Laws.{drivesTicks-add}
 use Rattle.machine.specs.Machine.{withVia, withDrives, acceptedOf}
-use Rattle.machine.specs.Step.{waited, stepOf, refusesOf, answerOf}
-use Rattle.machine.proofs.Drives.{clash}
+use Rattle.step.specs.Step.{waited, stepOf, refusesOf, answerOf}
+use Rattle.step.proofs.Drives.{clash}
 use Rattle.run.specs.Run.{Piece, whole, refused, carriedOut, turnBy, turnOf, Out, onto, runPieces, runOf}
 use Rattle.run.proofs.Loop as loop
 use Rattle.run.proofs.Joined as joined

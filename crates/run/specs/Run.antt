@@ -13,9 +13,9 @@ use Rattle.items.specs.declared.Decoded.{Decoded}
 use Rattle.items.specs.declared.Decoded.the-variants.{Done, Refused}
 use Rattle.items.specs.Items.{decodedOf}
 use Rattle.machine.specs.declared.Machine.{Machine}
-use Rattle.machine.specs.declared.Did.{Did}
+use Rattle.action.specs.declared.Did.{Did}
 use Rattle.machine.specs.Machine.{acceptedOf}
-use Rattle.machine.specs.Step.{stepOf, refusesOf, answerOf}
+use Rattle.step.specs.Step.{stepOf, refusesOf, answerOf}
 use Rattle.run.specs.declared.Ran.{Ran}
 use Rattle.run.specs.declared.Turn.{Turn}
 

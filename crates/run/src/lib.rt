@@ -37,18 +37,18 @@ pub fn turn_of(m: Machine, s: &[u8]) -> Turn
             answer: record::no(items::refusal(d)),
         };
     };
-    let n = m.refuses(item);
+    let n = step::refuses(m, item);
     if n != 0 {
         return Turn {
             machine: m,
             answer: record::no(n),
         };
     }
-    let did = m.step(item);
+    let did = step::step(m, item);
     let next = did.machine;
     Turn {
         machine: next,
-        answer: machine::answer(did),
+        answer: step::answer(did),
     }
 }
 

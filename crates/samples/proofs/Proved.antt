@@ -17,7 +17,8 @@ use Rattle.record.specs.Record.{le16Of, le32Of, frameOf, answerBytes, noOf}
 use Rattle.items.specs.Items.{isKind, placeFrom, foundOf, writeOf, plainOf, powerOf, diskOf, decodedOf}
 use Rattle.items.specs.Items as items
 use Rattle.machine.specs.Machine.{acceptedOf}
-use Rattle.machine.specs.Step.{waitOf, viaRead, iwmRead, actedOf, stepOf, refusesOf, answerOf}
+use Rattle.action.specs.Action.{viaRead, iwmRead, actedOf}
+use Rattle.step.specs.Step.{waitOf, stepOf, refusesOf, answerOf}
 use Rattle.run.specs.Run.{cut, piecesFrom, turnOf, onto, onPiece, runPieces, runOf}
 use Rattle.samples.specs.Lists.{sent}
 use Rattle.samples.specs.Samples.{Samples, values}

@@ -3,20 +3,20 @@ use Rattle.machine.proofs.Machine.wires.Statement.{statement}
 use Rattle.machine.proofs.Machine.wires.Tie as tie
 use Rattle.machine.proofs.Machine.wires.Reads as reads
 use Rattle.machine.proofs.Machine.wires.Lts as lts
-use Rattle.machine.proofs.Machine.shown.Reads as shown-reads
+use Rattle.phase.proofs.shown_line.Reads as shown-line-reads
 use Rattle.wiring.proofs.wires_of.Reads as wires-of-reads
 
--- src/lib.rt:100:42
-shown-requires : tie.Need-shown-requires
-shown-requires c κs = search needs
+-- src/lib.rt:43:42
+shown-line-requires : tie.Need-shown-line-requires
+shown-line-requires c κs = search needs
 
--- src/lib.rt:100:9
+-- src/lib.rt:43:9
 wires-of-requires : tie.Need-wires-of-requires
 wires-of-requires c κs = search needs
 
--- src/lib.rt:97:5
+-- src/lib.rt:38:5
 returns : tie.Need-returns
-returns c = simp (c .wires-of .ensures, c .before .shown .ensures)
+returns c = simp (c .wires-of .ensures, c .before .shown-line .ensures)
 
 pub wires-spec : {M : Type 1} → statement M
-wires-spec = tie.close (tie.spec shown-requires wires-of-requires returns)
+wires-spec = tie.close (tie.spec shown-line-requires wires-of-requires returns)

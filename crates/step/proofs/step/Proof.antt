@@ -1,0 +1,84 @@
+use Prim.Native.Nat.{ℕ}
+use mathlib.Core.Path.{sym, ap, subst, _∙_}
+use Rattle.machine.specs.declared.Machine.{Machine}
+use Rattle.machine.specs.Machine.{Levels}
+use Rattle.machine.proofs.Laws.{parts}
+use Rattle.action.specs.Action.{actedOf}
+use Rattle.step.specs.Step.{waited, stepOf}
+use Rattle.step.proofs.Laws.{met, quiet-step}
+use borrow.Author.Needs.{needs}
+use Rattle.step.proofs.step.Statement.{statement}
+use Rattle.step.proofs.step.Tie as tie
+use Rattle.step.proofs.step.Reads as reads
+use Rattle.step.proofs.step.Lts as lts
+use Rattle.action.proofs.act.Reads as act-reads
+use Rattle.machine.proofs.Machine.watched.Reads as watched-reads
+use Rattle.machine.proofs.Machine.wires.Reads as wires-reads
+use Rattle.step.proofs.compare.Reads as compare-reads
+use Rattle.step.proofs.moves_lines.Reads as moves-lines-reads
+use Rattle.step.proofs.wait.Reads as wait-reads
+use Rattle.step.proofs.wait_of.Reads as wait-of-reads
+
+-- src/lib.rt:81:33
+wait-of-requires : tie.Need-wait-of-requires
+wait-of-requires c κs = search needs
+
+-- src/lib.rt:81:25
+wait-requires : tie.Need-wait-requires
+wait-requires c κs = search needs
+
+-- src/lib.rt:81:9
+act-requires : tie.Need-act-requires
+act-requires c κs =
+    let s = c .before .before in
+    (s .pre .1, subst (λ (x : Machine). Levels x) (sym (c .wait .ensures)) (parts (s .args .m) (s .pre .0) .levels))
+
+-- src/lib.rt:82:8
+moves-lines-requires : tie.Need-moves-lines-requires
+moves-lines-requires c κs = search needs
+
+-- src/lib.rt:85:36
+wires-requires : tie.Need-wires-requires
+wires-requires c κs = search needs
+
+-- src/lib.rt:85:47
+watched-requires : tie.Need-watched-requires
+watched-requires c κs = search needs
+
+-- src/lib.rt:85:22
+compare-requires : tie.Need-compare-requires
+compare-requires c κs =
+    let a = c .before .before .before .before .before in
+    let s = a .before .before .before in
+    met (s .args .m) (a .before .wait .result) (s .args .item) (a .act .result) (c .before .wires .result)
+    (a .act .ensures) (ap (λ (x : Machine). x .clock) (a .before .wait .ensures)) (c .before .wires .ensures) (s .pre .0)
+
+-- src/lib.rt:84:9
+returns : tie.Need-returns
+unfolding stepOf
+returns c =
+    let a = c .before .before .before .before .before .before in
+    simp (c .compare .ensures, c .before .watched .ensures, c .before .before .wires .ensures, a .act .ensures, a .before .wait .ensures, a .before .before .wait-of .ensures)
+
+-- src/lib.rt:76:1
+returns-2 : tie.Need-returns-2
+returns-2 c =
+    let a = c .before .before in
+    let s = a .before .before .before in
+    a .act .ensures
+    ∙ ap (λ (x : Machine). actedOf x (s .args .item)) (a .before .wait .ensures ∙ ap (λ (n : ℕ). waited n (s .args .m)) (a .before .before .wait-of .ensures))
+    ∙ sym (quiet-step (s .args .m) (s .args .item) (s .pre .0) (c .before .moves-lines .ensures (c .if1 .left)))
+
+pub step-spec : {M : Type 1} → statement M
+step-spec =
+    tie.close
+    (tie.spec
+    wait-of-requires
+    wait-requires
+    act-requires
+    moves-lines-requires
+    wires-requires
+    watched-requires
+    compare-requires
+    returns
+    returns-2)
