@@ -6,7 +6,8 @@ use native.Mathlib.Omega.{arith}
 use lib.Dec.{eqb}
 use Rattle.levels.proofs.Laws.{set-levels}
 use Rattle.via.specs.Via.{acceptedVia}
-use Rattle.via.proofs.Accepted.{fresh-accepted, reset-accepted, raised-accepted, written-accepted, read-accepted}
+use Rattle.via.proofs.Accepted.{fresh-accepted, reset-accepted, raised-accepted}
+use Rattle.registers.proofs.Accepted.{written-accepted, read-accepted}
 use Rattle.phase.specs.Phase.{shown}
 use Rattle.wiring.specs.Wiring.{inputsOf}
 use Rattle.iwm.proofs.Laws.{off-levels, access-levels}

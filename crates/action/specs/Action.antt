@@ -3,9 +3,10 @@ use Prim.Native.Nat.{ℕ, _+_, _*_}
 use mathlib.Core.Bool.{Bool, cond}
 use lib.Dec.{eqb}
 use lib.ListN.{getD, set}
-use Rattle.via.specs.declared.Access.{Access}
+use Rattle.registers.specs.declared.Access.{Access}
 use Rattle.via.specs.Via.{freshVia, raisedOf, resetOf}
-use Rattle.via.specs.Registers.{written, readOf}
+use Rattle.via.specs.Writes.{written}
+use Rattle.registers.specs.Registers.{readOf}
 use Rattle.store.specs.Shared.{Event, quiet, second, off}
 use Rattle.store.specs.Store.{counted}
 use Rattle.phase.specs.Phase.{shown}

@@ -5,7 +5,7 @@ ghost use Prim.Native.Nat.{_+_, _*_, _<_};
 ghost use lib.ListN.{set};
 ghost use Rattle.levels.specs.Levels.{allLevels};
 ghost use Rattle.via.specs.Via.{freshVia, raisedOf, resetOf};
-ghost use Rattle.via.specs.Registers.{written};
+ghost use Rattle.via.specs.Writes.{written};
 ghost use Rattle.store.specs.Shared.{second, off};
 ghost use Rattle.iwm.specs.Lines.{linesOff, accessed};
 ghost use Rattle.drives.specs.Drives.{placed, drivesPowered};
@@ -21,15 +21,6 @@ pub struct Did {
     pub value: u8,
 }
 
-fn no_value(m: Machine) -> Did
-    ensures { λ r. ⌜ r ≡ noValue m ⌝ }
-{
-    Did {
-        machine: m,
-        value: 0,
-    }
-}
-
 // RD of a VIA register.
 fn read_via(mut m: Machine, register: u8) -> Did
     requires { ⌜ register < 16 ⌝ }
@@ -40,7 +31,7 @@ fn read_via(mut m: Machine, register: u8) -> Did
     let c = m.clock;
     let p = c.phase;
     let outside = wiring::inputs_of(phase::shown_line(p), lines);
-    let a = m.via.read(register, outside);
+    let a = registers::read(m.via, register, outside);
     let v = a.via;
     m.via = v;
     Did {
@@ -68,49 +59,64 @@ fn read_iwm(mut m: Machine, location: u8) -> Did
 }
 
 // WR of a VIA register.
-fn write_via(mut m: Machine, register: u8, value: u8) -> Machine
+fn write_via(mut m: Machine, register: u8, value: u8) -> Did
     requires { ⌜ register < 16 ⌝ }
-    ensures { λ r. ⌜ r ≡ withVia m (written register value (m .via)) ⌝ }
+    ensures { λ r. ⌜ r ≡ noValue (withVia m (written register value (m .via))) ⌝ }
 {
     m.via = m.via.write(register, value);
-    m
+    Did {
+        machine: m,
+        value: 0,
+    }
 }
 
 // WR of an IWM location.
-fn write_iwm(mut m: Machine, location: u8) -> Machine
+fn write_iwm(mut m: Machine, location: u8) -> Did
     requires { ⌜ location < 16 ⌝ }
-    ensures { λ r. ⌜ r ≡ withDisk m (accessed location (m .disk)) ⌝ }
+    ensures { λ r. ⌜ r ≡ noValue (withDisk m (accessed location (m .disk))) ⌝ }
 {
     m.disk = m.disk.access(location);
-    m
+    Did {
+        machine: m,
+        value: 0,
+    }
 }
 
 // VB: flag 1.
-fn blank(mut m: Machine) -> Machine
-    ensures { λ r. ⌜ r ≡ withVia m (raisedOf 2 (m .via)) ⌝ }
+fn blank(mut m: Machine) -> Did
+    ensures { λ r. ⌜ r ≡ noValue (withVia m (raisedOf 2 (m .via))) ⌝ }
 {
     m.via = m.via.raise(2);
-    m
+    Did {
+        machine: m,
+        value: 0,
+    }
 }
 
 // SE: flag 0, and a second of the clock.
-fn second(mut m: Machine) -> Machine
-    ensures { λ r. ⌜ r ≡ passed second (withVia m (raisedOf 1 (m .via))) ⌝ }
+fn second(mut m: Machine) -> Did
+    ensures { λ r. ⌜ r ≡ noValue (passed second (withVia m (raisedOf 1 (m .via)))) ⌝ }
 {
     m.via = m.via.raise(1);
     m.clock = m.clock.second();
-    m
+    Did {
+        machine: m,
+        value: 0,
+    }
 }
 
 // IN: a line's level.
-fn set_line(mut m: Machine, line: u8, level: u8) -> Machine
+fn set_line(mut m: Machine, line: u8, level: u8) -> Did
     requires { ⌜ line < 7 ⌝ }
-    ensures { λ r. ⌜ r ≡ withInputs m (set (m .inputs) line level) ⌝ }
+    ensures { λ r. ⌜ r ≡ noValue (withInputs m (set (m .inputs) line level)) ⌝ }
 {
     let mut lines = m.inputs;
     lines[line as usize] = level;
     m.inputs = lines;
-    m
+    Did {
+        machine: m,
+        value: 0,
+    }
 }
 
 fn sense_index(drive: u8, register: u8) -> usize
@@ -121,43 +127,55 @@ fn sense_index(drive: u8, register: u8) -> usize
 }
 
 // SN: the level of a sense register.
-fn set_sense(mut m: Machine, drive: u8, register: u8, level: u8) -> Machine
+fn set_sense(mut m: Machine, drive: u8, register: u8, level: u8) -> Did
     requires { ⌜ (drive < 2) × (register < 16) ⌝ }
-    ensures { λ r. ⌜ r ≡ withSense m (set (m .sense) (16 * drive + register) level) ⌝ }
+    ensures { λ r. ⌜ r ≡ noValue (withSense m (set (m .sense) (16 * drive + register) level)) ⌝ }
 {
     let at = sense_index(drive, register);
     let mut levels = m.sense;
     levels[at] = level;
     m.sense = levels;
-    m
+    Did {
+        machine: m,
+        value: 0,
+    }
 }
 
 // RS.
-fn reset(mut m: Machine) -> Machine
-    ensures { λ r. ⌜ r ≡ withDisk (withVia m (resetOf (m .via))) linesOff ⌝ }
+fn reset(mut m: Machine) -> Did
+    ensures { λ r. ⌜ r ≡ noValue (withDisk (withVia m (resetOf (m .via))) linesOff) ⌝ }
 {
     m.via = m.via.reset();
     m.disk = iwm::off();
-    m
+    Did {
+        machine: m,
+        value: 0,
+    }
 }
 
 // PW: the power is off for so many seconds.
-fn power_cut(mut m: Machine, seconds: u32) -> Machine
-    ensures { λ r. ⌜ r ≡ passed (off seconds) (withDrives (withDisk (withVia m freshVia) linesOff) (drivesPowered (m .drives))) ⌝ }
+fn power_cut(mut m: Machine, seconds: u32) -> Did
+    ensures { λ r. ⌜ r ≡ noValue (passed (off seconds) (withDrives (withDisk (withVia m freshVia) linesOff) (drivesPowered (m .drives)))) ⌝ }
 {
     m.via = via::fresh();
     m.disk = iwm::off();
     m.clock = m.clock.time_off(seconds);
     m.drives = m.drives.power_cut();
-    m
+    Did {
+        machine: m,
+        value: 0,
+    }
 }
 
 // DI: a disk comes or leaves.
-fn place_disk(mut m: Machine, external: bool, insert: bool, locked: bool, sides: bool) -> Machine
-    ensures { λ r. ⌜ r ≡ withDrives m (placed external insert locked sides (m .drives)) ⌝ }
+fn place_disk(mut m: Machine, external: bool, insert: bool, locked: bool, sides: bool) -> Did
+    ensures { λ r. ⌜ r ≡ noValue (withDrives m (placed external insert locked sides (m .drives))) ⌝ }
 {
     m.drives = m.drives.place(external, insert, locked, sides);
-    m
+    Did {
+        machine: m,
+        value: 0,
+    }
 }
 
 pub fn act(m: Machine, item: Item) -> Did
@@ -172,25 +190,25 @@ pub fn act(m: Machine, item: Item) -> Did
             register,
             value,
             ..
-        } => no_value(write_via(m, register, value)),
-        Item::WriteIwm { location, .. } => no_value(write_iwm(m, location)),
-        Item::Blank { .. } => no_value(blank(m)),
-        Item::Second { .. } => no_value(second(m)),
-        Item::Line { line, level, .. } => no_value(set_line(m, line, level)),
+        } => write_via(m, register, value),
+        Item::WriteIwm { location, .. } => write_iwm(m, location),
+        Item::Blank { .. } => blank(m),
+        Item::Second { .. } => second(m),
+        Item::Line { line, level, .. } => set_line(m, line, level),
         Item::Sense {
             drive,
             register,
             level,
             ..
-        } => no_value(set_sense(m, drive, register, level)),
-        Item::Reset { .. } => no_value(reset(m)),
-        Item::Power { seconds, .. } => no_value(power_cut(m, seconds)),
+        } => set_sense(m, drive, register, level),
+        Item::Reset { .. } => reset(m),
+        Item::Power { seconds, .. } => power_cut(m, seconds),
         Item::Disk {
             drive,
             insert,
             locked,
             sides,
             ..
-        } => no_value(place_disk(m, drive == 1, insert == 1, locked == 1, sides == 1)),
+        } => place_disk(m, drive == 1, insert == 1, locked == 1, sides == 1),
     }
 }

@@ -2,7 +2,7 @@
 ghost use mathlib.Core.Path.{_≡_};
 ghost use mathlib.Core.Bool.{true, false};
 ghost use Prim.Native.Nat.{_<_};
-ghost use Rattle.drive.specs.Drive.{freshDrive, withDirection, withMotor, withStep, inserted, removed, stepWritten, motorWritten, ejectWritten, registerWritten, neighbour, moved, driveTicks, powered, level, drivesSense, senseOf, shownOf, acceptedDrive};
+ghost use Rattle.drive.specs.Drive.{freshDrive, inserted, removed, stepWritten, motorWritten, ejectWritten, registerWritten, neighbour, driveTicks, powered, level, drivesSense, senseOf, shownOf, acceptedDrive};
 
 pub struct Drive {
     // 0 to 79
@@ -38,13 +38,6 @@ fn neighbour_of(heading: bool, track: u8) -> u8
     79
 }
 
-// A level as a number.
-fn level_of(on: bool) -> u8
-    ensures { λ r. ⌜ r ≡ level on ⌝ }
-{
-    if on { 1 } else { 0 }
-}
-
 // Whether a sense register comes from the drive, and not from SN.
 pub fn drives_sense(register: u8) -> bool
     ensures { λ r. ⌜ r ≡ drivesSense register ⌝ }
@@ -65,34 +58,6 @@ impl Drive {
             motor: false,
             pending: 0,
             heading: false,
-        }
-    }
-
-    fn with_direction(self, direction: bool) -> Drive
-        ensures { λ r. ⌜ r ≡ withDirection self direction ⌝ }
-    {
-        Drive {
-            direction: direction,
-            ..self
-        }
-    }
-
-    fn with_motor(self, motor: bool) -> Drive
-        ensures { λ r. ⌜ r ≡ withMotor self motor ⌝ }
-    {
-        Drive {
-            motor: motor,
-            ..self
-        }
-    }
-
-    fn with_step(self, pending: u16, heading: bool) -> Drive
-        ensures { λ r. ⌜ r ≡ withStep self pending heading ⌝ }
-    {
-        Drive {
-            pending: pending,
-            heading: heading,
-            ..self
         }
     }
 
@@ -128,7 +93,11 @@ impl Drive {
             return self;
         }
         if self.pending == 0 {
-            return self.with_step(9401, self.direction);
+            return Drive {
+                pending: 9401,
+                heading: self.direction,
+                ..self
+            };
         }
         self
     }
@@ -137,10 +106,16 @@ impl Drive {
         ensures { λ r. ⌜ r ≡ motorWritten value self ⌝ }
     {
         if value {
-            return self.with_motor(false);
+            return Drive {
+                motor: false,
+                ..self
+            };
         }
         if self.disk {
-            return self.with_motor(true);
+            return Drive {
+                motor: true,
+                ..self
+            };
         }
         self
     }
@@ -161,31 +136,15 @@ impl Drive {
     pub fn write_register(self, register: u8, value: bool) -> Drive
         ensures { λ r. ⌜ r ≡ registerWritten register value self ⌝ }
     {
-        if register == 0 {
-            return self.with_direction(value);
-        }
-        if register == 1 {
-            return self.write_step(value);
-        }
-        if register == 2 {
-            return self.write_motor(value);
-        }
-        if register == 3 {
-            return self.write_eject(value);
-        }
-        self
-    }
-
-    // The end of a step.
-    fn finish(self) -> Drive
-        ensures { λ r. ⌜ r ≡ moved self ⌝ }
-    {
-        let track = neighbour_of(self.heading, self.track);
-        Drive {
-            track: track,
-            pending: 0,
-            heading: false,
-            ..self
+        match register {
+            0 => Drive {
+                direction: value,
+                ..self
+            },
+            1 => self.write_step(value),
+            2 => self.write_motor(value),
+            3 => self.write_eject(value),
+            _ => self,
         }
     }
 
@@ -198,9 +157,18 @@ impl Drive {
         }
         if ticks < self.pending {
             let left = self.pending - ticks;
-            return self.with_step(left, self.heading);
+            return Drive {
+                pending: left,
+                ..self
+            };
         }
-        self.finish()
+        let track = neighbour_of(self.heading, self.track);
+        Drive {
+            track: track,
+            pending: 0,
+            heading: false,
+            ..self
+        }
     }
 
     // PW: the motor stops and a pending step is dropped.
@@ -215,32 +183,27 @@ impl Drive {
         }
     }
 
+    // Whether one of the drive's sense registers is at level 1.
+    fn senses(self, register: u8) -> bool
+        ensures { λ r. ⌜ level r ≡ senseOf register self ⌝ }
+    {
+        match register {
+            0 => self.direction,
+            1 => !self.disk,
+            2 => self.pending == 0,
+            3 => !self.locked,
+            4 => !self.motor,
+            5 => !(self.track == 0),
+            12 => self.sides,
+            _ => false,
+        }
+    }
+
     // The level of one of the drive's sense registers.
     pub fn sense(self, register: u8) -> u8
         ensures { λ r. ⌜ r ≡ senseOf register self ⌝ }
     {
-        if register == 0 {
-            return level_of(self.direction);
-        }
-        if register == 1 {
-            return level_of(!self.disk);
-        }
-        if register == 2 {
-            return level_of(self.pending == 0);
-        }
-        if register == 3 {
-            return level_of(!self.locked);
-        }
-        if register == 4 {
-            return level_of(!self.motor);
-        }
-        if register == 5 {
-            return level_of(!(self.track == 0));
-        }
-        if register == 12 {
-            return level_of(self.sides);
-        }
-        0
+        if self.senses(register) { 1 } else { 0 }
     }
 
     // The level of any sense register; `stored` is the level that SN gave it.

@@ -1,7 +1,7 @@
 // The two drives and the strobe that writes to them.
 ghost use mathlib.Core.Path.{_≡_};
 ghost use mathlib.Core.Bool.{true, false};
-ghost use Rattle.drives.specs.Drives.{withStrobe, selected, withSelected, freshDrives, drivesTicks, diskMoved, placed, placeRefused, drivesPowered, writtenBy, drivesAfter, drivesShown, acceptedDrives};
+ghost use Rattle.drives.specs.Drives.{selected, withSelected, freshDrives, drivesTicks, placed, placeRefused, drivesPowered, drivesAfter, drivesShown, acceptedDrives};
 use drive::Drive;
 use strobe::Strobe;
 use strobe::Watched;
@@ -12,15 +12,6 @@ pub struct Drives {
     pub strobe: Strobe,
 }
 
-fn move_disk(d: Drive, insert: bool, locked: bool, sides: bool) -> Drive
-    ensures { λ r. ⌜ r ≡ diskMoved insert locked sides d ⌝ }
-{
-    if insert {
-        return d.insert(locked, sides);
-    }
-    d.remove()
-}
-
 impl Drives {
     pub fn fresh() -> Drives
         ensures { λ r. ⌜ r ≡ freshDrives ⌝ }
@@ -29,15 +20,6 @@ impl Drives {
             internal: Drive::fresh(),
             external: Drive::fresh(),
             strobe: Strobe::off(),
-        }
-    }
-
-    fn with_strobe(self, strobe: Strobe) -> Drives
-        ensures { λ r. ⌜ r ≡ withStrobe self strobe ⌝ }
-    {
-        Drives {
-            strobe: strobe,
-            ..self
         }
     }
 
@@ -80,10 +62,11 @@ impl Drives {
     pub fn place(self, external: bool, insert: bool, locked: bool, sides: bool) -> Drives
         ensures { λ r. ⌜ r ≡ placed external insert locked sides self ⌝ }
     {
-        self.with_at(
-            external,
-            move_disk(self.at(external), insert, locked, sides),
-        )
+        let d = self.at(external);
+        if insert {
+            return self.with_at(external, d.insert(locked, sides));
+        }
+        self.with_at(external, d.remove())
     }
 
     // Whether DI gets refusal 8 here.
@@ -109,23 +92,17 @@ impl Drives {
         }
     }
 
-    fn written(self, acts: bool, w: Watched) -> Drives
-        ensures { λ r. ⌜ r ≡ writtenBy acts w self ⌝ }
-    {
-        if acts {
-            let d = self.at(w.select);
-            return self.with_at(w.select, d.write_register(w.register(), w.ca2));
-        }
-        self
-    }
-
     // The drives after an item, whose wait and action are over, with these levels before and after it.
     pub fn after(self, before: Watched, after: Watched) -> Drives
         ensures { λ r. ⌜ r ≡ drivesAfter before after self ⌝ }
     {
-        let acts = self.strobe.writes(before, after);
-        let next = self.strobe.after(before, after);
-        self.written(acts, after).with_strobe(next)
+        let mut next = self;
+        next.strobe = self.strobe.after(before, after);
+        if self.strobe.writes(before, after) {
+            let d = self.at(after.select);
+            return next.with_at(after.select, d.write_register(after.register(), after.ca2));
+        }
+        next
     }
 
     // The level of sense register `place % 16` of the selected drive, where SN gave it the level `stored`.

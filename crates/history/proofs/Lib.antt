@@ -7,6 +7,4 @@ pub mod Holds
 pub mod Faithful
 pub mod Keeps
 pub mod Driven
-pub mod Runs
 pub mod Examples
-pub mod RunExamples

@@ -2,4 +2,3 @@ pub mod History
 pub mod Start
 pub mod Demand3
 pub mod Items
-pub mod Runs

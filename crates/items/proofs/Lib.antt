@@ -1,3 +1,1 @@
-pub mod Addresses
-pub mod Range
-pub mod Samples
+pub mod Any

@@ -1,7 +1,7 @@
--- What the bytes of a record, its kind first, ask for: document 01, "Items and answers as bytes" and refusals 2 to 5, and request W-203's DI.
-use Prim.Native.Nat.{ℕ, _+_, _-_, _*_, _/_, _%_, _<_}
-use mathlib.Core.Bool.{Bool, cond, _&&_}
-use mathlib.Core.List.{List, [], _∷_}
+-- What the bytes of a record of each kind ask for: document 01, "Items and answers as bytes" and refusals 3 to 5, and request W-203's DI.
+use Prim.Native.Nat.{ℕ, _<_}
+use mathlib.Core.Bool.{cond}
+use mathlib.Core.List.{List}
 use lib.ListN.{length, getD}
 use lib.Dec.{ltb, eqb}
 use Rattle.record.specs.Record.{le16Of, le32Of}
@@ -10,35 +10,14 @@ use Rattle.items.specs.declared.Item.the-variants.{ReadVia, ReadIwm, Wri
 use Rattle.items.specs.declared.Decoded.{Decoded}
 use Rattle.items.specs.declared.Decoded.the-variants.{Done, Refused}
 use Rattle.items.specs.declared.Plain.{Plain}
-use Rattle.items.specs.declared.Place.{Place}
-use Rattle.items.specs.declared.Place.the-variants.{At, Off}
-use Rattle.items.specs.declared.Found.{Found}
-use Rattle.items.specs.declared.Found.the-variants.{Via, Iwm, Nowhere}
+use Rattle.addresses.specs.Addresses.{foundOf}
+use Rattle.addresses.specs.declared.Found.{Found}
+use Rattle.addresses.specs.declared.Found.the-variants.{Via, Iwm, Nowhere}
 
 -- "For an answer that is an enum, a definition gives this paper's number": the refusal's number, 0 of an item.
 abbrev pub refusalOf : Decoded → ℕ
 refusalOf (Done x) = 0
 refusalOf (Refused n) = n
-
--- "The kinds are compared as two fixed bytes of ASCII."
-unfoldable pub isKind : List ℕ → List ℕ → Bool
-isKind s k = eqb (getD s 0 0) (getD k 0 0) && eqb (getD s 1 0) (getD k 1 0)
-
--- Which of the sixteen addresses base + 512r, r from 0 to 15.
-unfoldable pub placeFrom : ℕ → ℕ → Place
-placeFrom a base =
-    cond (ltb a base) Off
-    (cond (ltb (15 * 512) (a - base)) Off
-    (cond (eqb ((a - base) % 512) 0) (At ((a - base) / 512)) Off))
-
-abbrev pub eitherOf : Place → Place → Found
-eitherOf (At r) y = Via r
-eitherOf Off (At k) = Iwm k
-eitherOf Off Off = Nowhere
-
--- "Register r (0 to 15) is at $EFE1FE + 512r", "location k (0 to 15) is at $DFE1FF + 512k".
-unfoldable pub foundOf : ℕ → Found
-foundOf a = eitherOf (placeFrom a 0xefe1fe) (placeFrom a 0xdfe1ff)
 
 -- Refusal 3, "length wrong for the kind".
 abbrev pub sized : List ℕ → ℕ → Decoded → Decoded
@@ -97,20 +76,6 @@ plainItem Plain.Reset w = Item.Reset w
 
 unfoldable pub plainOf : List ℕ → Plain → Decoded
 plainOf s k = sized s 4 (Done (plainItem k (waitOf s)))
-
--- The table of kinds; refusal 2, "unknown kind", comes before 3, 4 and 5.
-unfoldable pub decodedOf : List ℕ → Decoded
-decodedOf s =
-    cond (isKind s (82 ∷ 68 ∷ [])) (readOf s)
-    (cond (isKind s (87 ∷ 82 ∷ [])) (writeOf s)
-    (cond (isKind s (86 ∷ 66 ∷ [])) (plainOf s Plain.Blank)
-    (cond (isKind s (83 ∷ 69 ∷ [])) (plainOf s Plain.Second)
-    (cond (isKind s (73 ∷ 78 ∷ [])) (lineOf s)
-    (cond (isKind s (83 ∷ 78 ∷ [])) (senseOf s)
-    (cond (isKind s (82 ∷ 83 ∷ [])) (plainOf s Plain.Reset)
-    (cond (isKind s (80 ∷ 87 ∷ [])) (powerOf s)
-    (cond (isKind s (68 ∷ 73 ∷ [])) (diskOf s)
-    (Refused 2)))))))))
 
 -- The numbers of an item are within the papers' ranges.
 abbrev pub InRange : Item → Type 0

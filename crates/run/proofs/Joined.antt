@@ -16,8 +16,9 @@ use Rattle.record.specs.declared.Framed.the-variants.{Whole, Cut}
 use Rattle.record.proofs.Laws.{answer-long, whole-fits, whole-append}
 use Rattle.machine.specs.declared.Machine.{Machine}
 use Rattle.machine.specs.Machine.{acceptedOf}
-use Rattle.run.proofs.Keeps.{turn-keeps}
-use Rattle.run.specs.Run.{Piece, whole, broken, cut, piecesFrom, pieces, turnOf, Out, halt, onto, onPiece, runPieces, runOf}
+use Rattle.turn.proofs.Keeps.{turn-keeps}
+use Rattle.turn.specs.Turn.{turnOf}
+use Rattle.run.specs.Run.{Piece, whole, broken, cut, piecesFrom, pieces, Out, halt, onto, onPiece, runPieces, runOf}
 use Rattle.run.proofs.Loop.{onto-none, onto-onto, run-whole}
 
 -- every piece is a whole record

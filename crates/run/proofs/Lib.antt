@@ -1,4 +1,3 @@
-pub mod Keeps
 pub mod Loop
 pub mod Joined
 pub mod Users

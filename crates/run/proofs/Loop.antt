@@ -16,10 +16,11 @@ use Rattle.record.specs.declared.Framed.the-variants.{Whole, Cut}
 use Rattle.record.proofs.Laws.{answer-long, whole-fits}
 use Rattle.machine.specs.declared.Machine.{Machine}
 use Rattle.machine.specs.Machine.{acceptedOf}
-use Rattle.run.proofs.Keeps.{turn-keeps}
+use Rattle.turn.proofs.Keeps.{turn-keeps}
 use Rattle.run.specs.declared.Ran.{Ran}
-use Rattle.run.specs.declared.Turn.{Turn}
-use Rattle.run.specs.Run.{Piece, whole, broken, cut, piecesFrom, pieces, turnOf, Out, halt, onto, onPiece, runPieces, runOf, ranOf, over}
+use Rattle.turn.specs.declared.Turn.{Turn}
+use Rattle.turn.specs.Turn.{turnOf}
+use Rattle.run.specs.Run.{Piece, whole, broken, cut, piecesFrom, pieces, Out, halt, onto, onPiece, runPieces, runOf, ranOf, over}
 
 -- ---- the pieces of a list
 

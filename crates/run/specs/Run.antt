@@ -3,21 +3,14 @@ use Prim.Native.Nat.{ℕ, zero, suc, _+_, _-_}
 use mathlib.Core.Bool.{Bool, true, false, cond}
 use mathlib.Core.List.{List, [], _∷_, _++_}
 use lib.ListN.{length, take, drop}
-use lib.Dec.{ltb, eqb}
+use lib.Dec.{ltb}
 use Rattle.record.specs.Record.{frameOf, answerBytes, noOf}
 use Rattle.record.specs.declared.Framed.{Framed}
 use Rattle.record.specs.declared.Framed.the-variants.{Whole, Cut}
-use Rattle.record.specs.declared.Answer.{Answer}
-use Rattle.items.specs.declared.Item.{Item}
-use Rattle.items.specs.declared.Decoded.{Decoded}
-use Rattle.items.specs.declared.Decoded.the-variants.{Done, Refused}
-use Rattle.items.specs.Items.{decodedOf}
 use Rattle.machine.specs.declared.Machine.{Machine}
-use Rattle.action.specs.declared.Did.{Did}
 use Rattle.machine.specs.Machine.{acceptedOf}
-use Rattle.step.specs.Step.{stepOf, refusesOf, answerOf}
 use Rattle.run.specs.declared.Ran.{Ran}
-use Rattle.run.specs.declared.Turn.{Turn}
+use Rattle.turn.specs.Turn.{turnOf}
 
 -- ---- the pieces of a list
 
@@ -40,25 +33,6 @@ piecesFrom (suc k) (x ∷ xs) = piecesFrom k xs
 
 abbrev pub pieces : List ℕ → List Piece
 pieces s = piecesFrom 0 s
-
--- ---- one record: the next state and the answer
-
-abbrev pub refused : Machine → ℕ → Turn
-refused m n = record { machine = m; answer = noOf n }
-
-abbrev pub carriedOut : Did → Turn
-carriedOut d = record { machine = d .machine; answer = answerOf d }
-
--- "The state unchanged" where the item is refused, by itself or by the state; else it is carried out.
-abbrev pub judged : Machine → Item → ℕ → Turn
-judged m x n = cond (eqb n 0) (carriedOut (stepOf m x)) (refused m n)
-
-abbrev pub turnBy : Machine → Decoded → Turn
-turnBy m (Done x) = judged m x (refusesOf m x)
-turnBy m (Refused n) = refused m n
-
-unfoldable pub turnOf : Machine → List ℕ → Turn
-turnOf m s = turnBy m (decodedOf s)
 
 -- ---- the run
 

@@ -1,13 +1,9 @@
 // The run: a machine, a list of items and an answer buffer; the stop number, the counts and the next machine.
 ghost use mathlib.Core.Path.{_≡_};
-ghost use mathlib.Core.Bool.{true};
 ghost use Prim.Native.Nat.{_≤_};
 ghost use lib.ListN.{length};
-ghost use Rattle.machine.specs.Machine.{acceptedOf};
-ghost use Rattle.run.specs.Run.{turnOf, ranOf, over, runOf};
-use items::Decoded;
+ghost use Rattle.run.specs.Run.{ranOf, over, runOf};
 use machine::Machine;
-use record::Answer;
 use record::Framed;
 
 // What a run gives back: the machine, the stop number, the bytes consumed and the bytes written.
@@ -16,40 +12,6 @@ pub struct Ran {
     pub stop: u8,
     pub consumed: usize,
     pub written: usize,
-}
-
-// What one record leaves: the next machine and its answer.
-pub struct Turn {
-    pub machine: Machine,
-    pub answer: Answer,
-}
-
-// One whole record, its bytes after the length.
-pub fn turn_of(m: Machine, s: &[u8]) -> Turn
-    requires { ⌜ acceptedOf m ≡ true ⌝ }
-    requires { ⌜ 2 ≤ length (now s) ⌝ }
-    ensures { λ r. ⌜ r ≡ turnOf m (now (s .entry)) ⌝ }
-{
-    let d = items::decode(s);
-    let Decoded::Done(item) = d else {
-        return Turn {
-            machine: m,
-            answer: record::no(items::refusal(d)),
-        };
-    };
-    let n = step::refuses(m, item);
-    if n != 0 {
-        return Turn {
-            machine: m,
-            answer: record::no(n),
-        };
-    }
-    let did = step::step(m, item);
-    let next = did.machine;
-    Turn {
-        machine: next,
-        answer: step::answer(did),
-    }
 }
 
 // Runs the list from the machine given. The stop is 0 at the end of the list, else 1, 6 or 7.
@@ -80,7 +42,7 @@ pub fn run(m: Machine, list: &[u8], answers: &mut [u8]) -> Ran
         }
         let rest = &list[at..];
         let Framed::Whole(n) = record::frame(rest) else {
-            record::put(answers, out, record::answer_bytes(record::no(1)));
+            slot::put(answers, out, record::answer_bytes(record::no(1)));
             return Ran {
                 machine: state,
                 stop: 1,
@@ -88,8 +50,8 @@ pub fn run(m: Machine, list: &[u8], answers: &mut [u8]) -> Ran
                 written: out + 8,
             };
         };
-        let t = turn_of(state, &rest[2..n]);
-        record::put(answers, out, record::answer_bytes(t.answer));
+        let t = turn::turn_of(state, &rest[2..n]);
+        slot::put(answers, out, record::answer_bytes(t.answer));
         state = t.machine;
         at += n;
         out += 8;

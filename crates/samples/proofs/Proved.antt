@@ -2,7 +2,8 @@
 use mathlib.Core.Path.{refl}
 use Rattle.levels.specs.Levels.{allLevels}
 use Rattle.via.specs.Via.{freshVia, portLevel, latchOf, tickOf, ticks, raisedOf, resetOf, asking, levelOf, acceptedVia}
-use Rattle.via.specs.Registers.{written, readOf}
+use Rattle.via.specs.Writes.{written}
+use Rattle.registers.specs.Registers.{readOf}
 use Rattle.command.specs.Command.{named, decode}
 use Rattle.store.specs.Store.{fetch, put, act}
 use Rattle.phase.specs.Phase.{between, shown, acceptedPhase}
@@ -14,12 +15,15 @@ use Rattle.strobe.specs.Strobe.{tickStrobe, strobeTicks, heldStill, unspoilt, s
 use Rattle.drives.specs.Drives.{drivesTicks, placed, placeRefused, drivesPowered, drivesAfter, drivesShown, acceptedDrives}
 use Rattle.wiring.specs.Wiring.{wiresOf, selOf, inputsOf, interruptLevel, watchedOf}
 use Rattle.record.specs.Record.{le16Of, le32Of, frameOf, answerBytes, noOf}
-use Rattle.items.specs.Items.{isKind, placeFrom, foundOf, writeOf, plainOf, powerOf, diskOf, decodedOf}
+use Rattle.addresses.specs.Addresses.{placeFrom, foundOf}
+use Rattle.items.specs.Items.{writeOf, plainOf, powerOf, diskOf}
+use Rattle.kinds.specs.Kinds.{isKind, decodedOf}
 use Rattle.items.specs.Items as items
 use Rattle.machine.specs.Machine.{acceptedOf}
 use Rattle.action.specs.Action.{viaRead, iwmRead, actedOf}
 use Rattle.step.specs.Step.{waitOf, stepOf, refusesOf, answerOf}
-use Rattle.run.specs.Run.{cut, piecesFrom, turnOf, onto, onPiece, runPieces, runOf}
+use Rattle.turn.specs.Turn.{turnOf}
+use Rattle.run.specs.Run.{cut, piecesFrom, onto, onPiece, runPieces, runOf}
 use Rattle.samples.specs.Lists.{sent}
 use Rattle.samples.specs.Samples.{Samples, values}
 use Rattle.samples.specs.Drives.{DriveSamples}

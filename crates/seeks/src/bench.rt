@@ -80,10 +80,10 @@ pub fn look(m: Machine, wait: u16) -> Seen {
 }
 
 // The level of a sense register.
-pub fn sense(m: Machine, register: u8) -> u8
+pub fn sense(m: Machine, register: u8) -> u64
     requires { ⌜ register < 16 ⌝ }
 {
-    look(address(m, register), 0).value
+    look(address(m, register), 0).value as u64
 }
 
 // LSTRB goes on, and off after so many ticks.

@@ -9,7 +9,7 @@ use denote.Enum.Declared.{tagOf}
 use Rattle.via.specs.declared.Ports.{Ports}
 use Rattle.via.specs.declared.Via.{Via}
 use Rattle.via.specs.Via.{raisedOf, asking, levelOf}
-use Rattle.via.specs.Registers.{readOf}
+use Rattle.registers.specs.Registers.{readOf}
 use Rattle.via.proofs.Kept.{ticks-ports}
 use Rattle.phase.specs.declared.Phase.{Phase}
 use Rattle.phase.specs.declared.Wires.{Wires}

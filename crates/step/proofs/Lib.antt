@@ -1,3 +1,4 @@
 pub mod Laws
 pub mod Keeps
 pub mod Drives
+pub mod Waits

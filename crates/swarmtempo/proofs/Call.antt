@@ -7,16 +7,16 @@ use native.Mathlib.Omega.{arith}
 use lib.ListN.{length}
 use lib.Dec.{ltb}
 use Rattle.levels.proofs.Laws.{no}
-use Rattle.record.specs.Record.{Bytes}
 use Rattle.machine.specs.declared.Machine.{Machine}
 use Rattle.machine.specs.Machine.{acceptedOf}
+use Rattle.turn.specs.Turn.{turnOf}
 use Rattle.run.specs.declared.Ran.{Ran}
-use Rattle.run.specs.Run.{Piece, whole, broken, pieces, Out, halt, onto, onPiece, runPieces, runOf, turnOf, ranOf, over}
+use Rattle.run.specs.Run.{Piece, whole, broken, pieces, Out, halt, onto, onPiece, runPieces, runOf, ranOf, over}
 use Rattle.run.proofs.Joined.{run-accepted}
 use Rattle.image.specs.Image.{imageOf, machineOf, validImage}
 use Rattle.image.proofs.Round.{valid-is, image-typed}
-use Rattle.history.specs.Runs.{Run3}
-use Rattle.history.proofs.Runs.{run3, accepted-clock}
+use Rattle.demand3.specs.Runs.{Run3}
+use Rattle.demand3.proofs.Runs.{run3, accepted-clock}
 use Rattle.swarmtempo.specs.Call.{callOf, callImage, callAnswers}
 
 -- The entry is the run on the restored state.
@@ -27,11 +27,11 @@ is-run i l room e = simp e
 -- ---- demand 3 after a restore
 
 -- "After a restore, demand 3 reads: from the cells, seconds, protect, wires and half-made command in the image, instead of from fresh."
-pub call3 : (i : List ℕ) → Bytes i → validImage i ≡ true → (l : List ℕ) (room : ℕ) → Run3 (machineOf i) l room (callOf i l room .machine)
+pub call3 : (i : List ℕ) → validImage i ≡ true → (l : List ℕ) (room : ℕ) → Run3 (machineOf i) l room (callOf i l room .machine)
 unfolding callOf
-call3 i b e l room =
+call3 i e l room =
     let v = valid-is i e in
-    let t = image-typed i b (v .long) in
+    let t = image-typed i (v .long) in
     simp e (run3 (machineOf i) (v .accepted) (accepted-clock (machineOf i) (v .accepted) (t .cells) (t .seconds)) l room)
 
 -- ---- what the entry leaves
@@ -54,15 +54,15 @@ module _ (i l d : List ℕ) where
   refused e = simp e (refl, (refl, (refl, (refl, (refl, (refl, λ h. no h))))))
 
   -- Every other call is the run from the image's state, and leaves the image of the state reached.
-  pub ran : Bytes i → validImage i ≡ true → (m : Machine) → m ≡ machineOf i → (r : Ran) → r ≡ ranOf (runOf m l (length d)) → (d′ : List ℕ) → d′ ≡ over (runOf m l (length d)) d
+  pub ran : validImage i ≡ true → (m : Machine) → m ≡ machineOf i → (r : Ran) → r ≡ ranOf (runOf m l (length d)) → (d′ : List ℕ) → d′ ≡ over (runOf m l (length d)) d
       → (i′ : List ℕ) → i′ ≡ imageOf (r .machine) → machineOf i′ ≡ r .machine → (acceptedOf (r .machine) ≡ true → validImage i′ ≡ true) → Post (r .stop) (r .consumed) (r .written) i′ d′
   unfolding callOf callImage callAnswers
-  ran b e m em r er d′ ed i′ ei er′ ev =
+  ran e m em r er d′ ed i′ ei er′ ev =
       let a : acceptedOf (runOf m l (length d) .machine) ≡ true = run-accepted m l (length d) (ap acceptedOf em ∙ valid-is i e .accepted) in
       let v : validImage i′ ≡ true = ev (ap (λ (x : Ran). acceptedOf (x .machine)) er ∙ a) in
       let k : machineOf i′ ≡ callOf i l (length d) .machine =
       er′ ∙ ap (λ (x : Ran). x .machine) er ∙ ap (λ (x : Machine). runOf x l (length d) .machine) em ∙ sym (ap (λ (o : Out). o .machine) (is-run i l (length d) e)) in
-      let h : Run3 (machineOf i) l (length d) (machineOf i′) = subst⁻¹ (λ (x : Machine). Run3 (machineOf i) l (length d) x) k (call3 i b e l (length d)) in
+      let h : Run3 (machineOf i) l (length d) (machineOf i′) = subst⁻¹ (λ (x : Machine). Run3 (machineOf i) l (length d) x) k (call3 i e l (length d)) in
       let g : Run3 m l (length d) (machineOf i′) = subst⁻¹ (λ (x : Machine). Run3 x l (length d) (machineOf i′)) em h in
       simp (e, ← em) (
         ap (λ (x : Ran). x .stop) er,

@@ -5,28 +5,10 @@ ghost use lib.ListN.{length};
 mod bench;
 
 use machine::Machine;
+use print::show;
 
 fn say(text: &[u8]) {
     io::write_all(1, text);
-}
-
-// Words, then a byte in hexadecimal.
-fn hex(text: &[u8], x: u8) {
-    say(text);
-    io::print_hex(1, x as u64, 2);
-}
-
-// Words, then a number in decimal.
-fn decimal(text: &[u8], n: u64) {
-    say(text);
-    io::print_decimal(1, n);
-}
-
-// Words, a byte, words, a byte, and the line's end.
-fn two(text: &[u8], x: u8, more: &[u8], y: u8) {
-    hex(text, x);
-    hex(more, y);
-    say(b"\n");
 }
 
 // Words, then the answer to a list of one record, run from the fresh machine.
@@ -48,26 +30,30 @@ fn whole(text: &[u8], m: Machine, list: &[u8], answers: &mut [u8]) {
     say(&line[..n]);
 }
 
+fn wide(x: u8) -> u64 {
+    x as u64
+}
+
 // A cell of the clock.
-fn cell(m: Machine, at: usize) -> u8
+fn cell(m: Machine, at: usize) -> u64
     requires { ⌜ at < 20 ⌝ }
 {
     let c = m.clock;
     let s = c.store;
     let cells = s.cells;
-    cells[at]
+    wide(cells[at])
 }
 
-fn seconds(m: Machine) -> u32 {
+fn seconds(m: Machine) -> u64 {
     let c = m.clock;
     let s = c.store;
-    s.seconds
+    s.seconds as u64
 }
 
-fn test(m: Machine) -> u8 {
+fn test(m: Machine) -> u64 {
     let c = m.clock;
     let s = c.store;
-    s.test
+    s.test as u64
 }
 
 // A write command, the cell that it sets, and the command that reads it.
@@ -76,9 +62,10 @@ fn cell_of(command: u8, at: usize, back: u8)
 {
     let m = bench::set(machine::fresh(), command, 0x5a);
     let s = bench::receive(bench::ask(m, back), 0, 8);
-    hex(b"command $", command);
-    decimal(b" $5a sets cell ", at as u64);
-    two(b": it holds $", cell(m, at), b", and is read as $", s.value);
+    show(
+        b"command $@ $5a sets cell #: it holds $@, and is read as $@\n",
+        &[command as u64, at as u64, cell(m, at), s.value as u64],
+    );
 }
 
 // PW after fifteen of the sixteen bits of a write, and then the sixteenth.
@@ -87,22 +74,20 @@ fn power_amid() {
     let sent = bench::send(bench::send(bench::start(m), 0x41, 8, false), 0xaa, 7, false);
     let off = bench::power(sent, 5);
     let on = bench::finish(bench::send(bench::start(off), 0, 1, false));
-    decimal(
-        b"PW, 5 seconds off, amid a write of $aa: seconds ",
-        seconds(on) as u64,
+    show(
+        b"PW, 5 seconds off, amid a write of $aa: seconds #; cell 0 held $@ and holds $@\n",
+        &[seconds(on), cell(m, 0), cell(on, 0)],
     );
-    two(b"; cell 0 held $", cell(m, 0), b" and holds $", cell(on, 0));
 }
 
 // Counting a fall of enable and a rise of data-clock in one write as a bit.
 fn both_edges() {
     let m = bench::write(bench::ready(machine::fresh()), 0, 2);
     let sent = bench::send(bench::send(m, 0x41, 8, false), 0xaa, 8, false);
-    hex(
-        b"data-clock rises in the write that drops enable, no bit: $41 $aa then sets cell 0 to $",
-        cell(sent, 0),
+    show(
+        b"data-clock rises in the write that drops enable, no bit: $41 $aa then sets cell 0 to $@\n",
+        &[cell(sent, 0)],
     );
-    say(b"\n");
 }
 
 // Letting test be written under protect.
@@ -110,12 +95,9 @@ fn test_protected() {
     let m = bench::set(machine::fresh(), 0x31, 0x55);
     let shut = bench::set(bench::set(m, 0x35, 0x80), 0x31, 0xaa);
     let open = bench::set(bench::set(shut, 0x35, 0x7f), 0x31, 0xaa);
-    hex(b"test holds $", test(m));
-    two(
-        b"; under protect a write of $aa leaves $",
-        test(shut),
-        b"; protect cleared by $7f, it gives $",
-        test(open),
+    show(
+        b"test holds $@; under protect a write of $aa leaves $@; protect cleared by $7f, it gives $@\n",
+        &[test(m), test(shut), test(open)],
     );
 }
 
@@ -125,19 +107,17 @@ fn seconds_read() {
     let first = bench::receive(m, 0, 1);
     let ticked = bench::second(first.machine, 0);
     let s = bench::receive(ticked, first.value, 7);
-    hex(b"seconds byte 0 is read as $", s.value);
-    decimal(
-        b", though SE comes after its first bit and the seconds are ",
-        seconds(s.machine) as u64,
+    show(
+        b"seconds byte 0 is read as $@, though SE comes after its first bit and the seconds are #\n",
+        &[s.value as u64, seconds(s.machine)],
     );
-    say(b"\n");
 }
 
 // One VIA tick: says so where T1's flag is set, and clears it.
 fn look(m: Machine, tick: u8) -> Machine {
     let s = bench::read(m, 13, 1);
     if s.value / 64 % 2 == 1 {
-        decimal(b" ", tick as u64);
+        show(b" #", &[tick as u64]);
         return bench::write(s.machine, 13, 0x40);
     }
     s.machine
@@ -163,11 +143,9 @@ fn register_fifteen() {
     let kept = bench::read(fifteen.machine, 13, 0);
     let one = bench::read(m, 1, 0);
     let cleared = bench::read(one.machine, 13, 0);
-    two(
-        b"VB and SE set flags; after a read of register 15 they are $",
-        kept.value,
-        b", after one of register 1 $",
-        cleared.value,
+    show(
+        b"VB and SE set flags; after a read of register 15 they are $@, after one of register 1 $@\n",
+        &[kept.value as u64, cleared.value as u64],
     );
 }
 
@@ -175,11 +153,10 @@ fn register_fifteen() {
 fn by_direction() {
     let m = bench::start(machine::fresh());
     let sent = bench::send(bench::send(m, 0x41, 8, true), 0xaa, 8, true);
-    hex(
-        b"all sixteen rises made by direction writes: $41 $aa sets cell 0 to $",
-        cell(sent, 0),
+    show(
+        b"all sixteen rises made by direction writes: $41 $aa sets cell 0 to $@\n",
+        &[cell(sent, 0)],
     );
-    say(b"\n");
 }
 
 // A refused item passes no time; one that is done does.
@@ -189,16 +166,14 @@ fn no_time() {
     let refused = bench::nowhere(before.machine, 255);
     let after = bench::read(refused.machine, 8, 0);
     let done = bench::read(bench::second(after.machine, 1), 8, 0);
-    hex(b"T2 reads $", before.value);
-    decimal(
-        b"; after a wait of 255 VIA ticks refused with ",
-        refused.value as u64,
-    );
-    two(
-        b" it reads $",
-        after.value,
-        b"; after SE with a wait of 1 it reads $",
-        done.value,
+    show(
+        b"T2 reads $@; after a wait of 255 VIA ticks refused with # it reads $@; after SE with a wait of 1 it reads $@\n",
+        &[
+            before.value as u64,
+            refused.value as u64,
+            after.value as u64,
+            done.value as u64,
+        ],
     );
 }
 
@@ -251,11 +226,9 @@ fn short_room() {
         &list,
         &mut answers,
     );
-    two(
-        b"bytes 8 and 14 of them are then $",
-        answers[8],
-        b" and $",
-        answers[14],
+    show(
+        b"bytes 8 and 14 of them are then $@ and $@\n",
+        &[wide(answers[8]), wide(answers[14])],
     );
 }
 
@@ -269,11 +242,9 @@ fn long_room() {
         &list,
         &mut answers,
     );
-    two(
-        b"bytes 16 and 23 of them are then $",
-        answers[16],
-        b" and $",
-        answers[23],
+    show(
+        b"bytes 16 and 23 of them are then $@ and $@\n",
+        &[wide(answers[16]), wide(answers[23])],
     );
 }
 

@@ -1,15 +1,12 @@
--- Every step keeps an accepted VIA accepted.
+-- Time, an edge of VB or SE, reset and a power cut keep an accepted VIA accepted.
 use mathlib.Core.Path.{_≡_, refl, ap, ap₂, _∙_}
-use mathlib.Core.Bool.{Bool, true, false, cond, _&&_, _||_, and-comm}
-use Prim.Native.Nat.{ℕ, _-_, _%_, _<_}
-use native.Mathlib.Nat.{mod-lt, lt-of-le-of-lt}
+use mathlib.Core.Bool.{Bool, true, false, cond, _&&_, and-comm}
+use Prim.Native.Nat.{ℕ, _<_}
 use native.Mathlib.Omega.{arith}
 use borrow.Author.Tests.{lt-ltb, ltb-true}
-use lib.Dec.{eqb, ltb}
-use lib.Bits.{bitOr, or-lt, and-le-l}
-use Rattle.via.specs.Via.{bit, clear, freshVia, ticks, raisedOf, resetOf, acceptedVia}
-use Rattle.via.specs.Registers.{portAFlags, written, readOf}
-use Rattle.via.specs.declared.Inputs.{Inputs}
+use lib.Dec.{ltb}
+use lib.Bits.{bitOr, or-lt}
+use Rattle.via.specs.Via.{bit, freshVia, ticks, raisedOf, resetOf, acceptedVia}
 use Rattle.via.specs.declared.Via.{Via}
 use Rattle.via.proofs.Waits.{first, second, waits}
 
@@ -29,12 +26,9 @@ pub accept : (v : Via) → v .flags < 128 → v .enables < 128 → acceptedVia v
 unfolding acceptedVia
 accept v f e = ap₂ (λ (a b : Bool). a && b) (lt-ltb (v .flags) 128 f) (lt-ltb (v .enables) 128 e)
 
-either : (t : Bool) (x y : ℕ) → x < 128 → y < 128 → cond t x y < 128
+pub either : (t : Bool) (x y : ℕ) → x < 128 → y < 128 → cond t x y < 128
 either true x y h k = h
 either false x y h k = k
-
-cleared : (a m : ℕ) → a < 128 → clear a m < 128
-cleared a m h = lt-of-le-of-lt (and-le-l a (255 - m)) h
 
 pub fresh-accepted : acceptedVia freshVia ≡ true
 unfolding acceptedVia freshVia
@@ -58,31 +52,4 @@ ticks-accepted n v h =
     (or-lt 7 (bitOr (v .flags) (cond a 64 0)) (cond b 32 0)
     (or-lt 7 (v .flags) (cond a 64 0) (below v h .0) (either a 64 0 (omega arith) (omega arith)))
     (either b 32 0 (omega arith) (omega arith)))
-    (below v h .1)
-
-pub written-accepted : (r value : ℕ) (v : Via) → acceptedVia v ≡ true → acceptedVia (written r value v) ≡ true
-unfolding written
-written-accepted r value v h =
-    let f = v .flags in
-    let e = v .enables in
-    let g = below v h .0 in
-    let k = below v h .1 in
-    accept (written r value v)
-    (either (eqb r 1) _ _ (cleared f (portAFlags (v .pcr)) g)
-    (either (eqb r 5 || eqb r 7) _ _ (cleared f 64 g)
-    (either (eqb r 9) _ _ (cleared f 32 g)
-    (either (eqb r 13) _ _ (cleared f (value % 128) g) g))))
-    (either (eqb r 14) _ _
-    (either (bit 7 value) _ _ (or-lt 7 e (value % 128) k (mod-lt value (omega arith))) (cleared e (value % 128) k))
-    k)
-
-pub read-accepted : (r : ℕ) (i : Inputs) (v : Via) → acceptedVia v ≡ true → acceptedVia (readOf r i v .via) ≡ true
-unfolding readOf
-read-accepted r i v h =
-    let f = v .flags in
-    let g = below v h .0 in
-    accept (readOf r i v .via)
-    (either (eqb r 1) _ _ (cleared f (portAFlags (v .pcr)) g)
-    (either (eqb r 4) _ _ (cleared f 64 g)
-    (either (eqb r 8) _ _ (cleared f 32 g) g)))
     (below v h .1)

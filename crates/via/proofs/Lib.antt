@@ -1,8 +1,5 @@
 pub mod Accepted
-pub mod Bits
-pub mod Exact
-pub mod Flags
 pub mod Kept
-pub mod Rest
-pub mod Tests
+pub mod Or
 pub mod Waits
+pub mod Rest

@@ -5,7 +5,7 @@ use Prim.Native.Nat.{ℕ, zero, suc, _+_, _-_}
 use native.Mathlib.Nat.{add-zero, add-suc}
 use lib.Dec.{eqb}
 use lib.Bits.{bitOr, or-zero-r}
-use Rattle.via.proofs.Bits.{or-assoc}
+use Rattle.via.proofs.Or.{or-assoc}
 use Rattle.timer.specs.Timer.{at, stepBy, step, steps}
 use Rattle.timer.specs.declared.Counter.{Counter}
 use Rattle.via.specs.Setters.{withCounter2, withArmed2, withFlags}

@@ -1,4 +1,3 @@
 pub mod Setters
 pub mod Via
-pub mod Registers
-pub mod Samples
+pub mod Writes

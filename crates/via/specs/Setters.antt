@@ -6,28 +6,9 @@ use Rattle.via.specs.declared.Timer1.{Timer1}
 use Rattle.via.specs.declared.Timer2.{Timer2}
 use Rattle.via.specs.declared.Via.{Via}
 
--- ---- the ports
-abbrev pub withOutb : Ports → ℕ → Ports
-withOutb s x = record { outb = x; outa = s .outa; dirb = s .dirb; dira = s .dira }
-
-abbrev pub withOuta : Ports → ℕ → Ports
-withOuta s x = record { outb = s .outb; outa = x; dirb = s .dirb; dira = s .dira }
-
-abbrev pub withDirb : Ports → ℕ → Ports
-withDirb s x = record { outb = s .outb; outa = s .outa; dirb = x; dira = s .dira }
-
-abbrev pub withDira : Ports → ℕ → Ports
-withDira s x = record { outb = s .outb; outa = s .outa; dirb = s .dirb; dira = x }
-
 -- ---- T1
 abbrev pub withCounter1 : Timer1 → ℕ → Timer1
 withCounter1 s x = record { counter = x; low = s .low; high = s .high; armed = s .armed; due = s .due }
-
-abbrev pub withLow1 : Timer1 → ℕ → Timer1
-withLow1 s x = record { counter = s .counter; low = x; high = s .high; armed = s .armed; due = s .due }
-
-abbrev pub withHigh1 : Timer1 → ℕ → Timer1
-withHigh1 s x = record { counter = s .counter; low = s .low; high = x; armed = s .armed; due = s .due }
 
 abbrev pub withArmed1 : Timer1 → Bool → Timer1
 withArmed1 s x = record { counter = s .counter; low = s .low; high = s .high; armed = x; due = s .due }
@@ -38,9 +19,6 @@ withDue1 s x = record { counter = s .counter; low = s .low; high = s .high; arme
 -- ---- T2
 abbrev pub withCounter2 : Timer2 → ℕ → Timer2
 withCounter2 s x = record { counter = x; low = s .low; armed = s .armed }
-
-abbrev pub withLow2 : Timer2 → ℕ → Timer2
-withLow2 s x = record { counter = s .counter; low = x; armed = s .armed }
 
 abbrev pub withArmed2 : Timer2 → Bool → Timer2
 withArmed2 s x = record { counter = s .counter; low = s .low; armed = x }

@@ -1,11 +1,10 @@
-// The VIA: ports, two timers, flags, sixteen registers. The state goes in by value, and the next one comes out.
+// The VIA: ports, two timers, flags, and its part of the interrupt level. The state goes in by value, and the next one comes out.
 ghost use mathlib.Core.Path.{_≡_};
 ghost use mathlib.Core.Bool.{cond, true, false};
 ghost use Prim.Native.Nat.{_<_, _+_, _*_, _/_, _%_};
 ghost use Rattle.timer.specs.Timer.{steps};
-ghost use Rattle.via.specs.Setters.{withOutb, withOuta, withDirb, withDira, withCounter1, withLow1, withHigh1, withArmed1, withDue1, withCounter2, withLow2, withArmed2, withPorts, withT1, withT2, withSr, withAcr, withPcr, withFlags, withEnables};
-ghost use Rattle.via.specs.Via.{freshVia, clear, portLevel, latchOf, counter1, counter2, settled, ticks, raisedOf, asking, levelOf, resetOf, acceptedVia};
-ghost use Rattle.via.specs.Registers.{portAFlags, enabledBy, written, flagsByte, valueRead, flagsRead, readOf};
+ghost use Rattle.via.specs.Writes.{portAFlags, enabledBy, written};
+ghost use Rattle.via.specs.Via.{freshVia, latchOf, counter1, counter2, settled, ticks, raisedOf, asking, levelOf, resetOf, acceptedVia};
 use timer::Counter;
 
 // Output bits and directions of ports B and A; a direction bit of 1 is an output.
@@ -50,12 +49,6 @@ pub struct Inputs {
     pub a: u8,
 }
 
-// What a read gives: the VIA after it, and the value.
-pub struct Access {
-    pub via: Via,
-    pub value: u8,
-}
-
 // All zero, as after a power cut.
 pub fn fresh() -> Via
     ensures { λ r. ⌜ r ≡ freshVia ⌝ }
@@ -85,13 +78,6 @@ pub fn fresh() -> Via
         flags: 0,
         enables: 0,
     }
-}
-
-// A port's levels: the output bit where the direction is 1, else the input.
-pub fn port(out: u8, dir: u8, input: u8) -> u8
-    ensures { λ r. ⌜ r ≡ portLevel out dir input ⌝ }
-{
-    out & dir | input & !dir
 }
 
 // n VIA ticks of T1, in free run or not.
@@ -165,7 +151,7 @@ impl Via {
     }
 
     // Whether an enabled flag is set.
-    fn asks(self) -> bool
+    pub fn asks(self) -> bool
         ensures { λ r. ⌜ r ≡ asking self ⌝ }
     {
         self.flags & self.enables & 127 != 0
@@ -201,236 +187,81 @@ impl Via {
 }
 
 // ---- what writing a register changes
-impl Via {
-    fn set_outb(mut self, value: u8) -> Via
-        ensures { λ r. ⌜ r ≡ withPorts self (withOutb (self .ports) value) ⌝ }
-    {
-        self.ports.outb = value;
-        self
-    }
+// The one or the other.
+pub fn pick(on: bool, new: u8, old: u8) -> u8
+    ensures { λ r. ⌜ r ≡ cond on new old ⌝ }
+{
+    if on { new } else { old }
+}
 
-    fn set_outa(mut self, value: u8) -> Via
-        ensures { λ r. ⌜ r ≡ withPorts self (withOuta (self .ports) value) ⌝ }
-    {
-        self.ports.outa = value;
-        self
-    }
-
-    fn set_dirb(mut self, value: u8) -> Via
-        ensures { λ r. ⌜ r ≡ withPorts self (withDirb (self .ports) value) ⌝ }
-    {
-        self.ports.dirb = value;
-        self
-    }
-
-    fn set_dira(mut self, value: u8) -> Via
-        ensures { λ r. ⌜ r ≡ withPorts self (withDira (self .ports) value) ⌝ }
-    {
-        self.ports.dira = value;
-        self
-    }
-
-    fn set_low1(mut self, value: u8) -> Via
-        ensures { λ r. ⌜ r ≡ withT1 self (withLow1 (self .t1) value) ⌝ }
-    {
-        self.t1.low = value;
-        self
-    }
-
-    fn set_high1(mut self, value: u8) -> Via
-        ensures { λ r. ⌜ r ≡ withT1 self (withHigh1 (self .t1) value) ⌝ }
-    {
-        self.t1.high = value;
-        self
-    }
-
-    // T1's counter loaded from its latches, with no load due, and armed.
-    fn load1(mut self) -> Via
-        ensures { λ r. ⌜ r ≡ withT1 self (withDue1 (withArmed1 (withCounter1 (self .t1) (self .t1 .high * 256 + self .t1 .low)) true) false) ⌝ }
-    {
-        let counter = (self.t1.high as u16) * 256 + (self.t1.low as u16);
-        self.t1.counter = counter;
-        self.t1.armed = true;
-        self.t1.due = false;
-        self
-    }
-
-    fn set_low2(mut self, value: u8) -> Via
-        ensures { λ r. ⌜ r ≡ withT2 self (withLow2 (self .t2) value) ⌝ }
-    {
-        self.t2.low = value;
-        self
-    }
-
-    // T2's counter loaded from the value and the low latch, and armed.
-    fn load2(mut self, value: u8) -> Via
-        ensures { λ r. ⌜ r ≡ withT2 self (withArmed2 (withCounter2 (self .t2) (value * 256 + self .t2 .low)) true) ⌝ }
-    {
-        let counter = (value as u16) * 256 + (self.t2.low as u16);
-        self.t2.counter = counter;
-        self.t2.armed = true;
-        self
-    }
-
-    fn set_sr(mut self, value: u8) -> Via
-        ensures { λ r. ⌜ r ≡ withSr self value ⌝ }
-    {
-        self.sr = value;
-        self
-    }
-
-    fn set_acr(mut self, value: u8) -> Via
-        ensures { λ r. ⌜ r ≡ withAcr self value ⌝ }
-    {
-        self.acr = value;
-        self
-    }
-
-    fn set_pcr(mut self, value: u8) -> Via
-        ensures { λ r. ⌜ r ≡ withPcr self value ⌝ }
-    {
-        self.pcr = value;
-        self
-    }
-
-    // The flags of the mask are cleared.
-    fn clear_flags(mut self, mask: u8) -> Via
-        ensures { λ r. ⌜ r ≡ withFlags self (clear (self .flags) mask) ⌝ }
-    {
-        self.flags = self.flags & !mask;
-        self
-    }
-
-    // Enables set where bits 0 to 6 are 1 if bit 7 is 1, else cleared.
-    fn enable(mut self, value: u8) -> Via
-        ensures { λ r. ⌜ r ≡ withEnables self (enabledBy value (self .enables)) ⌝ }
-    {
-        if value / 128 % 2 == 1 {
-            self.enables = self.enables | value % 128;
-            self
-        } else {
-            self.enables = self.enables & !(value % 128);
-            self
-        }
-    }
+// ---- what writing a register changes
+fn load(high: u8, low: u8) -> u16
+    ensures { λ r. ⌜ r ≡ high * 256 + low ⌝ }
+{
+    (high as u16) * 256 + (low as u16)
 }
 
 // The flags that an access to register 1 clears: flag 1, and flag 0 unless PCR bits 3 to 1 are 001 or 011.
-fn port_a_flags(pcr: u8) -> u8
+pub fn port_a_flags(pcr: u8) -> u8
     ensures { λ r. ⌜ r ≡ portAFlags pcr ⌝ }
 {
     let control = pcr / 2 % 8;
-    if control == 1 {
-        2
-    } else if control == 3 {
-        2
-    } else {
-        3
-    }
+    pick((control == 1) | (control == 3), 2, 3)
+}
+
+// Enables set where bits 0 to 6 are 1 if bit 7 is 1, else cleared.
+fn enable(value: u8, enables: u8) -> u8
+    ensures { λ r. ⌜ r ≡ enabledBy value enables ⌝ }
+{
+    pick(
+        value / 128 % 2 == 1,
+        enables | value % 128,
+        enables & !(value % 128),
+    )
 }
 
 impl Via {
     // The value is written to a register.
-    pub fn write(self, register: u8, value: u8) -> Via
+    pub fn write(mut self, register: u8, value: u8) -> Via
         requires { ⌜ register < 16 ⌝ }
         ensures { λ r. ⌜ r ≡ written register value self ⌝ }
     {
         match register {
-            0 => self.set_outb(value),
-            1 => self.set_outa(value).clear_flags(port_a_flags(self.pcr)),
-            2 => self.set_dirb(value),
-            3 => self.set_dira(value),
-            4 => self.set_low1(value),
-            5 => self.set_high1(value).load1().clear_flags(64),
-            6 => self.set_low1(value),
-            7 => self.set_high1(value).clear_flags(64),
-            8 => self.set_low2(value),
-            9 => self.load2(value).clear_flags(32),
-            10 => self.set_sr(value),
-            11 => self.set_acr(value),
-            12 => self.set_pcr(value),
-            13 => self.clear_flags(value % 128),
-            14 => self.enable(value),
-            _ => self.set_outa(value),
+            0 => self.ports.outb = value,
+            1 => {
+                self.ports.outa = value;
+                self.flags = self.flags & !port_a_flags(self.pcr);
+            },
+            2 => self.ports.dirb = value,
+            3 => self.ports.dira = value,
+            4 => self.t1.low = value,
+            5 => {
+                let counter = load(value, self.t1.low);
+                self.t1.counter = counter;
+                self.t1.high = value;
+                self.t1.armed = true;
+                self.t1.due = false;
+                self.flags = self.flags & !64;
+            },
+            6 => self.t1.low = value,
+            7 => {
+                self.t1.high = value;
+                self.flags = self.flags & !64;
+            },
+            8 => self.t2.low = value,
+            9 => {
+                let counter = load(value, self.t2.low);
+                self.t2.counter = counter;
+                self.t2.armed = true;
+                self.flags = self.flags & !32;
+            },
+            10 => self.sr = value,
+            11 => self.acr = value,
+            12 => self.pcr = value,
+            13 => self.flags = self.flags & !(value % 128),
+            14 => self.enables = enable(value, self.enables),
+            _ => self.ports.outa = value,
         }
-    }
-}
-
-fn low_byte(x: u16) -> u8
-    ensures { λ r. ⌜ r ≡ x % 256 ⌝ }
-{
-    (x % 256) as u8
-}
-
-fn high_byte(x: u16) -> u8
-    ensures { λ r. ⌜ r ≡ x / 256 ⌝ }
-{
-    (x / 256) as u8
-}
-
-impl Via {
-    // The flags, with bit 7 set when an enabled flag is.
-    fn flags_byte(self) -> u8
-        ensures { λ r. ⌜ r ≡ flagsByte self ⌝ }
-    {
-        if self.asks() {
-            self.flags % 128 + 128
-        } else {
-            self.flags % 128
-        }
-    }
-
-    // The value that reading a register gives.
-    fn value_read(self, register: u8, inputs: Inputs) -> u8
-        requires { ⌜ register < 16 ⌝ }
-        ensures { λ r. ⌜ r ≡ valueRead register inputs self ⌝ }
-    {
-        match register {
-            0 => port(self.ports.outb, self.ports.dirb, inputs.b),
-            1 => port(self.ports.outa, self.ports.dira, inputs.a),
-            2 => self.ports.dirb,
-            3 => self.ports.dira,
-            4 => low_byte(self.t1.counter),
-            5 => high_byte(self.t1.counter),
-            6 => self.t1.low,
-            7 => self.t1.high,
-            8 => low_byte(self.t2.counter),
-            9 => high_byte(self.t2.counter),
-            10 => self.sr,
-            11 => self.acr,
-            12 => self.pcr,
-            13 => self.flags_byte(),
-            14 => self.enables % 128 + 128,
-            _ => port(self.ports.outa, self.ports.dira, inputs.a),
-        }
-    }
-
-    // The flags after reading a register.
-    fn flags_read(self, register: u8) -> u8
-        ensures { λ r. ⌜ r ≡ flagsRead register self ⌝ }
-    {
-        if register == 1 {
-            return self.flags & !port_a_flags(self.pcr);
-        }
-        if register == 4 {
-            return self.flags & !64;
-        }
-        if register == 8 {
-            return self.flags & !32;
-        }
-        self.flags
-    }
-
-    // A register is read, with these levels on the input lines.
-    pub fn read(self, register: u8, inputs: Inputs) -> Access
-        requires { ⌜ register < 16 ⌝ }
-        ensures { λ r. ⌜ r ≡ readOf register inputs self ⌝ }
-    {
-        let mut via = self;
-        via.flags = self.flags_read(register);
-        Access {
-            via: via,
-            value: self.value_read(register, inputs),
-        }
+        self
     }
 }

@@ -8,7 +8,6 @@ use Rattle.action.proofs.act.Tie as tie
 use Rattle.action.proofs.act.Reads as reads
 use Rattle.action.proofs.act.Lts as lts
 use Rattle.action.proofs.blank.Reads as blank-reads
-use Rattle.action.proofs.no_value.Reads as no-value-reads
 use Rattle.action.proofs.place_disk.Reads as place-disk-reads
 use Rattle.action.proofs.power_cut.Reads as power-cut-reads
 use Rattle.action.proofs.read_iwm.Reads as read-iwm-reads
@@ -44,10 +43,6 @@ enum-known-item-3 c = search needs
 write-via-requires : tie.Need-write-via-requires
 write-via-requires c κs = subst InRange (c .before .item3 .given .1) (c .before .before .before .pre .0)
 
--- src/lib.rt:175:14
-no-value-requires : tie.Need-no-value-requires
-no-value-requires c κs = search needs
-
 -- src/lib.rt:176:26
 enum-known-item-4 : tie.Need-enum-known-item-4
 enum-known-item-4 c = search needs
@@ -55,10 +50,6 @@ enum-known-item-4 c = search needs
 -- src/lib.rt:176:53
 write-iwm-requires : tie.Need-write-iwm-requires
 write-iwm-requires c κs = subst InRange (c .before .item4 .given .1) (c .before .before .before .pre .0)
-
--- src/lib.rt:176:44
-no-value-requires-2 : tie.Need-no-value-requires-2
-no-value-requires-2 c κs = search needs
 
 -- src/lib.rt:177:40
 enum-told : tie.Need-enum-told
@@ -68,10 +59,6 @@ enum-told c = search needs
 blank-requires : tie.Need-blank-requires
 blank-requires c κs = search needs
 
--- src/lib.rt:177:31
-no-value-requires-3 : tie.Need-no-value-requires-3
-no-value-requires-3 c κs = search needs
-
 -- src/lib.rt:178:41
 enum-told-2 : tie.Need-enum-told-2
 enum-told-2 c = search needs
@@ -79,10 +66,6 @@ enum-told-2 c = search needs
 -- src/lib.rt:178:41
 second-requires : tie.Need-second-requires
 second-requires c κs = search needs
-
--- src/lib.rt:178:32
-no-value-requires-4 : tie.Need-no-value-requires-4
-no-value-requires-4 c κs = search needs
 
 -- src/lib.rt:179:22
 enum-known-item-5 : tie.Need-enum-known-item-5
@@ -92,10 +75,6 @@ enum-known-item-5 c = search needs
 set-line-requires : tie.Need-set-line-requires
 set-line-requires c κs = subst InRange (c .before .item5 .given .1) (c .before .before .before .pre .0) .0
 
--- src/lib.rt:179:43
-no-value-requires-5 : tie.Need-no-value-requires-5
-no-value-requires-5 c κs = search needs
-
 -- src/lib.rt:181:13
 enum-known-item-6 : tie.Need-enum-known-item-6
 enum-known-item-6 c = search needs
@@ -103,10 +82,6 @@ enum-known-item-6 c = search needs
 -- src/lib.rt:185:23
 set-sense-requires : tie.Need-set-sense-requires
 set-sense-requires c κs = let r = subst InRange (c .before .item6 .given .1) (c .before .before .before .pre .0) in (r .0, r .1)
-
--- src/lib.rt:185:14
-no-value-requires-6 : tie.Need-no-value-requires-6
-no-value-requires-6 c κs = search needs
 
 -- src/lib.rt:186:40
 enum-told-3 : tie.Need-enum-told-3
@@ -116,10 +91,6 @@ enum-told-3 c = search needs
 reset-requires : tie.Need-reset-requires
 reset-requires c κs = search needs
 
--- src/lib.rt:186:31
-no-value-requires-7 : tie.Need-no-value-requires-7
-no-value-requires-7 c κs = search needs
-
 -- src/lib.rt:187:23
 enum-known-item-7 : tie.Need-enum-known-item-7
 enum-known-item-7 c = search needs
@@ -128,10 +99,6 @@ enum-known-item-7 c = search needs
 power-cut-requires : tie.Need-power-cut-requires
 power-cut-requires c κs = search needs
 
--- src/lib.rt:187:40
-no-value-requires-8 : tie.Need-no-value-requires-8
-no-value-requires-8 c κs = search needs
-
 -- src/lib.rt:189:13
 enum-known-item-8 : tie.Need-enum-known-item-8
 enum-known-item-8 c = search needs
@@ -139,10 +106,6 @@ enum-known-item-8 c = search needs
 -- src/lib.rt:194:23
 place-disk-requires : tie.Need-place-disk-requires
 place-disk-requires c κs = search needs
-
--- src/lib.rt:194:14
-no-value-requires-9 : tie.Need-no-value-requires-9
-no-value-requires-9 c κs = search needs
 
 -- src/lib.rt:163:1
 returns : tie.Need-returns
@@ -157,47 +120,47 @@ returns-2 c = simp (c .before .before .item2 .given .1, ← c .read-iwm .ensures
 -- src/lib.rt:163:1
 returns-3 : tie.Need-returns-3
 unfolding actedOf
-returns-3 c = simp (c .before .before .before .item3 .given .1, ← c .before .write-via .ensures, ← c .no-value .ensures)
+returns-3 c = simp (c .before .before .item3 .given .1, ← c .write-via .ensures)
 
 -- src/lib.rt:163:1
 returns-4 : tie.Need-returns-4
 unfolding actedOf
-returns-4 c = simp (c .before .before .before .item4 .given .1, ← c .before .write-iwm .ensures, ← c .no-value2 .ensures)
+returns-4 c = simp (c .before .before .item4 .given .1, ← c .write-iwm .ensures)
 
 -- src/lib.rt:163:1
 returns-5 : tie.Need-returns-5
 unfolding actedOf
-returns-5 c = simp (c .before .before .enum-told .given .1, ← c .before .blank .ensures, ← c .no-value3 .ensures)
+returns-5 c = simp (c .before .enum-told .given .1, ← c .blank .ensures)
 
 -- src/lib.rt:163:1
 returns-6 : tie.Need-returns-6
 unfolding actedOf
-returns-6 c = simp (c .before .before .enum-told2 .given .1, ← c .before .second .ensures, ← c .no-value4 .ensures)
+returns-6 c = simp (c .before .enum-told2 .given .1, ← c .second .ensures)
 
 -- src/lib.rt:163:1
 returns-7 : tie.Need-returns-7
 unfolding actedOf
-returns-7 c = simp (c .before .before .before .item5 .given .1, ← c .before .set-line .ensures, ← c .no-value5 .ensures)
+returns-7 c = simp (c .before .before .item5 .given .1, ← c .set-line .ensures)
 
 -- src/lib.rt:163:1
 returns-8 : tie.Need-returns-8
 unfolding actedOf
-returns-8 c = simp (c .before .before .before .item6 .given .1, ← c .before .set-sense .ensures, ← c .no-value6 .ensures)
+returns-8 c = simp (c .before .before .item6 .given .1, ← c .set-sense .ensures)
 
 -- src/lib.rt:163:1
 returns-9 : tie.Need-returns-9
 unfolding actedOf
-returns-9 c = simp (c .before .before .enum-told3 .given .1, ← c .before .reset .ensures, ← c .no-value7 .ensures)
+returns-9 c = simp (c .before .enum-told3 .given .1, ← c .reset .ensures)
 
 -- src/lib.rt:163:1
 returns-10 : tie.Need-returns-10
 unfolding actedOf
-returns-10 c = simp (c .before .before .before .item7 .given .1, ← c .before .power-cut .ensures, ← c .no-value8 .ensures)
+returns-10 c = simp (c .before .before .item7 .given .1, ← c .power-cut .ensures)
 
 -- src/lib.rt:163:1
 returns-11 : tie.Need-returns-11
 unfolding actedOf
-returns-11 c = simp (c .before .before .before .item8 .given .1, ← c .before .place-disk .ensures, ← c .no-value9 .ensures)
+returns-11 c = simp (c .before .before .item8 .given .1, ← c .place-disk .ensures)
 
 pub act-spec : {M : Type 1} → statement M
 act-spec =
@@ -209,31 +172,22 @@ act-spec =
     read-iwm-requires
     enum-known-item-3
     write-via-requires
-    no-value-requires
     enum-known-item-4
     write-iwm-requires
-    no-value-requires-2
     enum-told
     blank-requires
-    no-value-requires-3
     enum-told-2
     second-requires
-    no-value-requires-4
     enum-known-item-5
     set-line-requires
-    no-value-requires-5
     enum-known-item-6
     set-sense-requires
-    no-value-requires-6
     enum-told-3
     reset-requires
-    no-value-requires-7
     enum-known-item-7
     power-cut-requires
-    no-value-requires-8
     enum-known-item-8
     place-disk-requires
-    no-value-requires-9
     returns
     returns-2
     returns-3

@@ -6,7 +6,7 @@ use Rattle.action.proofs.read_via.Tie as tie
 use Rattle.action.proofs.read_via.Reads as reads
 use Rattle.action.proofs.read_via.Lts as lts
 use Rattle.phase.proofs.shown_line.Reads as shown-line-reads
-use Rattle.via.proofs.Via.read.Reads as read-reads
+use Rattle.registers.proofs.read.Reads as read-reads
 use Rattle.wiring.proofs.inputs_of.Reads as inputs-of-reads
 
 -- src/lib.rt:42:37

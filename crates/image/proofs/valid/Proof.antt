@@ -1,5 +1,6 @@
 use Rattle.machine.specs.Machine.{acceptedOf}
-use Rattle.image.specs.Image.{imageOf, machineOf, sameBytes}
+use Rattle.layout.specs.Layout.{sameBytes}
+use Rattle.image.specs.Image.{imageOf, machineOf}
 use Prim.Native.Nat.{ℕ, _+_}
 use mathlib.Core.List.{List}
 use denote.Ref.{now}
@@ -12,7 +13,7 @@ use Rattle.image.proofs.valid.Tie as tie
 use Rattle.image.proofs.valid.Reads as reads
 use Rattle.image.proofs.valid.Lts as lts
 use Rattle.image.proofs.load.Reads as load-reads
-use Rattle.image.proofs.same.Reads as same-reads
+use Rattle.layout.proofs.same.Reads as same-reads
 use Rattle.image.proofs.save.Reads as save-reads
 use Rattle.machine.proofs.Machine.accepted.Reads as accepted-reads
 

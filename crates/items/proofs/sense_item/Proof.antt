@@ -1,40 +1,43 @@
 use borrow.Author.Needs.{needs}
 use Rattle.items.specs.Items.{senseOf}
-use borrow.Author.Tests.{lt-ltb, le-ltb, eq-eqb, ne-eqb}
+use borrow.Author.Tests.{eq-eqb, ne-eqb}
+use Rattle.items.proofs.Any.{any3}
 use Rattle.items.proofs.sense_item.Statement.{statement}
 use Rattle.items.proofs.sense_item.Tie as tie
+use Rattle.items.proofs.sense_item.Reads as reads
+use Rattle.items.proofs.sense_item.Lts as lts
+use Rattle.record.proofs.le16.Reads as le16-reads
 
+-- src/lib.rt:176:9
 returns : tie.Need-returns
 unfolding senseOf
 returns c = simp (ne-eqb _ _ (c .if1 .taken))
 
+-- src/lib.rt:178:17
 shared-slice-read-drive : tie.Need-shared-slice-read-drive
 shared-slice-read-drive c = search needs
 
+-- src/lib.rt:179:20
 shared-slice-read-register : tie.Need-shared-slice-read-register
 shared-slice-read-register c = search needs
 
+-- src/lib.rt:180:17
 shared-slice-read-level : tie.Need-shared-slice-read-level
 shared-slice-read-level c = search needs
 
+-- src/lib.rt:182:9
 returns-2 : tie.Need-returns-2
 unfolding senseOf
-returns-2 c = simp (eq-eqb _ _ (c .before .before .before .before .if1 .left), lt-ltb _ _ (c .if2 .taken))
+returns-2 c = simp (eq-eqb _ _ (c .before .before .before .before .if1 .left), any3, c .if2 .taken)
 
-returns-3 : tie.Need-returns-3
-unfolding senseOf
-returns-3 c = simp (eq-eqb _ _ (c .before .before .before .before .before .if1 .left), le-ltb _ _ (c .before .if2 .left), lt-ltb _ _ (c .if3 .taken))
-
-returns-4 : tie.Need-returns-4
-unfolding senseOf
-returns-4 c = simp (eq-eqb _ _ (c .before .before .before .before .before .before .if1 .left), le-ltb _ _ (c .before .before .if2 .left), le-ltb _ _ (c .before .if3 .left), lt-ltb _ _ (c .if4 .taken))
-
+-- src/lib.rt:185:15
 le16-requires : tie.Need-le16-requires
 le16-requires c κs = search needs
 
-returns-5 : tie.Need-returns-5
+-- src/lib.rt:171:1
+returns-3 : tie.Need-returns-3
 unfolding senseOf
-returns-5 c = simp (eq-eqb _ _ (c .before .before .before .before .before .before .before .if1 .left), le-ltb _ _ (c .before .before .before .if2 .left), le-ltb _ _ (c .before .before .if3 .left), le-ltb _ _ (c .before .if4 .left), ← c .le16 .ensures)
+returns-3 c = simp (eq-eqb _ _ (c .before .before .before .before .before .if1 .left), any3, c .before .if2 .left, ← c .le16 .ensures)
 
 pub sense-item-spec : {M : Type 1} → statement M
 sense-item-spec =
@@ -45,7 +48,5 @@ sense-item-spec =
     shared-slice-read-register
     shared-slice-read-level
     returns-2
-    returns-3
-    returns-4
     le16-requires
-    returns-5)
+    returns-3)

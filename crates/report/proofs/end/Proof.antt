@@ -1,12 +1,12 @@
 use borrow.Author.Needs.{needs}
 use Rattle.report.specs.Report.{endOf}
-use Rattle.report.proofs.Puts.{put-then}
+use Rattle.text.proofs.Puts.{put-then}
 use Rattle.report.proofs.end.Statement.{statement}
 use Rattle.report.proofs.end.Tie as tie
 use Rattle.report.proofs.end.Reads as reads
 use Rattle.report.proofs.end.Lts as lts
-use Rattle.report.proofs.add.Reads as add-reads
-use Rattle.report.proofs.add_decimal.Reads as add-decimal-reads
+use Rattle.text.proofs.add.Reads as add-reads
+use Rattle.text.proofs.add_decimal.Reads as add-decimal-reads
 
 -- src/lib.rt:157:31
 slice-aggregate-add-decimal : tie.Need-slice-aggregate-add-decimal

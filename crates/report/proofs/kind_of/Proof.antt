@@ -1,7 +1,7 @@
 use borrow.Author.Needs.{needs}
 use denote.Ref.{now}
-use Rattle.report.proofs.Puts.{rest-all}
-use Rattle.items.specs.Items.{decodedOf}
+use Rattle.report.proofs.Rest.{rest-all}
+use Rattle.kinds.specs.Kinds.{decodedOf}
 use mathlib.Core.Path.{ap, _∙_}
 use Rattle.report.specs.Report.{kindOf}
 use borrow.Author.Tests.{lt-ltb, le-ltb, le-leb, lt-leb, eq-eqb, ne-eqb}
@@ -9,7 +9,7 @@ use Rattle.report.proofs.kind_of.Statement.{statement}
 use Rattle.report.proofs.kind_of.Tie as tie
 use Rattle.report.proofs.kind_of.Reads as reads
 use Rattle.report.proofs.kind_of.Lts as lts
-use Rattle.items.proofs.decode.Reads as decode-reads
+use Rattle.kinds.proofs.decode.Reads as decode-reads
 use Rattle.items.proofs.refusal.Reads as refusal-reads
 use Rattle.record.proofs.le16.Reads as le16-reads
 

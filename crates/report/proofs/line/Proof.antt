@@ -1,13 +1,13 @@
 use borrow.Author.Needs.{needs}
 use Rattle.report.specs.Report.{lineOf}
-use Rattle.report.proofs.Puts.{put-then}
+use Rattle.text.proofs.Puts.{put-then}
 use Rattle.report.proofs.line.Statement.{statement}
 use Rattle.report.proofs.line.Tie as tie
 use Rattle.report.proofs.line.Reads as reads
 use Rattle.report.proofs.line.Lts as lts
-use Rattle.report.proofs.add.Reads as add-reads
-use Rattle.report.proofs.add_number.Reads as add-number-reads
-use Rattle.report.proofs.add_said.Reads as add-said-reads
+use Rattle.text.proofs.add.Reads as add-reads
+use Rattle.text.proofs.add_number.Reads as add-number-reads
+use Rattle.answers.proofs.add_said.Reads as add-said-reads
 use Rattle.report.proofs.kind_of.Reads as kind-of-reads
 
 -- src/lib.rt:145:9

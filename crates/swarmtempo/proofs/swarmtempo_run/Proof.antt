@@ -1,5 +1,3 @@
-use native.Mathlib.Omega.{arith}
-use Rattle.record.specs.Record.{Bytes}
 use Rattle.image.specs.Image.{imageLength, validImage}
 use lib.ListN.{length}
 use Rattle.image.proofs.Round.{valid-is}
@@ -24,9 +22,6 @@ good c = sym (c .before .valid .ensures) ∙ not-false _ (c .if1 .left)
 
 whole : (c : tie.Else1) → length (now (c .before .before .before .before .before .before .args .image)) ≡ imageLength
 whole c = valid-is _ (good c) .long
-
-bytes : (c : tie.After-slice-known) → Bytes (now (c .before .args .image))
-bytes c i = omega (arith, c .slice-known .given i)
 
 -- src/lib.rt:48:9
 valid-requires : tie.Need-valid-requires
@@ -66,7 +61,7 @@ same-length-3 c = search needs
 returns-2 : tie.Need-returns-2
 returns-2 c =
     let a = c .before .before .before .before .before .before .before .before .before .before .before .before .before .before .before .before .args in
-    call.ran (now (a .image)) (now (a .list)) (now (a .answers)) (bytes (c .before .before .before .before .before .before .before .before .before .before .before .before .before .before .before)) (good (c .before .before .before .before .before .before .before .before .before .before)) (c .before .before .before .before .before .before .before .before .load .result) (c .before .before .before .before .before .before .before .before .load .ensures)
+    call.ran (now (a .image)) (now (a .list)) (now (a .answers)) (good (c .before .before .before .before .before .before .before .before .before .before)) (c .before .before .before .before .before .before .before .before .load .result) (c .before .before .before .before .before .before .before .before .load .ensures)
     (c .before .before .before .before .before .before .run .result) (c .before .before .before .before .before .before .run .ensures .0) (c .before .before .before .before .before .before .run .last .1 .1 .0) (c .before .before .before .before .before .before .run .ensures .1 .0)
     (c .before .before .save .last .0) (c .before .before .save .ensures .0) (c .before .before .save .ensures .1 .0) (c .before .before .save .ensures .1 .1)
 

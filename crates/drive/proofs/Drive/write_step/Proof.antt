@@ -4,23 +4,15 @@ use Rattle.drive.proofs.Drive.write_step.Statement.{statement}
 use Rattle.drive.proofs.Drive.write_step.Tie as tie
 use Rattle.drive.proofs.Drive.write_step.Reads as reads
 use Rattle.drive.proofs.Drive.write_step.Lts as lts
-use Rattle.drive.proofs.Drive.with_step.Reads as with-step-reads
 
--- src/lib.rt:107:13
 returns : tie.Need-returns
 returns c = search needs
 
--- src/lib.rt:110:13
-with-step-requires : tie.Need-with-step-requires
-with-step-requires c κs = search needs
-
--- src/lib.rt:110:13
 returns-2 : tie.Need-returns-2
-returns-2 c = simp (c .before .before .before .if1 .left, eq-eqb _ _ (c .before .if2 .taken), ← c .with-step .ensures)
+returns-2 c = simp (c .before .before .if1 .left, eq-eqb _ _ (c .if2 .taken))
 
--- src/lib.rt:103:5
 returns-3 : tie.Need-returns-3
 returns-3 c = simp (c .before .before .if1 .left, ne-eqb _ _ (c .if2 .left))
 
 pub write-step-spec : {M : Type 1} → statement M
-write-step-spec = tie.close (tie.spec returns with-step-requires returns-2 returns-3)
+write-step-spec = tie.close (tie.spec returns returns-2 returns-3)

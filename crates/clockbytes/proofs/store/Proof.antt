@@ -1,0 +1,82 @@
+use mathlib.Core.Path.{_≡_, ap₂, _∙_}
+use denote.Ref.{now}
+use Rattle.layout.specs.Layout.{registersAt, registersLength, cellsAt, cellsLength, part}
+use Rattle.layout.proofs.Parts.{whole}
+use Rattle.clockbytes.specs.Layout.{storeFields, storeOf}
+use borrow.Author.Needs.{needs}
+use Rattle.clockbytes.proofs.store.Statement.{statement}
+use Rattle.clockbytes.proofs.store.Tie as tie
+use Rattle.clockbytes.proofs.store.Reads as reads
+use Rattle.clockbytes.proofs.store.Lts as lts
+use Rattle.clockbytes.proofs.store_of.Reads as store-of-reads
+use Rattle.record.proofs.copy.Reads as copy-reads
+
+-- src/lib.rt:116:18
+slice-aggregate-copy : tie.Need-slice-aggregate-copy
+slice-aggregate-copy c = search needs
+
+-- src/lib.rt:116:29
+sub-copy : tie.Need-sub-copy
+sub-copy c = search needs
+
+-- src/lib.rt:116:29
+part-copy-start : tie.Need-part-copy-start
+part-copy-start c = search needs
+
+-- src/lib.rt:116:29
+part-copy-end : tie.Need-part-copy-end
+part-copy-end c = search needs
+
+-- src/lib.rt:116:5
+copy-requires : tie.Need-copy-requires
+copy-requires c κs = search needs
+
+-- src/lib.rt:117:18
+slice-aggregate-copy-2 : tie.Need-slice-aggregate-copy-2
+slice-aggregate-copy-2 c = search needs
+
+-- src/lib.rt:117:33
+sub-copy-2 : tie.Need-sub-copy-2
+sub-copy-2 c = search needs
+
+-- src/lib.rt:117:33
+part-copy-start-2 : tie.Need-part-copy-start-2
+part-copy-start-2 c = search needs
+
+-- src/lib.rt:117:33
+part-copy-end-2 : tie.Need-part-copy-end-2
+part-copy-end-2 c = search needs
+
+-- src/lib.rt:117:5
+copy-requires-2 : tie.Need-copy-requires-2
+copy-requires-2 c κs = search needs
+
+-- src/lib.rt:118:5
+store-of-requires : tie.Need-store-of-requires
+store-of-requires c κs = search needs
+
+-- src/lib.rt:110:1
+returns : tie.Need-returns
+unfolding storeOf
+returns c =
+    let s = now (c .before .before .before .before .before .before .before .before .before .before .args .image) in
+    let b : c .before .before .before .before .before .before .copy .last .0 ≡ part registersAt registersLength s = c .before .before .before .before .before .before .copy .ensures ∙ whole _ _ (search needs) in
+    let k : c .before .before .copy2 .last .0 ≡ part cellsAt cellsLength s = c .before .before .copy2 .ensures ∙ whole _ _ (search needs) in
+    c .store-of .ensures ∙ ap₂ storeFields b k
+
+pub store-spec : {M : Type 1} → statement M
+store-spec =
+    tie.close
+    (tie.spec
+    slice-aggregate-copy
+    sub-copy
+    part-copy-start
+    part-copy-end
+    copy-requires
+    slice-aggregate-copy-2
+    sub-copy-2
+    part-copy-start-2
+    part-copy-end-2
+    copy-requires-2
+    store-of-requires
+    returns)

@@ -1,0 +1,113 @@
+-- Runs from the fresh machine, computed: what the run hands back, and what the history of its list says, side by side.
+use mathlib.Core.Path.{_≡_, refl}
+use mathlib.Core.List.{List, [], _∷_, _++_}
+use Prim.Native.Nat.{ℕ, zero, suc, _+_, _-_, _*_, _/_, _%_, _^_}
+use lib.ListN.{getD}
+use Rattle.levels.specs.Levels.{allLevels}
+use Rattle.record.specs.Record.{le16Of, le32Of, frameOf}
+use Rattle.via.specs.Via.{freshVia, ticks, acceptedVia}
+use Rattle.via.specs.Writes.{written, portsWritten}
+use Rattle.command.specs.Command.{named, decode}
+use Rattle.store.specs.Shared.{replace}
+use Rattle.store.specs.Store.{fetch, put, act}
+use Rattle.phase.specs.Phase.{between, shown, acceptedPhase}
+use Rattle.clock.specs.Step.{next, acts, stepWires}
+use Rattle.command.specs.declared.Target.the-variants.{Cell}
+use Rattle.iwm.specs.Lines.{linesOff}
+use Rattle.drive.specs.Drive.{acceptedDrive}
+use Rattle.strobe.specs.Strobe.{acceptedStrobe}
+use Rattle.drives.specs.Drives.{acceptedDrives}
+use Rattle.addresses.specs.Addresses.{placeFrom, foundOf}
+use Rattle.items.specs.Items.{writeOf, powerOf}
+use Rattle.kinds.specs.Kinds.{isKind, decodedOf}
+use Rattle.machine.specs.declared.Machine.{Machine}
+use Rattle.wiring.specs.Wiring.{wiresOf}
+use Rattle.machine.specs.Machine.{acceptedOf, freshMachine}
+use Rattle.action.specs.Action.{eventOf, actedOf}
+use Rattle.step.specs.Step.{waitOf, stepOf, refusesOf}
+use Rattle.turn.specs.Turn.{turnOf}
+use Rattle.run.specs.Run.{cut, piecesFrom, onto, onPiece, runPieces, runOf}
+use Rattle.history.specs.History.{History, wiresAt, rises, ended, protectAt, endedClear, last, secondsAt}
+use Rattle.history.specs.Start.{freshStart}
+use Rattle.history.specs.Items.{stateAfter, historyOf}
+use Rattle.demand3.specs.Runs.{answeredAfter, answered, historyMet}
+
+-- WR of v to register 2, direction B, with no wait.
+abbrev direct : ℕ → List ℕ
+direct v = 9 ∷ 0 ∷ 87 ∷ 82 ∷ 0 ∷ 0 ∷ 0xFE ∷ 0xE5 ∷ 0xEF ∷ 0 ∷ v ∷ []
+
+-- PW with 5 seconds off; a record of a kind that there is not.
+abbrev off5 : List ℕ
+off5 = 8 ∷ 0 ∷ 80 ∷ 87 ∷ 0 ∷ 0 ∷ 5 ∷ 0 ∷ 0 ∷ 0 ∷ []
+
+abbrev unknown : List ℕ
+unknown = 2 ∷ 0 ∷ 88 ∷ 88 ∷ []
+
+-- Output bits stay 0: a line is 0 while it is driven, and 1 while it is not. Enable goes down, and up.
+abbrev down : List ℕ
+down = direct 7
+
+abbrev up : List ℕ
+up = direct 0
+
+-- A bit: data-clock driven, then not, with data driven for a 0; then a refused record, which changes no wire.
+abbrev edge : ℕ → List ℕ
+edge b = direct (4 + 2 + (1 - b)) ++ direct (4 + (1 - b)) ++ unknown
+
+-- The lowest n bits of a byte, high-order first.
+abbrev bits : ℕ → ℕ → List ℕ
+bits zero b = []
+bits (suc n) b = edge (b / 2 ^ n % 2) ++ bits n b
+
+-- A command and a byte to it; the high n bits of the byte only.
+abbrev send : ℕ → ℕ → List ℕ
+send c b = down ++ bits 8 c ++ bits 8 b ++ up
+
+abbrev part : ℕ → ℕ → ℕ → List ℕ
+part n c b = down ++ bits 8 c ++ bits n (b / 2 ^ (8 - n)) ++ up
+
+-- $41 and the high half of $AA, a power cut, and the low half.
+abbrev cutShort : List ℕ
+cutShort = down ++ bits 8 0x41 ++ bits 4 0xA ++ off5 ++ down ++ bits 4 0xA ++ up
+
+-- With room for 200 answers, and with so many bytes.
+abbrev plenty : ℕ
+plenty = 1600
+
+abbrev ran : List ℕ → ℕ → Machine
+ran l room = runOf freshMachine l room .machine
+
+abbrev told : List ℕ → ℕ → History
+told l room = historyMet freshMachine (answered l room)
+
+abbrev Cell-0-is : List ℕ → ℕ → ℕ → Type 0
+Cell-0-is l room b = (getD (ran l room .clock .store .cells) 0 0 ≡ b) × (last 20 (freshStart 20) (Cell 0) 0 (told l room) ≡ b)
+
+-- Every edge is made by the direction register. The sixteenth rise of `send` is its 48th record.
+pub record RunExamples : Type 0 where
+  pub write : Cell-0-is (send 0x41 0xAA) plenty 0xAA
+  pub fifteenRises : Cell-0-is (part 7 0x41 0xAA) plenty 0
+  pub underProtect : Cell-0-is (send 0x35 0x80 ++ send 0x41 0xAA) plenty 0
+  pub clearedAgain : Cell-0-is (send 0x35 0x80 ++ send 0x35 0x7F ++ send 0x41 0xAA) plenty 0xAA
+  pub halfSent : Cell-0-is (send 0x41 0xAA ++ part 4 0x41 0x55) plenty 0xAA
+  pub powerCut : Cell-0-is cutShort plenty 0
+  pub powerCutSeconds : (ran cutShort plenty .clock .store .seconds ≡ 5) × (secondsAt 20 (freshStart 20) (told cutShort plenty) ≡ 5)
+  pub roomForTheRise : Cell-0-is (send 0x41 0xAA) (8 * 48) 0xAA
+  pub noRoomForIt : Cell-0-is (send 0x41 0xAA) (8 * 48 - 1) 0
+
+pub runExamples : RunExamples
+unfolding runOf runPieces onPiece onto piecesFrom cut turnOf frameOf le16Of le32Of decodedOf isKind writeOf powerOf foundOf placeFrom
+    stepOf waitOf eventOf actedOf refusesOf acceptedOf acceptedDrives acceptedDrive acceptedStrobe allLevels linesOff acceptedVia freshVia ticks written portsWritten wiresOf
+    acceptedPhase shown stepWires between next acts act put decode named fetch replace
+    answeredAfter stateAfter historyOf wiresAt rises ended protectAt endedClear last secondsAt
+runExamples = record {
+  write = (refl, refl);
+  fifteenRises = (refl, refl);
+  underProtect = (refl, refl);
+  clearedAgain = (refl, refl);
+  halfSent = (refl, refl);
+  powerCut = (refl, refl);
+  powerCutSeconds = (refl, refl);
+  roomForTheRise = (refl, refl);
+  noRoomForIt = (refl, refl);
+}

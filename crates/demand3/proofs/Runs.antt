@@ -1,0 +1,166 @@
+-- The machine drives its clock as the history's entries do; so demand 3 holds of every run, from every accepted machine and from the fresh one.
+use mathlib.Core.Path.{_≡_, refl, sym, ap, _∙_}
+use mathlib.Core.Bool.{Bool, true, false, cond}
+use mathlib.Core.List.{List, [], _∷_}
+use Prim.Native.Nat.{ℕ, _-_, _^_, _<_}
+use native.Mathlib.Omega.{arith}
+use lib.Dec.{ltb, eqb}
+use lib.ListN.{length, getD}
+use Rattle.levels.specs.Levels.{allLevels}
+use Rattle.via.specs.declared.Ports.{Ports}
+use Rattle.via.specs.Via.{freshVia, acceptedVia}
+use Rattle.iwm.specs.Lines.{linesOff}
+use Rattle.store.specs.Shared.{quiet}
+use Rattle.store.specs.Store.{counted}
+use Rattle.phase.specs.Phase.{shown, acceptedPhase}
+use Rattle.clock.specs.Step.{withStore, stepWires, stepClock}
+use Rattle.clock.proofs.Line.{settled-step}
+use Rattle.phase.specs.declared.Wires.{Wires}
+use Rattle.clock.specs.declared.Clock.{Clock}
+use Rattle.drive.specs.Drive.{acceptedDrive}
+use Rattle.strobe.specs.Strobe.{acceptedStrobe}
+use Rattle.drives.specs.Drives.{acceptedDrives}
+use Rattle.items.specs.declared.Item.{Item}
+use Rattle.items.specs.declared.Item.the-variants.{ReadVia, ReadIwm, WriteVia, WriteIwm, Blank, Second, Line, Sense, Reset, Power, Disk}
+use Rattle.items.specs.declared.Decoded.{Decoded}
+use Rattle.items.specs.declared.Decoded.the-variants.{Done, Refused}
+use Rattle.kinds.specs.Kinds.{decodedOf}
+use Rattle.machine.specs.declared.Machine.{Machine}
+use Rattle.wiring.specs.Wiring.{pin, wiresOf}
+use Rattle.machine.specs.Machine.{cellCount, wires, acceptedOf, freshMachine}
+use Rattle.action.specs.Action.{eventOf, viaRead, iwmRead, actedOf}
+use Rattle.step.specs.Step.{waitOf, waited, stepOf, refusesOf}
+use Rattle.machine.proofs.Laws.{parts}
+use Rattle.step.proofs.Drives.{disk-wires}
+use Rattle.turn.specs.Turn.{refused, carriedOut, turnBy, turnOf}
+use Rattle.run.specs.Run.{Piece, whole, broken, pieces, halt, onto, onPiece, runPieces, runOf}
+use Rattle.history.specs.History.{wiresAt}
+use Rattle.history.specs.Start.{Accepted, freshStart}
+use Rattle.history.specs.Demand3.{clockAfter}
+use Rattle.history.specs.Items.{stateAfter, Drives}
+use Rattle.demand3.specs.Runs.{metBy, eventBy, eventAt, traceOf, answeredAfter, answered, startMet, Run3}
+use Rattle.history.proofs.Keeps.{step-still}
+use Rattle.history.proofs.Driven.{machine3}
+
+-- ---- one item
+
+-- Before the wires are compared an item has moved the clock's seconds by its event, and nothing else of the clock.
+acted-clock : (m : Machine) (i : Item) → actedOf m i .machine .clock ≡ withStore (m .clock) (counted (eventOf i) (m .clock .store))
+unfolding actedOf eventOf viaRead iwmRead
+acted-clock m (ReadVia w r) = refl
+acted-clock m (ReadIwm w k) = refl
+acted-clock m (WriteVia w r v) = refl
+acted-clock m (WriteIwm w k v) = refl
+acted-clock m (Blank w) = refl
+acted-clock m (Second w) = refl
+acted-clock m (Line w l v) = refl
+acted-clock m (Sense w d r v) = refl
+acted-clock m (Reset w) = refl
+acted-clock m (Power w s) = refl
+acted-clock m (Disk w d i l b) = refl
+
+-- The step by the wires with the data line as it was shown before is the step by the wires as they are after.
+settled-wires : (p : Ports) (c : Clock) (w : Wires)
+    → stepWires cellCount c w (wiresOf p (shown (c .phase))) ≡ stepWires cellCount c w (wiresOf p (shown (stepWires cellCount c w (wiresOf p (shown (c .phase))) .phase)))
+unfolding wiresOf
+settled-wires p c w = sym (settled-step cellCount c w (wiresOf p true) (pin (p .outb) (p .dirb) 1))
+
+-- An item done is the clock's step by the wires after it.
+done-is : (m : Machine) (i : Item) → stepOf m i .machine .clock ≡ stepClock cellCount (eventOf i) (m .clock) (wires m) (wires (stepOf m i .machine))
+unfolding stepOf
+done-is m i =
+    let a : Machine = actedOf (waited (waitOf i) m) i .machine in
+    settled-wires (a .via .ports) (a .clock) (wires m)
+    ∙ ap (λ (c : Clock). stepWires cellCount c (wires m) (wires (stepOf m i .machine))) (acted-clock (waited (waitOf i) m) i)
+
+-- A DI done leaves the whole clock as it is.
+pub disk-still : (m : Machine) (w d i l b : ℕ) → Accepted cellCount (m .clock) (wires m) → stepOf m (Disk w d i l b) .machine .clock ≡ m .clock
+unfolding stepOf waitOf actedOf
+disk-still m w d i l b ok =
+    ap (stepWires cellCount (m .clock) (wires m)) (disk-wires m w d i l b) ∙ step-still cellCount (m .clock) (wires m) ok
+
+-- A refused one leaves all as it is.
+refused-is : (m : Machine) → Accepted cellCount (m .clock) (wires m) → m .clock ≡ stepClock cellCount quiet (m .clock) (wires m) (wires m)
+refused-is m ok = sym (step-still cellCount (m .clock) (wires m) ok)
+
+turn-is : (m : Machine) (d : Decoded) → Accepted cellCount (m .clock) (wires m)
+    → turnBy m d .machine .clock ≡ stepClock cellCount (eventBy m d) (m .clock) (wires m) (wires (turnBy m d .machine))
+turn-is m (Refused n) ok = refused-is m ok
+turn-is m (Done x) ok = go (eqb (refusesOf m x) 0)
+  where
+    turn : Bool → Machine
+    turn t = cond t (carriedOut (stepOf m x)) (refused m (refusesOf m x)) .machine
+
+    go : (t : Bool) → turn t .clock ≡ stepClock cellCount (cond t (eventOf x) quiet) (m .clock) (wires m) (wires (turn t))
+    go true = done-is m x
+    go false = refused-is m ok
+
+met-is : (p : Piece) (m : Machine) → Accepted cellCount (m .clock) (wires m)
+    → metBy p m .clock ≡ stepClock cellCount (eventAt p m) (m .clock) (wires m) (wires (metBy p m))
+unfolding turnOf
+met-is (whole s) m ok = turn-is m (decodedOf s) ok
+met-is broken m ok = refused-is m ok
+
+pub drives : Drives cellCount (λ (m : Machine). m .clock) wires metBy traceOf
+unfolding clockAfter wiresAt
+drives = record { clock-is = met-is; wires-are = λ p m ok. refl }
+
+-- ---- the run
+
+ran-pieces : (m : Machine) (before ps : List Piece) (room : ℕ)
+    → runPieces (stateAfter metBy m before) ps room .machine ≡ stateAfter metBy m (answeredAfter before ps room)
+unfolding runPieces onPiece onto answeredAfter stateAfter
+ran-pieces m before [] room = refl
+ran-pieces m before (broken ∷ ps) room = go (ltb room 8)
+  where
+    M : Machine
+    M = stateAfter metBy m before
+
+    go : (t : Bool) → cond t (halt M 6) (onPiece M broken (λ m₁. runPieces m₁ ps (room - 8))) .machine ≡ stateAfter metBy m (cond t before (broken ∷ before))
+    go true = refl
+    go false = refl
+ran-pieces m before (whole s ∷ ps) room = go (ran-pieces m (whole s ∷ before) ps (room - 8)) (ltb room 8)
+  where
+    M : Machine
+    M = stateAfter metBy m before
+
+    go : runPieces (turnOf M s .machine) ps (room - 8) .machine ≡ stateAfter metBy m (answeredAfter (whole s ∷ before) ps (room - 8)) → (t : Bool)
+        → cond t (halt M 6) (onPiece M (whole s) (λ m₁. runPieces m₁ ps (room - 8))) .machine ≡ stateAfter metBy m (cond t before (answeredAfter (whole s ∷ before) ps (room - 8)))
+    go q true = refl
+    go q false = q
+
+-- What a run hands back is the state after the pieces answered.
+pub ran-is : (m : Machine) → acceptedOf m ≡ true → (list : List ℕ) (room : ℕ) → runOf m list room .machine ≡ stateAfter metBy m (answered list room)
+unfolding runOf stateAfter
+ran-is m a list room = ap (λ (t : Bool). cond t (runPieces m (pieces list) room) (halt m 7) .machine) a ∙ ran-pieces m [] (pieces list) room
+
+-- ---- demand 3
+
+pub accepted-clock : (m : Machine) → acceptedOf m ≡ true → length (m .clock .store .cells) ≡ cellCount → m .clock .store .seconds < 2 ^ 32
+    → Accepted cellCount (m .clock) (wires m)
+accepted-clock m a l u = record { phase = parts m a .phase; cells = l; seconds = u }
+
+pub run3 : (m : Machine) → acceptedOf m ≡ true → Accepted cellCount (m .clock) (wires m) → (list : List ℕ) (room : ℕ) → Run3 m list room (runOf m list room .machine)
+run3 m a ok list room =
+    let is : List Piece = answered list room in
+    let r = ran-is m a list room in
+    let d = machine3 cellCount (λ (m : Machine). m .clock) wires metBy traceOf drives m ok in
+    record {
+      cells = λ i l. ap (λ (x : Machine). getD (x .clock .store .cells) i 0) r ∙ d is .cells i l;
+      seconds = ap (λ (x : Machine). x .clock .store .seconds) r ∙ d is .seconds;
+      protect = ap (λ (x : Machine). x .clock .store .protect) r ∙ d is .protect;
+      test = ap (λ (x : Machine). x .clock .store .test) r ∙ d is .test;
+      underProtect = λ is js ls q p k. d is .underProtect js p k;
+    }
+
+-- The fresh machine, and what its history starts from: cells, seconds, protect and test 0, wires 1, no stretch open.
+pub start-fresh : startMet freshMachine ≡ freshStart cellCount
+unfolding freshVia wiresOf shown
+start-fresh = refl
+
+pub fresh-ok : acceptedOf freshMachine ≡ true
+unfolding acceptedOf freshVia linesOff acceptedVia allLevels acceptedPhase wiresOf shown acceptedDrive acceptedStrobe acceptedDrives
+fresh-ok = refl
+
+pub run3-fresh : (list : List ℕ) (room : ℕ) → Run3 freshMachine list room (runOf freshMachine list room .machine)
+run3-fresh list room = run3 freshMachine fresh-ok (accepted-clock freshMachine fresh-ok refl (omega arith)) list room

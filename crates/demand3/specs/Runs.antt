@@ -1,0 +1,74 @@
+-- Demand 3 of a run over a list of bytes: "every list of bytes, every answer room".
+use mathlib.Core.Path.{_≡_}
+use mathlib.Core.Bool.{true, cond}
+use mathlib.Core.List.{List, [], _∷_, _++_}
+use Prim.Native.Nat.{ℕ, _+_, _-_, _<_}
+use lib.Dec.{ltb, eqb}
+use lib.ListN.{getD}
+use Rattle.store.specs.Shared.{Event, quiet, wrap}
+use Rattle.clock.specs.declared.Clock.{Clock}
+use Rattle.items.specs.declared.Decoded.{Decoded}
+use Rattle.items.specs.declared.Decoded.the-variants.{Done, Refused}
+use Rattle.kinds.specs.Kinds.{decodedOf}
+use Rattle.machine.specs.declared.Machine.{Machine}
+use Rattle.machine.specs.Machine.{cellCount, wires}
+use Rattle.action.specs.Action.{eventOf}
+use Rattle.step.specs.Step.{refusesOf}
+use Rattle.turn.specs.Turn.{turnOf}
+use Rattle.run.specs.Run.{Piece, whole, broken, pieces}
+use Rattle.history.specs.History.{Start, Entry, History, cellAt, testAt, protectAt, secondsAt, gained, Kept}
+use Rattle.history.specs.Start.{startOf}
+use Rattle.history.specs.Items.{stateAfter, historyOf, entriesSince}
+
+-- The state after one piece of the list: a record, done or refused; bytes that are no record, refused with 1, which leave it as it is.
+abbrev pub metBy : Piece → Machine → Machine
+metBy (whole s) m = turnOf m s .machine
+metBy broken m = m
+
+-- "An SE done adds 1 and a PW done its seconds off": a refused record has no event.
+abbrev pub eventBy : Machine → Decoded → Event
+eventBy m (Done x) = cond (eqb (refusesOf m x) 0) (eventOf x) quiet
+eventBy m (Refused n) = quiet
+
+abbrev pub eventAt : Piece → Machine → Event
+eventAt (whole s) m = eventBy m (decodedOf s)
+eventAt broken m = quiet
+
+-- "An entry .. for each item answered: enable, data-clock and data after it."
+abbrev pub traceOf : Piece → Machine → List Entry
+traceOf p m = record { wires = wires (metBy p m); event = eventAt p m } ∷ []
+
+-- The pieces answered, the newest first, after those before, as far as the run goes. Bytes refused with 1 are answered: they have an entry, which
+-- changes nothing, and are the last. The item at which the run stops with 6 is not answered and has none.
+unfoldable pub answeredAfter : List Piece → List Piece → ℕ → List Piece
+answeredAfter before [] room = before
+answeredAfter before (broken ∷ ps) room = cond (ltb room 8) before (broken ∷ before)
+answeredAfter before (whole s ∷ ps) room = cond (ltb room 8) before (answeredAfter (whole s ∷ before) ps (room - 8))
+
+abbrev pub answered : List ℕ → ℕ → List Piece
+answered list room = answeredAfter [] (pieces list) room
+
+-- The clock after some pieces, from the machine m; their history; the entries of later ones.
+abbrev pub clockMet : Machine → List Piece → Clock
+clockMet m is = stateAfter metBy m is .clock
+
+abbrev pub historyMet : Machine → List Piece → History
+historyMet m is = historyOf metBy traceOf m is
+
+abbrev pub entriesMet : Machine → List Piece → List Piece → List Entry
+entriesMet m is js = entriesSince metBy traceOf m is js
+
+abbrev pub startMet : Machine → Start
+startMet m = startOf (m .clock) (wires m)
+
+-- Demand 3 of a run of the list from the machine m, with so much room, that hands back the machine r.
+pub record Run3 (m : Machine) (list : List ℕ) (room : ℕ) (r : Machine) : Type 0 where
+  pub cells : (i : ℕ) → i < cellCount → getD (r .clock .store .cells) i 0 ≡ cellAt cellCount (startMet m) i (historyMet m (answered list room))
+  pub seconds : r .clock .store .seconds ≡ secondsAt cellCount (startMet m) (historyMet m (answered list room))
+  pub protect : r .clock .store .protect ≡ protectAt cellCount (startMet m) (historyMet m (answered list room))
+  pub test : r .clock .store .test ≡ testAt cellCount (startMet m) (historyMet m (answered list room))
+  -- "From the start or an item", after the items is, "up to any later item", after js too; ls are those after it.
+  pub underProtect : (is js ls : List Piece) → ls ++ (js ++ is) ≡ answered list room → clockMet m is .store .protect ≡ true
+      → Kept cellCount (startMet m) (historyMet m is) (entriesMet m is js)
+      → (clockMet m (js ++ is) .store .cells ≡ clockMet m is .store .cells)
+      × (clockMet m (js ++ is) .store .seconds ≡ wrap (clockMet m is .store .seconds + gained cellCount (startMet m) (historyMet m is) (entriesMet m is js)))

@@ -1,0 +1,33 @@
+use mathlib.Core.Path.{_≡_, ap, _∙_}
+use denote.Ref.{now}
+use Rattle.layout.proofs.Parts.{whole}
+use Rattle.drivebytes.specs.Layout.{driveFields, driveOf}
+use borrow.Author.Needs.{needs}
+use Rattle.drivebytes.proofs.drive.Statement.{statement}
+use Rattle.drivebytes.proofs.drive.Tie as tie
+use Rattle.drivebytes.proofs.drive.Reads as reads
+use Rattle.drivebytes.proofs.drive.Lts as lts
+use Rattle.drivebytes.proofs.drive_of.Reads as drive-of-reads
+use Rattle.record.proofs.copy.Reads as copy-reads
+
+-- src/lib.rt:88:18
+slice-aggregate-copy : tie.Need-slice-aggregate-copy
+slice-aggregate-copy c = search needs
+
+-- src/lib.rt:88:5
+copy-requires : tie.Need-copy-requires
+copy-requires c κs = search needs
+
+-- src/lib.rt:89:5
+drive-of-requires : tie.Need-drive-of-requires
+drive-of-requires c κs = search needs
+
+-- src/lib.rt:83:1
+returns : tie.Need-returns
+unfolding driveOf
+returns c =
+    let b : c .before .before .copy .last .0 ≡ now (c .before .before .before .before .before .args .s) = c .before .before .copy .ensures ∙ whole _ _ (search needs) in
+    c .drive-of .ensures ∙ ap driveFields b
+
+pub drive-spec : {M : Type 1} → statement M
+drive-spec = tie.close (tie.spec slice-aggregate-copy copy-requires drive-of-requires returns)

@@ -1,0 +1,33 @@
+use mathlib.Core.Path.{_≡_, ap, _∙_}
+use denote.Ref.{now}
+use Rattle.layout.proofs.Parts.{whole}
+use Rattle.drivebytes.specs.Layout.{strobeFields, strobeOf}
+use borrow.Author.Needs.{needs}
+use Rattle.drivebytes.proofs.strobe.Statement.{statement}
+use Rattle.drivebytes.proofs.strobe.Tie as tie
+use Rattle.drivebytes.proofs.strobe.Reads as reads
+use Rattle.drivebytes.proofs.strobe.Lts as lts
+use Rattle.drivebytes.proofs.strobe_of.Reads as strobe-of-reads
+use Rattle.record.proofs.copy.Reads as copy-reads
+
+-- src/lib.rt:97:18
+slice-aggregate-copy : tie.Need-slice-aggregate-copy
+slice-aggregate-copy c = search needs
+
+-- src/lib.rt:97:5
+copy-requires : tie.Need-copy-requires
+copy-requires c κs = search needs
+
+-- src/lib.rt:98:5
+strobe-of-requires : tie.Need-strobe-of-requires
+strobe-of-requires c κs = search needs
+
+-- src/lib.rt:92:1
+returns : tie.Need-returns
+unfolding strobeOf
+returns c =
+    let b : c .before .before .copy .last .0 ≡ now (c .before .before .before .before .before .args .s) = c .before .before .copy .ensures ∙ whole _ _ (search needs) in
+    c .strobe-of .ensures ∙ ap strobeFields b
+
+pub strobe-spec : {M : Type 1} → statement M
+strobe-spec = tie.close (tie.spec slice-aggregate-copy copy-requires strobe-of-requires returns)

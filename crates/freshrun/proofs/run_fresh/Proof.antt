@@ -1,0 +1,50 @@
+use mathlib.Core.Path.{_≡_, sym, ap, subst, _∙_}
+use lib.ListN.{length}
+use denote.Ref.{now}
+use Rattle.machine.specs.declared.Machine.{Machine}
+use Rattle.machine.specs.Machine.{freshMachine}
+use Rattle.run.specs.declared.Ran.{Ran}
+use Rattle.run.specs.Run.{ranOf, over, runOf}
+use Rattle.demand3.specs.Runs.{Run3}
+use Rattle.demand3.proofs.Runs.{run3-fresh}
+use borrow.Author.Needs.{needs}
+use Rattle.freshrun.proofs.run_fresh.Statement.{statement}
+use Rattle.freshrun.proofs.run_fresh.Tie as tie
+use Rattle.freshrun.proofs.run_fresh.Reads as reads
+use Rattle.freshrun.proofs.run_fresh.Lts as lts
+use Rattle.machine.proofs.fresh.Reads as fresh-reads
+use Rattle.run.proofs.run.Reads as run-reads
+
+-- src/lib.rt:17:14
+fresh-requires : tie.Need-fresh-requires
+fresh-requires c κs = search needs
+
+-- src/lib.rt:17:5
+run-requires : tie.Need-run-requires
+run-requires c κs = search needs
+
+-- src/lib.rt:11:1
+same-length : tie.Need-same-length
+same-length c = search needs
+
+-- src/lib.rt:11:1
+returns : tie.Need-returns
+returns c =
+    let args = c .before .before .before .before .before .before .before .args in
+    let list = now (args .list) in
+    let answers = now (args .answers) in
+    let fresh = c .before .before .before .before .fresh .ensures in
+    let told = c .before .before .run .ensures in
+    let first = told .0 ∙ ap (λ (m : Machine). ranOf (runOf m list (length answers))) fresh in (
+      first,
+      (
+        told .1 .0 ∙ ap (λ (m : Machine). over (runOf m list (length answers)) answers) fresh,
+        (
+          told .1 .1,
+          subst (λ (r : Ran). Run3 freshMachine list (length answers) (r .machine)) (sym first) (run3-fresh list (length answers)),
+        ),
+      ),
+    )
+
+pub run-fresh-spec : {M : Type 1} → statement M
+run-fresh-spec = tie.close (tie.spec fresh-requires run-requires same-length returns)

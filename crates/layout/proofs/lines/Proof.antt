@@ -1,0 +1,37 @@
+use mathlib.Core.Path.{_∙_}
+use Rattle.layout.proofs.Parts.{whole}
+use borrow.Author.Needs.{needs}
+use Rattle.layout.proofs.lines.Statement.{statement}
+use Rattle.layout.proofs.lines.Tie as tie
+use Rattle.layout.proofs.lines.Reads as reads
+use Rattle.layout.proofs.lines.Lts as lts
+use Rattle.record.proofs.copy.Reads as copy-reads
+
+-- src/lib.rt:71:18
+slice-aggregate-copy : tie.Need-slice-aggregate-copy
+slice-aggregate-copy c = search needs
+
+-- src/lib.rt:71:31
+sub-copy : tie.Need-sub-copy
+sub-copy c = search needs
+
+-- src/lib.rt:71:31
+part-copy-start : tie.Need-part-copy-start
+part-copy-start c = search needs
+
+-- src/lib.rt:71:31
+part-copy-end : tie.Need-part-copy-end
+part-copy-end c = search needs
+
+-- src/lib.rt:71:5
+copy-requires : tie.Need-copy-requires
+copy-requires c κs = search needs
+
+-- src/lib.rt:66:1
+returns : tie.Need-returns
+returns c = c .before .copy .ensures ∙ whole _ _ (search needs)
+
+pub lines-spec : {M : Type 1} → statement M
+lines-spec =
+    tie.close
+    (tie.spec slice-aggregate-copy sub-copy part-copy-start part-copy-end copy-requires returns)

@@ -1,0 +1,120 @@
+-- The layout of a state's image: request W-201, "one record of kind ST, its layout written in docs/".
+use Prim.Native.Nat.{ℕ, _+_, _-_, _*_, _/_, _%_}
+use mathlib.Core.Bool.{Bool, true, false, _&&_}
+use mathlib.Core.List.{List, [], _∷_, _++_}
+use lib.ListN.{getD, take, drop}
+use lib.Dec.{eqb}
+use mir.Val.{boolByte}
+
+-- ---- the length of each part
+
+-- "a length (2 bytes, counting what follows it), a kind (2 bytes)"
+abbrev pub headLength : ℕ
+headLength = 4
+
+abbrev pub viaLength : ℕ
+viaLength = 19
+
+abbrev pub phaseLength : ℕ
+phaseLength = 4
+
+-- protect, test and seconds
+abbrev pub registersLength : ℕ
+registersLength = 6
+
+abbrev pub cellsLength : ℕ
+cellsLength = 20
+
+abbrev pub linesLength : ℕ
+linesLength = 8
+
+abbrev pub inputsLength : ℕ
+inputsLength = 7
+
+abbrev pub senseLength : ℕ
+senseLength = 32
+
+abbrev pub driveLength : ℕ
+driveLength = 9
+
+abbrev pub strobeLength : ℕ
+strobeLength = 5
+
+-- ---- where each part begins, and the length of the whole
+
+abbrev pub viaAt : ℕ
+viaAt = headLength
+
+abbrev pub phaseAt : ℕ
+phaseAt = viaAt + viaLength
+
+abbrev pub registersAt : ℕ
+registersAt = phaseAt + phaseLength
+
+abbrev pub cellsAt : ℕ
+cellsAt = registersAt + registersLength
+
+abbrev pub linesAt : ℕ
+linesAt = cellsAt + cellsLength
+
+abbrev pub inputsAt : ℕ
+inputsAt = linesAt + linesLength
+
+abbrev pub senseAt : ℕ
+senseAt = inputsAt + inputsLength
+
+abbrev pub internalAt : ℕ
+internalAt = senseAt + senseLength
+
+abbrev pub externalAt : ℕ
+externalAt = internalAt + driveLength
+
+abbrev pub strobeAt : ℕ
+strobeAt = externalAt + driveLength
+
+abbrev pub imageLength : ℕ
+imageLength = strobeAt + strobeLength
+
+-- The n bytes from `at` on.
+abbrev pub part : ℕ → ℕ → List ℕ → List ℕ
+part at n s = take n (drop at s)
+
+-- ---- numbers and flags in bytes
+
+-- "Numbers are little-endian": two bytes of a number, and four.
+abbrev pub bytes16 : ℕ → List ℕ
+bytes16 n = n % 256 ∷ n / 256 % 256 ∷ []
+
+abbrev pub bytes32 : ℕ → List ℕ
+bytes32 n = n % 256 ∷ n / 256 % 256 ∷ n / 65536 % 256 ∷ n / 16777216 % 256 ∷ []
+
+-- A flag is 0 or 1.
+abbrev pub flagByte : Bool → ℕ
+flagByte b = boolByte b
+
+-- The byte at i; what stands in an image is below 256.
+abbrev pub byteAt : List ℕ → ℕ → ℕ
+byteAt s i = getD s i 0 % 256
+
+abbrev pub number16 : List ℕ → ℕ → ℕ
+number16 s i = byteAt s i + byteAt s (i + 1) * 256
+
+abbrev pub number32 : List ℕ → ℕ → ℕ
+number32 s i = byteAt s i + byteAt s (i + 1) * 256 + byteAt s (i + 2) * 65536 + byteAt s (i + 3) * 16777216
+
+abbrev pub flagAt : List ℕ → ℕ → Bool
+flagAt s i = eqb (getD s i 0) 1
+
+-- ---- the head
+
+-- "A record is a length (2 bytes, counting what follows it), a kind (2 bytes), a body." S is 83, T 84.
+unfoldable pub headBytes : List ℕ
+headBytes = bytes16 (imageLength - 2) ++ (83 ∷ 84 ∷ [])
+
+-- ---- the same bytes
+
+unfoldable pub sameBytes : List ℕ → List ℕ → Bool
+sameBytes [] [] = true
+sameBytes [] (y ∷ ys) = false
+sameBytes (x ∷ xs) [] = false
+sameBytes (x ∷ xs) (y ∷ ys) = eqb x y && sameBytes xs ys

@@ -1,0 +1,5 @@
+pub mod Accepted
+pub mod Bits
+pub mod Exact
+pub mod Flags
+pub mod Kept

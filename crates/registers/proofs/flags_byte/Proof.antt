@@ -1,0 +1,29 @@
+use borrow.Author.Needs.{needs}
+use Rattle.registers.specs.Registers.{flagsByte}
+use borrow.Author.Tests.{lt-ltb, le-ltb, le-leb, lt-leb, eq-eqb, ne-eqb}
+use Rattle.registers.proofs.flags_byte.Statement.{statement}
+use Rattle.registers.proofs.flags_byte.Tie as tie
+use Rattle.registers.proofs.flags_byte.Reads as reads
+use Rattle.registers.proofs.flags_byte.Lts as lts
+use Rattle.via.proofs.pick.Reads as pick-reads
+use Rattle.via.proofs.Via.asks.Reads as asks-reads
+
+-- src/lib.rt:136:10
+asks-requires : tie.Need-asks-requires
+asks-requires c κs = search needs
+
+-- src/lib.rt:136:22
+add-pick : tie.Need-add-pick
+add-pick c = search needs
+
+-- src/lib.rt:136:5
+pick-requires : tie.Need-pick-requires
+pick-requires c κs = search needs
+
+-- src/lib.rt:133:1
+returns : tie.Need-returns
+unfolding flagsByte
+returns c = simp (← c .before .before .before .asks .ensures, ← c .pick .ensures)
+
+pub flags-byte-spec : {M : Type 1} → statement M
+flags-byte-spec = tie.close (tie.spec asks-requires add-pick pick-requires returns)

@@ -1,0 +1,14 @@
+use mathlib.Core.Path.{refl}
+use Rattle.via.specs.Via.{portLevel}
+use Rattle.registers.proofs.port.Statement.{statement}
+use Rattle.registers.proofs.port.Tie as tie
+use Rattle.registers.proofs.port.Reads as reads
+use Rattle.registers.proofs.port.Lts as lts
+
+-- src/lib.rt:90:1
+returns : tie.Need-returns
+unfolding portLevel
+returns c = refl
+
+pub port-spec : {M : Type 1} → statement M
+port-spec = tie.close (tie.spec returns)

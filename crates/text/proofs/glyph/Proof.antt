@@ -1,0 +1,28 @@
+use borrow.Author.Needs.{needs}
+use Rattle.text.specs.Text.{glyphOf}
+use borrow.Author.Tests.{lt-ltb, le-ltb, le-leb, lt-leb, eq-eqb, ne-eqb}
+use Rattle.text.proofs.glyph.Statement.{statement}
+use Rattle.text.proofs.glyph.Tie as tie
+use Rattle.text.proofs.glyph.Reads as reads
+use Rattle.text.proofs.glyph.Lts as lts
+
+-- src/lib.rt:26:17
+add-result : tie.Need-add-result
+add-result c = search needs
+
+-- src/lib.rt:26:33
+add-result-2 : tie.Need-add-result-2
+add-result-2 c = search needs
+
+-- src/lib.rt:22:1
+returns : tie.Need-returns
+unfolding glyphOf
+returns c = simp (lt-ltb _ _ (c .if1 .taken))
+
+-- src/lib.rt:22:1
+returns-2 : tie.Need-returns-2
+unfolding glyphOf
+returns-2 c = simp (le-ltb _ _ (c .if1 .left))
+
+pub glyph-spec : {M : Type 1} → statement M
+glyph-spec = tie.close (tie.spec add-result add-result-2 returns returns-2)

@@ -1,0 +1,53 @@
+-- W-205: "Levels 3 and 7 never appear", in the answer to any record.
+use Prim.Native.Nat.{ℕ}
+use mathlib.Core.Path.{_≡_, refl}
+use mathlib.Core.Bool.{Bool, true, false, cond}
+use mathlib.Core.List.{List}
+use native.Mathlib.Omega.{arith}
+use lib.ListN.{getD}
+use lib.Dec.{eqb}
+use Rattle.record.specs.declared.Answer.{Answer}
+use Rattle.record.specs.Record.{noOf}
+use Rattle.levels.proofs.Laws.{level-at}
+use Rattle.via.specs.Via.{levelOf}
+use Rattle.wiring.proofs.Interrupts.{never}
+use Rattle.items.specs.declared.Item.{Item}
+use Rattle.items.specs.declared.Decoded.{Decoded}
+use Rattle.items.specs.declared.Decoded.the-variants.{Done, Refused}
+use Rattle.items.specs.Items.{InRange}
+use Rattle.kinds.specs.Kinds.{decodedOf}
+use Rattle.kinds.proofs.Range.{decoded-range}
+use Rattle.machine.specs.declared.Machine.{Machine}
+use Rattle.machine.specs.Machine.{acceptedOf}
+use Rattle.machine.proofs.Laws.{parts}
+use Rattle.step.specs.Step.{stepOf, refusesOf, answerOf}
+use Rattle.step.proofs.Laws.{via-level}
+use Rattle.step.proofs.Keeps.{step-keeps}
+use Rattle.turn.specs.Turn.{refused, carriedOut, turnBy, turnOf}
+
+-- Neither level 3 nor level 7.
+abbrev pub Ordinary : Answer → Type 0
+Ordinary a = (a .level ≡ 3 → ⊥) × (a .level ≡ 7 → ⊥)
+
+pub no-ordinary : (n : ℕ) → Ordinary (noOf n)
+unfolding noOf
+no-ordinary n = (λ (e : _≡_ {A = ℕ} 0 3). omega arith, λ (e : _≡_ {A = ℕ} 0 7). omega arith)
+
+done-ordinary : (m : Machine) (x : Item) → InRange x → acceptedOf m ≡ true → Ordinary (answerOf (stepOf m x))
+unfolding answerOf
+done-ordinary m x r h =
+    let n = stepOf m x .machine in
+    let l = parts n (step-keeps m x r h) .levels .1 in
+    never (levelOf (n .via)) (getD (n .inputs) 5 0) (getD (n .inputs) 6 0) (via-level (n .via)) (level-at (n .inputs) 5 l) (level-at (n .inputs) 6 l)
+
+pub turn-ordinary : (m : Machine) (s : List ℕ) → acceptedOf m ≡ true → Ordinary (turnOf m s .answer)
+unfolding turnOf
+turn-ordinary m s h = go (decodedOf s) refl
+  where
+    go : (d : Decoded) → decodedOf s ≡ d → Ordinary (turnBy m d .answer)
+    go (Refused n) p = no-ordinary n
+    go (Done x) p = judge (eqb (refusesOf m x) 0)
+      where
+        judge : (t : Bool) → Ordinary ((cond t (carriedOut (stepOf m x)) (refused m (refusesOf m x))) .answer)
+        judge true = done-ordinary m x (decoded-range s x p) h
+        judge false = no-ordinary (refusesOf m x)

@@ -1,0 +1,44 @@
+// One whole record: what it says is decoded, judged by the state, carried out and answered.
+ghost use mathlib.Core.Path.{_≡_};
+ghost use mathlib.Core.Bool.{true};
+ghost use Prim.Native.Nat.{_≤_};
+ghost use lib.ListN.{length};
+ghost use Rattle.machine.specs.Machine.{acceptedOf};
+ghost use Rattle.turn.specs.Turn.{turnOf};
+use items::Decoded;
+use machine::Machine;
+use record::Answer;
+
+// What one record leaves: the next machine and its answer.
+pub struct Turn {
+    pub machine: Machine,
+    pub answer: Answer,
+}
+
+// One whole record, its bytes after the length.
+pub fn turn_of(m: Machine, s: &[u8]) -> Turn
+    requires { ⌜ acceptedOf m ≡ true ⌝ }
+    requires { ⌜ 2 ≤ length (now s) ⌝ }
+    ensures { λ r. ⌜ r ≡ turnOf m (now (s .entry)) ⌝ }
+{
+    let d = kinds::decode(s);
+    let Decoded::Done(item) = d else {
+        return Turn {
+            machine: m,
+            answer: record::no(items::refusal(d)),
+        };
+    };
+    let n = step::refuses(m, item);
+    if n != 0 {
+        return Turn {
+            machine: m,
+            answer: record::no(n),
+        };
+    }
+    let did = step::step(m, item);
+    let next = did.machine;
+    Turn {
+        machine: next,
+        answer: step::answer(did),
+    }
+}

@@ -1,0 +1,43 @@
+use mathlib.Core.Path.{ap, _∙_}
+use denote.Ref.{now}
+use Rattle.record.specs.Record.{putAt}
+use Rattle.layout.specs.Layout.{viaAt}
+use Rattle.viabytes.specs.Layout.{viaBytes, ViaTyped}
+use borrow.Author.Needs.{needs}
+use Rattle.viabytes.proofs.put_via.Statement.{statement}
+use Rattle.viabytes.proofs.put_via.Tie as tie
+use Rattle.viabytes.proofs.put_via.Reads as reads
+use Rattle.viabytes.proofs.put_via.Lts as lts
+use Rattle.record.proofs.copy.Reads as copy-reads
+use Rattle.viabytes.proofs.via_bytes.Reads as via-bytes-reads
+
+-- what the type of the VIA handed in says of it
+typed : (c : tie.Start) → ViaTyped (c .args .v)
+typed c = search needs
+
+-- src/lib.rt:75:13
+via-bytes-requires : tie.Need-via-bytes-requires
+via-bytes-requires c κs = search needs
+
+-- src/lib.rt:76:38
+slice-aggregate-copy : tie.Need-slice-aggregate-copy
+slice-aggregate-copy c = search needs
+
+-- src/lib.rt:76:5
+copy-requires : tie.Need-copy-requires
+copy-requires c κs = search needs
+
+-- src/lib.rt:70:1
+same-length : tie.Need-same-length
+same-length c = search needs
+
+-- src/lib.rt:70:1
+returns : tie.Need-returns
+unfolding viaBytes
+returns c =
+    let b = c .before .before .before .before .before in
+    (c .before .before .copy .ensures ∙ ap (putAt (now (b .before .before .args .image)) viaAt) (b .via-bytes .ensures), typed (b .before .before))
+
+pub put-via-spec : {M : Type 1} → statement M
+put-via-spec =
+    tie.close (tie.spec via-bytes-requires slice-aggregate-copy copy-requires same-length returns)

@@ -1,0 +1,55 @@
+use mathlib.Core.Path.{_≡_, ap, _∙_}
+use denote.Ref.{now}
+use Rattle.layout.specs.Layout.{viaAt, viaLength, part}
+use Rattle.layout.proofs.Parts.{whole}
+use Rattle.viabytes.specs.Layout.{viaFields, viaOf}
+use borrow.Author.Needs.{needs}
+use Rattle.viabytes.proofs.via.Statement.{statement}
+use Rattle.viabytes.proofs.via.Tie as tie
+use Rattle.viabytes.proofs.via.Reads as reads
+use Rattle.viabytes.proofs.via.Lts as lts
+use Rattle.record.proofs.copy.Reads as copy-reads
+use Rattle.viabytes.proofs.via_of.Reads as via-of-reads
+
+-- src/lib.rt:84:18
+slice-aggregate-copy : tie.Need-slice-aggregate-copy
+slice-aggregate-copy c = search needs
+
+-- src/lib.rt:84:29
+sub-copy : tie.Need-sub-copy
+sub-copy c = search needs
+
+-- src/lib.rt:84:29
+part-copy-start : tie.Need-part-copy-start
+part-copy-start c = search needs
+
+-- src/lib.rt:84:29
+part-copy-end : tie.Need-part-copy-end
+part-copy-end c = search needs
+
+-- src/lib.rt:84:5
+copy-requires : tie.Need-copy-requires
+copy-requires c κs = search needs
+
+-- src/lib.rt:85:5
+via-of-requires : tie.Need-via-of-requires
+via-of-requires c κs = search needs
+
+-- src/lib.rt:79:1
+returns : tie.Need-returns
+unfolding viaOf
+returns c =
+    let b : c .before .before .copy .last .0 ≡ part viaAt viaLength (now (c .before .before .before .before .before .before .args .image)) = c .before .before .copy .ensures ∙ whole _ _ (search needs) in
+    c .via-of .ensures ∙ ap viaFields b
+
+pub via-spec : {M : Type 1} → statement M
+via-spec =
+    tie.close
+    (tie.spec
+    slice-aggregate-copy
+    sub-copy
+    part-copy-start
+    part-copy-end
+    copy-requires
+    via-of-requires
+    returns)
