@@ -1,24 +1,19 @@
 -- The action of an item, by document 01: "only then does its wait pass, and only then its action".
 use Prim.Native.Nat.{ℕ, _+_, _*_}
-use mathlib.Core.Bool.{Bool, cond}
+use mathlib.Core.Bool.{cond}
 use lib.Dec.{eqb}
-use lib.ListN.{getD, set}
-use Rattle.registers.specs.declared.Access.{Access}
+use lib.ListN.{set}
 use Rattle.via.specs.Via.{freshVia, raisedOf, resetOf}
 use Rattle.via.specs.Writes.{written}
-use Rattle.registers.specs.Registers.{readOf}
 use Rattle.store.specs.Shared.{Event, quiet, second, off}
-use Rattle.store.specs.Store.{counted}
-use Rattle.phase.specs.Phase.{shown}
-use Rattle.clock.specs.Step.{withStore}
-use Rattle.iwm.specs.Lines.{linesOff, accessed, senseAt, readLine}
-use Rattle.drives.specs.Drives.{placed, drivesPowered, drivesShown}
+use Rattle.iwm.specs.Lines.{linesOff, accessed}
+use Rattle.drives.specs.Drives.{placed, drivesPowered}
 use Rattle.items.specs.declared.Item.{Item}
 use Rattle.items.specs.declared.Item.the-variants.{ReadVia, ReadIwm, WriteVia, WriteIwm, Blank, Second, Line, Sense, Reset, Power, Disk}
 use Rattle.machine.specs.declared.Machine.{Machine}
-use Rattle.machine.specs.Machine.{withVia, withClock, withDisk, withInputs, withSense, withDrives}
-use Rattle.wiring.specs.Wiring.{inputsOf, selOf}
-use Rattle.action.specs.declared.Did.{Did}
+use Rattle.machine.specs.Machine.{withVia, withDisk, withInputs, withSense, withDrives}
+use Rattle.effect.specs.declared.Did.{Did}
+use Rattle.effect.specs.Effect.{passed, noValue, viaRead, iwmRead}
 
 -- What an item does to the clock beside its wires.
 unfoldable pub eventOf : Item → Event
@@ -33,27 +28,6 @@ eventOf (Sense w d r v) = quiet
 eventOf (Reset w) = quiet
 eventOf (Power w s) = off s
 eventOf (Disk w d i l b) = quiet
-
--- SE and the time off reach the clock's seconds.
-abbrev pub passed : Event → Machine → Machine
-passed e m = withClock m (withStore (m .clock) (counted e (m .clock .store)))
-
-abbrev pub noValue : Machine → Did
-noValue m = record { machine = m; value = 0 }
-
--- RD of a VIA register.
-unfoldable pub viaRead : ℕ → Machine → Did
-viaRead r m =
-    let a = readOf r (inputsOf (shown (m .clock .phase)) (m .inputs)) (m .via) in
-    record { machine = withVia m (a .via); value = a .value }
-
--- RD of an IWM location: "Any access, read or write, first sets line k/2"; the sense is that of the selected drive's register. W-203:
--- "Sense registers 0 to 5, 12 and 15 .. now come from the drive, the others still from SN."
-unfoldable pub iwmRead : ℕ → Machine → Did
-iwmRead k m =
-    let d = accessed k (m .disk) in
-    let at = senseAt d (selOf (m .via .ports)) in
-    record { machine = withDisk m d; value = readLine k (drivesShown at (getD (m .sense) at 0) (m .drives)) d }
 
 -- The action of an item, its wait having passed. W-203: "RS changes no drive; PW stops motors, drops pending steps and keeps the rest".
 unfoldable pub actedOf : Machine → Item → Did

@@ -28,7 +28,8 @@ use Rattle.kinds.specs.Kinds.{decodedOf}
 use Rattle.machine.specs.declared.Machine.{Machine}
 use Rattle.wiring.specs.Wiring.{pin, wiresOf}
 use Rattle.machine.specs.Machine.{cellCount, wires, acceptedOf, freshMachine}
-use Rattle.action.specs.Action.{eventOf, viaRead, iwmRead, actedOf}
+use Rattle.effect.specs.Effect.{viaRead, iwmRead}
+use Rattle.action.specs.Action.{eventOf, actedOf}
 use Rattle.step.specs.Step.{waitOf, waited, stepOf, refusesOf}
 use Rattle.machine.proofs.Laws.{parts}
 use Rattle.step.proofs.Drives.{disk-wires}

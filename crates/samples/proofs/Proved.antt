@@ -20,7 +20,8 @@ use Rattle.items.specs.Items.{writeOf, plainOf, powerOf, diskOf}
 use Rattle.kinds.specs.Kinds.{isKind, decodedOf}
 use Rattle.items.specs.Items as items
 use Rattle.machine.specs.Machine.{acceptedOf}
-use Rattle.action.specs.Action.{viaRead, iwmRead, actedOf}
+use Rattle.effect.specs.Effect.{viaRead, iwmRead}
+use Rattle.action.specs.Action.{actedOf}
 use Rattle.step.specs.Step.{waitOf, stepOf, refusesOf, answerOf}
 use Rattle.turn.specs.Turn.{turnOf}
 use Rattle.run.specs.Run.{cut, piecesFrom, onto, onPiece, runPieces, runOf}

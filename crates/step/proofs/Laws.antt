@@ -28,8 +28,9 @@ use Rattle.items.proofs.Item.{the-type}
 use Rattle.machine.specs.declared.Machine.{Machine}
 use Rattle.machine.specs.Machine.{withClock, withDrives, cellCount, wires, watched, acceptedOf}
 use Rattle.machine.proofs.Laws.{parts}
-use Rattle.action.specs.declared.Did.{Did}
-use Rattle.action.specs.Action.{viaRead, actedOf}
+use Rattle.effect.specs.declared.Did.{Did}
+use Rattle.effect.specs.Effect.{viaRead}
+use Rattle.action.specs.Action.{actedOf}
 use Rattle.action.proofs.Laws.{acted-phase}
 use Rattle.action.proofs.Keeps.{act-keeps-drives}
 use Rattle.step.specs.Step.{waitOf, waited, compared, strobed, stepOf, refusesOf}

@@ -15,7 +15,7 @@ use Rattle.items.specs.declared.Item.{Item}
 use Rattle.items.specs.declared.Item.the-variants.{ReadVia, ReadIwm, WriteVia, WriteIwm, Blank, Second, Line, Sense, Reset, Power, Disk}
 use Rattle.machine.specs.declared.Machine.{Machine}
 use Rattle.machine.specs.Machine.{withVia, withClock, withDrives, cellCount, wires, watched}
-use Rattle.action.specs.declared.Did.{Did}
+use Rattle.effect.specs.declared.Did.{Did}
 use Rattle.action.specs.Action.{actedOf}
 use Rattle.wiring.specs.Wiring.{selOf, interruptLevel}
 

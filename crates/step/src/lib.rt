@@ -6,9 +6,9 @@ ghost use Rattle.phase.specs.Phase.{acceptedPhase};
 ghost use Rattle.machine.specs.declared.Machine.{Machine};
 ghost use Rattle.machine.specs.Machine.{cellCount, wires, watched, acceptedOf, Levels};
 ghost use Rattle.action.specs.Action.{actedOf};
-ghost use Rattle.step.specs.Step.{waitOf, waited, compared, strobed, stepOf, numberIf, refusesOf, answerOf};
-use action::Did;
+ghost use Rattle.step.specs.Step.{waitOf, waited, compared, strobed, stepOf, refusesOf, answerOf};
 use drives::Drives;
+use effect::Did;
 use items::Item;
 use machine::Machine;
 use phase::Wires;
@@ -84,21 +84,17 @@ pub fn step(m: Machine, item: Item) -> Did
     d
 }
 
-fn number_if(number: u8, refused: bool) -> u8
-    ensures { λ r. ⌜ r ≡ numberIf number refused ⌝ }
-{
-    if refused { number } else { 0 }
-}
-
 // The item refused by this state: its number, or 0.
 pub fn refuses(m: Machine, item: Item) -> u8
     ensures { λ r. ⌜ r ≡ refusesOf m item ⌝ }
 {
     match item {
-        Item::Disk { drive, insert, .. } => number_if(
-            8,
-            m.drives.refuses_place(drive == 1, insert == 1),
-        ),
+        Item::Disk { drive, insert, .. } => {
+            if m.drives.refuses_place(drive == 1, insert == 1) {
+                return 8;
+            }
+            0
+        }
         _ => 0,
     }
 }

@@ -25,9 +25,7 @@ pub extern "C" fn swarmtempo_fresh(image: &mut [u8]) -> u8
     if image.len() < image::LENGTH {
         return 6;
     }
-    let mut own = [0; image::LENGTH];
-    image::save(&mut own, machine::fresh());
-    record::copy(image, 0, &own);
+    image::save(&mut image[..image::LENGTH], machine::fresh());
     0
 }
 

@@ -10,7 +10,7 @@ use Rattle.items.specs.declared.Decoded.{Decoded}
 use Rattle.items.specs.declared.Decoded.the-variants.{Done, Refused}
 use Rattle.kinds.specs.Kinds.{decodedOf}
 use Rattle.machine.specs.declared.Machine.{Machine}
-use Rattle.action.specs.declared.Did.{Did}
+use Rattle.effect.specs.declared.Did.{Did}
 use Rattle.step.specs.Step.{stepOf, refusesOf, answerOf}
 use Rattle.turn.specs.declared.Turn.{Turn}
 

@@ -1,7 +1,7 @@
 use Rattle.levels.specs.Levels.{allLevels}
 use Rattle.items.specs.Items.{InRange}
 use Rattle.kinds.proofs.Range.{decoded-range}
-use Rattle.action.specs.declared.Did.{Did}
+use Rattle.effect.specs.declared.Did.{Did}
 use Rattle.machine.proofs.Laws.{parts}
 use Rattle.step.proofs.Keeps.{step-keeps}
 use borrow.Author.Needs.{needs}

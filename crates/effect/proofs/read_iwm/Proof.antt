@@ -4,12 +4,12 @@ use Rattle.levels.proofs.Laws.{level-at}
 use Rattle.iwm.specs.declared.DiskLines.{DiskLines}
 use Rattle.iwm.proofs.Laws.{access-levels, sense-below}
 use Rattle.drives.proofs.Laws.{shown-below}
-use Rattle.action.specs.Action.{iwmRead}
+use Rattle.effect.specs.Effect.{iwmRead}
 use borrow.Author.Needs.{needs}
-use Rattle.action.proofs.read_iwm.Statement.{statement}
-use Rattle.action.proofs.read_iwm.Tie as tie
-use Rattle.action.proofs.read_iwm.Reads as reads
-use Rattle.action.proofs.read_iwm.Lts as lts
+use Rattle.effect.proofs.read_iwm.Statement.{statement}
+use Rattle.effect.proofs.read_iwm.Tie as tie
+use Rattle.effect.proofs.read_iwm.Reads as reads
+use Rattle.effect.proofs.read_iwm.Lts as lts
 use Rattle.drives.proofs.Drives.shown.Reads as shown-reads
 use Rattle.iwm.proofs.DiskLines.access.Reads as access-reads
 use Rattle.iwm.proofs.DiskLines.read.Reads as read-reads

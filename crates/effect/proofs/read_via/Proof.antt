@@ -1,10 +1,10 @@
-use Rattle.action.specs.Action.{viaRead}
+use Rattle.effect.specs.Effect.{viaRead}
 use borrow.Author.Needs.{needs}
 use borrow.Author.Tests.{lt-ltb, le-ltb, le-leb, lt-leb, eq-eqb, ne-eqb}
-use Rattle.action.proofs.read_via.Statement.{statement}
-use Rattle.action.proofs.read_via.Tie as tie
-use Rattle.action.proofs.read_via.Reads as reads
-use Rattle.action.proofs.read_via.Lts as lts
+use Rattle.effect.proofs.read_via.Statement.{statement}
+use Rattle.effect.proofs.read_via.Tie as tie
+use Rattle.effect.proofs.read_via.Reads as reads
+use Rattle.effect.proofs.read_via.Lts as lts
 use Rattle.phase.proofs.shown_line.Reads as shown-line-reads
 use Rattle.registers.proofs.read.Reads as read-reads
 use Rattle.wiring.proofs.inputs_of.Reads as inputs-of-reads

@@ -1,9 +1,9 @@
 use borrow.Author.Needs.{needs}
 use borrow.Author.Tests.{lt-ltb, le-ltb, le-leb, lt-leb, eq-eqb, ne-eqb}
-use Rattle.action.proofs.reset.Statement.{statement}
-use Rattle.action.proofs.reset.Tie as tie
-use Rattle.action.proofs.reset.Reads as reads
-use Rattle.action.proofs.reset.Lts as lts
+use Rattle.effect.proofs.reset.Statement.{statement}
+use Rattle.effect.proofs.reset.Tie as tie
+use Rattle.effect.proofs.reset.Reads as reads
+use Rattle.effect.proofs.reset.Lts as lts
 use Rattle.iwm.proofs.off.Reads as off-reads
 use Rattle.via.proofs.Via.reset.Reads as reset-reads
 

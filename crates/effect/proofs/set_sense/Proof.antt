@@ -1,10 +1,10 @@
 use borrow.Author.Needs.{needs}
 use borrow.Author.Tests.{lt-ltb, le-ltb, le-leb, lt-leb, eq-eqb, ne-eqb}
-use Rattle.action.proofs.set_sense.Statement.{statement}
-use Rattle.action.proofs.set_sense.Tie as tie
-use Rattle.action.proofs.set_sense.Reads as reads
-use Rattle.action.proofs.set_sense.Lts as lts
-use Rattle.action.proofs.sense_index.Reads as sense-index-reads
+use Rattle.effect.proofs.set_sense.Statement.{statement}
+use Rattle.effect.proofs.set_sense.Tie as tie
+use Rattle.effect.proofs.set_sense.Reads as reads
+use Rattle.effect.proofs.set_sense.Lts as lts
+use Rattle.effect.proofs.sense_index.Reads as sense-index-reads
 
 -- src/lib.rt:128:9
 sense-index-requires : tie.Need-sense-index-requires

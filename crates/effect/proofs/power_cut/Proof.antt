@@ -1,9 +1,9 @@
 use borrow.Author.Needs.{needs}
 use borrow.Author.Tests.{lt-ltb, le-ltb, le-leb, lt-leb, eq-eqb, ne-eqb}
-use Rattle.action.proofs.power_cut.Statement.{statement}
-use Rattle.action.proofs.power_cut.Tie as tie
-use Rattle.action.proofs.power_cut.Reads as reads
-use Rattle.action.proofs.power_cut.Lts as lts
+use Rattle.effect.proofs.power_cut.Statement.{statement}
+use Rattle.effect.proofs.power_cut.Tie as tie
+use Rattle.effect.proofs.power_cut.Reads as reads
+use Rattle.effect.proofs.power_cut.Lts as lts
 use Rattle.clock.proofs.Clock.time_off.Reads as time-off-reads
 use Rattle.drives.proofs.Drives.power_cut.Reads as power-cut-reads
 use Rattle.iwm.proofs.off.Reads as off-reads

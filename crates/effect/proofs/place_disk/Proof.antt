@@ -1,9 +1,9 @@
 use borrow.Author.Needs.{needs}
 use borrow.Author.Tests.{lt-ltb, le-ltb, le-leb, lt-leb, eq-eqb, ne-eqb}
-use Rattle.action.proofs.place_disk.Statement.{statement}
-use Rattle.action.proofs.place_disk.Tie as tie
-use Rattle.action.proofs.place_disk.Reads as reads
-use Rattle.action.proofs.place_disk.Lts as lts
+use Rattle.effect.proofs.place_disk.Statement.{statement}
+use Rattle.effect.proofs.place_disk.Tie as tie
+use Rattle.effect.proofs.place_disk.Reads as reads
+use Rattle.effect.proofs.place_disk.Lts as lts
 use Rattle.drives.proofs.Drives.place.Reads as place-reads
 
 -- src/lib.rt:159:5

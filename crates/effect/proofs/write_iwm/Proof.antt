@@ -1,9 +1,9 @@
 use borrow.Author.Needs.{needs}
 use borrow.Author.Tests.{lt-ltb, le-ltb, le-leb, lt-leb, eq-eqb, ne-eqb}
-use Rattle.action.proofs.write_iwm.Statement.{statement}
-use Rattle.action.proofs.write_iwm.Tie as tie
-use Rattle.action.proofs.write_iwm.Reads as reads
-use Rattle.action.proofs.write_iwm.Lts as lts
+use Rattle.effect.proofs.write_iwm.Statement.{statement}
+use Rattle.effect.proofs.write_iwm.Tie as tie
+use Rattle.effect.proofs.write_iwm.Reads as reads
+use Rattle.effect.proofs.write_iwm.Lts as lts
 use Rattle.iwm.proofs.DiskLines.access.Reads as access-reads
 
 -- src/lib.rt:84:5

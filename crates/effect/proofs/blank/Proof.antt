@@ -1,9 +1,9 @@
 use borrow.Author.Needs.{needs}
 use borrow.Author.Tests.{lt-ltb, le-ltb, le-leb, lt-leb, eq-eqb, ne-eqb}
-use Rattle.action.proofs.blank.Statement.{statement}
-use Rattle.action.proofs.blank.Tie as tie
-use Rattle.action.proofs.blank.Reads as reads
-use Rattle.action.proofs.blank.Lts as lts
+use Rattle.effect.proofs.blank.Statement.{statement}
+use Rattle.effect.proofs.blank.Tie as tie
+use Rattle.effect.proofs.blank.Reads as reads
+use Rattle.effect.proofs.blank.Lts as lts
 use Rattle.via.proofs.Via.raise.Reads as raise-reads
 
 -- src/lib.rt:92:5

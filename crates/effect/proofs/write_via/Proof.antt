@@ -1,9 +1,9 @@
 use borrow.Author.Needs.{needs}
 use borrow.Author.Tests.{lt-ltb, le-ltb, le-leb, lt-leb, eq-eqb, ne-eqb}
-use Rattle.action.proofs.write_via.Statement.{statement}
-use Rattle.action.proofs.write_via.Tie as tie
-use Rattle.action.proofs.write_via.Reads as reads
-use Rattle.action.proofs.write_via.Lts as lts
+use Rattle.effect.proofs.write_via.Statement.{statement}
+use Rattle.effect.proofs.write_via.Tie as tie
+use Rattle.effect.proofs.write_via.Reads as reads
+use Rattle.effect.proofs.write_via.Lts as lts
 use Rattle.via.proofs.Via.write.Reads as write-reads
 
 -- src/lib.rt:75:5

@@ -1,9 +1,9 @@
 use borrow.Author.Needs.{needs}
 use borrow.Author.Tests.{lt-ltb, le-ltb, le-leb, lt-leb, eq-eqb, ne-eqb}
-use Rattle.action.proofs.second.Statement.{statement}
-use Rattle.action.proofs.second.Tie as tie
-use Rattle.action.proofs.second.Reads as reads
-use Rattle.action.proofs.second.Lts as lts
+use Rattle.effect.proofs.second.Statement.{statement}
+use Rattle.effect.proofs.second.Tie as tie
+use Rattle.effect.proofs.second.Reads as reads
+use Rattle.effect.proofs.second.Lts as lts
 use Rattle.clock.proofs.Clock.second.Reads as second-reads
 use Rattle.via.proofs.Via.raise.Reads as raise-reads
 
