@@ -14,7 +14,7 @@ use Rattle.phase.specs.Phase.{between, shown, acceptedPhase}
 use Rattle.clock.specs.Step.{next, acts, stepWires}
 use Rattle.command.specs.declared.Target.the-variants.{Cell}
 use Rattle.iwm.specs.Lines.{linesOff}
-use Rattle.drive.specs.Drive.{acceptedDrive}
+use Rattle.sense.specs.Sense.{acceptedDrive}
 use Rattle.strobe.specs.Strobe.{acceptedStrobe}
 use Rattle.drives.specs.Drives.{acceptedDrives}
 use Rattle.addresses.specs.Addresses.{placeFrom, foundOf}

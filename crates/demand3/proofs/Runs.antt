@@ -17,7 +17,7 @@ use Rattle.clock.specs.Step.{withStore, stepWires, stepClock}
 use Rattle.clock.proofs.Line.{settled-step}
 use Rattle.phase.specs.declared.Wires.{Wires}
 use Rattle.clock.specs.declared.Clock.{Clock}
-use Rattle.drive.specs.Drive.{acceptedDrive}
+use Rattle.sense.specs.Sense.{acceptedDrive}
 use Rattle.strobe.specs.Strobe.{acceptedStrobe}
 use Rattle.drives.specs.Drives.{acceptedDrives}
 use Rattle.items.specs.declared.Item.{Item}

@@ -1,3 +1,1 @@
-pub mod Ranges
-pub mod Steps
 pub mod Ticks

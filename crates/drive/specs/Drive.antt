@@ -1,7 +1,7 @@
 -- One drive behind the lines, by request W-203 and source document 004. Time is in VIA ticks.
 use Prim.Native.Nat.{ℕ, zero, suc, _+_, _-_}
-use mathlib.Core.Bool.{Bool, true, false, cond, not, _&&_, _||_}
-use lib.Dec.{eqb, ltb, leb}
+use mathlib.Core.Bool.{Bool, true, false, cond}
+use lib.Dec.{eqb, ltb}
 use Rattle.drive.specs.declared.Drive.{Drive}
 
 -- ---- the state, field by field
@@ -97,50 +97,6 @@ inserted locked sides d = withDisk d true locked sides
 abbrev pub removed : Drive → Drive
 removed d = withMotor (withDisk d false false (d .sides)) false
 
--- ---- a register written
-
--- Document 004: "The DIRTN signal sets the direction of subsequent head stepping".
-abbrev pub directionWritten : Bool → Drive → Drive
-directionWritten v d = withDirection d v
-
--- "A step keeps STEP at 0 for 9,401 ticks (12 ms, rounded up), .. in the direction set when it was asked, and steps asked
--- meanwhile do nothing." Whether no step is pending.
-abbrev pub stepAsked : Bool → Drive → Drive
-stepAsked true d = withStep d 9401 (d .direction)
-stepAsked false d = d
-
--- "a step written 1 .. do nothing"
-abbrev pub stepWritten : Bool → Drive → Drive
-stepWritten true d = d
-stepWritten false d = stepAsked (eqb (d .pending) 0) d
-
--- "Turning the motor on .. does nothing without a disk". Whether there is a disk.
-abbrev pub motorOn : Bool → Drive → Drive
-motorOn true d = withMotor d true
-motorOn false d = d
-
--- Document 004: "0 turns on the motor, and 1 turns it off".
-abbrev pub motorWritten : Bool → Drive → Drive
-motorWritten true d = withMotor d false
-motorWritten false d = motorOn (d .disk) d
-
--- ".. or ejecting does nothing without a disk". Whether there is a disk.
-abbrev pub ejected : Bool → Drive → Drive
-ejected true d = removed d
-ejected false d = d
-
--- Document 004: "Writing 1 to EJECT ejects the disk"; "an eject written 0 do nothing".
-abbrev pub ejectWritten : Bool → Drive → Drive
-ejectWritten true d = ejected (d .disk) d
-ejectWritten false d = d
-
--- What a write that acts does: registers 0 to 3 are direction, step, motor and eject, by CA1 and CA0.
-unfoldable pub registerWritten : ℕ → Bool → Drive → Drive
-registerWritten register value d =
-    cond (eqb register 0) (directionWritten value d)
-    (cond (eqb register 1) (stepWritten value d)
-    (cond (eqb register 2) (motorWritten value d) (cond (eqb register 3) (ejectWritten value d) d)))
-
 -- ---- time
 
 -- "Track 0 to 79, where a step past either end stays there." Document 004: direction 0 is towards track 79, 1 towards track 0.
@@ -169,38 +125,3 @@ driveTicks (suc n) d = tickDrive (driveTicks n d)
 -- "PW stops motors, drops pending steps and keeps the rest of each drive."
 abbrev pub powered : Drive → Drive
 powered d = withStep (withMotor d false) 0 false
-
--- ---- what the drive senses
-
--- A level as a number.
-abbrev pub level : Bool → ℕ
-level true = 1
-level false = 0
-
--- "Sense registers 0 to 5, 12 and 15 .. now come from the drive, the others still from SN."
-unfoldable pub drivesSense : ℕ → Bool
-drivesSense register = ltb register 6 || (eqb register 12 || eqb register 15)
-
--- Document 004: 0 DIRTN, 1 CSTIN ("0 only when a disk is in the drive"), 2 STEP, 3 WRTPRT ("0 whenever the disk is locked"),
--- 4 MOTORON, 5 TKO ("0 only if the head is at track 0"), 12 SIDES ("0 on single-sided drives and 1 on double-sided drives");
--- "15 (always 0)".
-unfoldable pub senseOf : ℕ → Drive → ℕ
-senseOf register d =
-    cond (eqb register 0) (level (d .direction))
-    (cond (eqb register 1) (level (not (d .disk)))
-    (cond (eqb register 2) (level (eqb (d .pending) 0))
-    (cond (eqb register 3) (level (not (d .locked)))
-    (cond (eqb register 4) (level (not (d .motor)))
-    (cond (eqb register 5) (level (not (eqb (d .track) 0))) (cond (eqb register 12) (level (d .sides)) 0))))))
-
--- The level of a sense register, where SN last set it to `stored`.
-unfoldable pub shownOf : ℕ → ℕ → Drive → ℕ
-shownOf register stored d = cond (drivesSense register) (senseOf register d) stored
-
--- ---- the ranges: track 0 to 79, at most 9,401 ticks left of a step, the motor on and the disk locked only with a disk, the
--- step's own direction 0 with no step pending
-unfoldable pub acceptedDrive : Drive → Bool
-acceptedDrive d =
-    ltb (d .track) 80
-    && (leb (d .pending) 9401
-    && ((not (d .motor) || d .disk) && ((not (d .locked) || d .disk) && (not (d .heading) || not (eqb (d .pending) 0)))))

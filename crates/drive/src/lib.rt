@@ -2,7 +2,7 @@
 ghost use mathlib.Core.Path.{_≡_};
 ghost use mathlib.Core.Bool.{true, false};
 ghost use Prim.Native.Nat.{_<_};
-ghost use Rattle.drive.specs.Drive.{freshDrive, inserted, removed, stepWritten, motorWritten, ejectWritten, registerWritten, neighbour, driveTicks, powered, level, drivesSense, senseOf, shownOf, acceptedDrive};
+ghost use Rattle.drive.specs.Drive.{freshDrive, inserted, removed, neighbour, driveTicks, powered};
 
 pub struct Drive {
     // 0 to 79
@@ -36,13 +36,6 @@ fn neighbour_of(heading: bool, track: u8) -> u8
         return track + 1;
     }
     79
-}
-
-// Whether a sense register comes from the drive, and not from SN.
-pub fn drives_sense(register: u8) -> bool
-    ensures { λ r. ⌜ r ≡ drivesSense register ⌝ }
-{
-    (register < 6) | ((register == 12) | (register == 15))
 }
 
 impl Drive {
@@ -86,68 +79,6 @@ impl Drive {
         }
     }
 
-    fn write_step(self, value: bool) -> Drive
-        ensures { λ r. ⌜ r ≡ stepWritten value self ⌝ }
-    {
-        if value {
-            return self;
-        }
-        if self.pending == 0 {
-            return Drive {
-                pending: 9401,
-                heading: self.direction,
-                ..self
-            };
-        }
-        self
-    }
-
-    fn write_motor(self, value: bool) -> Drive
-        ensures { λ r. ⌜ r ≡ motorWritten value self ⌝ }
-    {
-        if value {
-            return Drive {
-                motor: false,
-                ..self
-            };
-        }
-        if self.disk {
-            return Drive {
-                motor: true,
-                ..self
-            };
-        }
-        self
-    }
-
-    fn write_eject(self, value: bool) -> Drive
-        ensures { λ r. ⌜ r ≡ ejectWritten value self ⌝ }
-    {
-        if value {
-            if self.disk {
-                return self.remove();
-            }
-            return self;
-        }
-        self
-    }
-
-    // A write that acts: registers 0 to 3 are direction, step, motor and eject; the others do nothing.
-    pub fn write_register(self, register: u8, value: bool) -> Drive
-        ensures { λ r. ⌜ r ≡ registerWritten register value self ⌝ }
-    {
-        match register {
-            0 => Drive {
-                direction: value,
-                ..self
-            },
-            1 => self.write_step(value),
-            2 => self.write_motor(value),
-            3 => self.write_eject(value),
-            _ => self,
-        }
-    }
-
     // `ticks` VIA ticks pass, worked out at once.
     pub fn wait(self, ticks: u16) -> Drive
         ensures { λ r. ⌜ r ≡ driveTicks ticks self ⌝ }
@@ -181,48 +112,5 @@ impl Drive {
             heading: false,
             ..self
         }
-    }
-
-    // Whether one of the drive's sense registers is at level 1.
-    fn senses(self, register: u8) -> bool
-        ensures { λ r. ⌜ level r ≡ senseOf register self ⌝ }
-    {
-        match register {
-            0 => self.direction,
-            1 => !self.disk,
-            2 => self.pending == 0,
-            3 => !self.locked,
-            4 => !self.motor,
-            5 => !(self.track == 0),
-            12 => self.sides,
-            _ => false,
-        }
-    }
-
-    // The level of one of the drive's sense registers.
-    pub fn sense(self, register: u8) -> u8
-        ensures { λ r. ⌜ r ≡ senseOf register self ⌝ }
-    {
-        if self.senses(register) { 1 } else { 0 }
-    }
-
-    // The level of any sense register; `stored` is the level that SN gave it.
-    pub fn shown(self, register: u8, stored: u8) -> u8
-        ensures { λ r. ⌜ r ≡ shownOf register stored self ⌝ }
-    {
-        if drives_sense(register) {
-            return self.sense(register);
-        }
-        stored
-    }
-
-    // Whether every field is in its range.
-    pub fn accepted(self) -> bool
-        ensures { λ r. ⌜ r ≡ acceptedDrive self ⌝ }
-    {
-        (self.track < 80)
-            & ((self.pending <= 9401)
-                & ((!self.motor | self.disk)
-                    & ((!self.locked | self.disk) & (!self.heading | !(self.pending == 0)))))
     }
 }

@@ -6,16 +6,17 @@ use native.Mathlib.Omega.{arith}
 use lib.Dec.{eqb}
 use Rattle.levels.proofs.Laws.{both}
 use Rattle.drive.specs.declared.Drive.{Drive}
-use Rattle.drive.specs.Drive.{registerWritten, level, drivesSense, senseOf, shownOf, acceptedDrive}
+use Rattle.control.specs.Control.{diskMoved, registerWritten}
+use Rattle.sense.specs.Sense.{level, drivesSense, senseOf, shownOf, acceptedDrive}
 use Rattle.drive.proofs.Ticks.{driveTicks-add}
-use Rattle.drive.proofs.Ranges.{fresh-accepted, inserted-accepted, removed-accepted, powered-accepted, registerWritten-accepted, driveTicks-accepted}
+use Rattle.sense.proofs.Ranges.{fresh-accepted, inserted-accepted, removed-accepted, powered-accepted, registerWritten-accepted, driveTicks-accepted}
 use Rattle.strobe.specs.declared.Watched.{Watched}
 use Rattle.strobe.specs.Strobe.{registerOf, strobeAfter, strobeWrites, acceptedStrobe}
 use Rattle.strobe.proofs.Ticks.{strobeTicks-add}
 use Rattle.strobe.proofs.Pulses.{level-writes-nothing, untouched}
 use Rattle.strobe.proofs.Bounds.{quiet-accepted, strobeTicks-accepted, strobeAfter-accepted}
 use Rattle.drives.specs.declared.Drives.{Drives}
-use Rattle.drives.specs.Drives.{withStrobe, selected, withSelected, freshDrives, drivesTicks, diskMoved, placed, drivesPowered, writtenBy, drivesAfter, drivesShown, acceptedDrives}
+use Rattle.drives.specs.Drives.{withStrobe, selected, withSelected, freshDrives, drivesTicks, placed, drivesPowered, writtenBy, drivesAfter, drivesShown, acceptedDrives}
 
 -- Waiting a ticks and then b, for all whole numbers.
 pub drivesTicks-add : (a b : ℕ) (d : Drives) → drivesTicks (a + b) d ≡ drivesTicks b (drivesTicks a d)

@@ -3,7 +3,9 @@ use Prim.Native.Nat.{ℕ, _/_, _%_}
 use mathlib.Core.Bool.{Bool, true, false, not, _&&_}
 use lib.Dec.{eqb}
 use Rattle.drive.specs.declared.Drive.{Drive}
-use Rattle.drive.specs.Drive.{freshDrive, inserted, removed, registerWritten, driveTicks, powered, shownOf, acceptedDrive}
+use Rattle.drive.specs.Drive.{freshDrive, driveTicks, powered}
+use Rattle.control.specs.Control.{diskMoved, registerWritten}
+use Rattle.sense.specs.Sense.{shownOf, acceptedDrive}
 use Rattle.strobe.specs.declared.Strobe.{Strobe}
 use Rattle.strobe.specs.declared.Watched.{Watched}
 use Rattle.strobe.specs.Strobe.{quiet, strobeTicks, strobeAfter, registerOf, strobeWrites, acceptedStrobe}
@@ -35,10 +37,6 @@ drivesTicks n d =
     record { internal = driveTicks n (d .internal); external = driveTicks n (d .external); strobe = strobeTicks n (d .strobe) }
 
 -- DI: drive, insert 1 or remove 0, locked, double-sided.
-abbrev pub diskMoved : Bool → Bool → Bool → Drive → Drive
-diskMoved true locked sides d = inserted locked sides d
-diskMoved false locked sides d = removed d
-
 unfoldable pub placed : Bool → Bool → Bool → Bool → Drives → Drives
 placed external insert locked sides d = withSelected external d (diskMoved insert locked sides (selected external d))
 

@@ -1,7 +1,9 @@
 // The two drives and the strobe that writes to them.
 ghost use mathlib.Core.Path.{_≡_};
 ghost use mathlib.Core.Bool.{true, false};
-ghost use Rattle.drives.specs.Drives.{selected, withSelected, freshDrives, drivesTicks, placed, placeRefused, drivesPowered, drivesAfter, drivesShown, acceptedDrives};
+ghost use Rattle.drives.specs.Drives.{freshDrives, drivesTicks, placed, placeRefused, drivesPowered, drivesAfter, drivesShown, acceptedDrives};
+use control::move_disk;
+use control::write_register;
 use drive::Drive;
 use strobe::Strobe;
 use strobe::Watched;
@@ -23,30 +25,6 @@ impl Drives {
         }
     }
 
-    fn at(self, external: bool) -> Drive
-        ensures { λ r. ⌜ r ≡ selected external self ⌝ }
-    {
-        if external {
-            return self.external;
-        }
-        self.internal
-    }
-
-    fn with_at(self, external: bool, drive: Drive) -> Drives
-        ensures { λ r. ⌜ r ≡ withSelected external self drive ⌝ }
-    {
-        if external {
-            return Drives {
-                external: drive,
-                ..self
-            };
-        }
-        Drives {
-            internal: drive,
-            ..self
-        }
-    }
-
     // `ticks` VIA ticks pass.
     pub fn wait(self, ticks: u16) -> Drives
         ensures { λ r. ⌜ r ≡ drivesTicks ticks self ⌝ }
@@ -62,22 +40,24 @@ impl Drives {
     pub fn place(self, external: bool, insert: bool, locked: bool, sides: bool) -> Drives
         ensures { λ r. ⌜ r ≡ placed external insert locked sides self ⌝ }
     {
-        let d = self.at(external);
-        if insert {
-            return self.with_at(external, d.insert(locked, sides));
+        let mut next = self;
+        if external {
+            next.external = move_disk(self.external, insert, locked, sides);
+            return next;
         }
-        self.with_at(external, d.remove())
+        next.internal = move_disk(self.internal, insert, locked, sides);
+        next
     }
 
     // Whether DI gets refusal 8 here.
     pub fn refuses_place(self, external: bool, insert: bool) -> bool
         ensures { λ r. ⌜ r ≡ placeRefused external insert self ⌝ }
     {
-        let d = self.at(external);
+        let disk = (external & self.external.disk) | (!external & self.internal.disk);
         if insert {
-            return d.disk;
+            return disk;
         }
-        !d.disk
+        !disk
     }
 
     // PW: motors stop and pending steps are dropped.
@@ -97,10 +77,17 @@ impl Drives {
         ensures { λ r. ⌜ r ≡ drivesAfter before after self ⌝ }
     {
         let mut next = self;
+        if !(before.lstrb | after.lstrb) {
+            next.strobe = Strobe::off();
+            return next;
+        }
         next.strobe = self.strobe.after(before, after);
         if self.strobe.writes(before, after) {
-            let d = self.at(after.select);
-            return next.with_at(after.select, d.write_register(after.register(), after.ca2));
+            if after.select {
+                next.external = write_register(self.external, after.register(), after.ca2);
+                return next;
+            }
+            next.internal = write_register(self.internal, after.register(), after.ca2);
         }
         next
     }
@@ -109,13 +96,17 @@ impl Drives {
     pub fn shown(self, place: u8, stored: u8) -> u8
         ensures { λ r. ⌜ r ≡ drivesShown place stored self ⌝ }
     {
-        self.at(place / 16 == 1).shown(place % 16, stored)
+        if place / 16 == 1 {
+            return sense::shown(self.external, place % 16, stored);
+        }
+        sense::shown(self.internal, place % 16, stored)
     }
 
     // Whether both drives and the strobe are in their ranges, with these levels.
     pub fn accepted(self, levels: Watched) -> bool
         ensures { λ r. ⌜ r ≡ acceptedDrives levels self ⌝ }
     {
-        self.internal.accepted() & (self.external.accepted() & self.strobe.accepted(levels))
+        sense::accepted(self.internal)
+            & (sense::accepted(self.external) & self.strobe.accepted(levels))
     }
 }

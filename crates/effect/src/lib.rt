@@ -38,18 +38,24 @@ pub fn read_via(mut m: Machine, register: u8) -> Did
     }
 }
 
-// RD of an IWM location.
+// RD of an IWM location. Location 14 alone asks the sense.
 pub fn read_iwm(mut m: Machine, location: u8) -> Did
     requires { ⌜ location < 16 ⌝ }
     requires { ⌜ Levels m ⌝ }
     ensures { λ r. ⌜ r ≡ iwmRead location m ⌝ }
 {
     let d = m.disk.access(location);
+    m.disk = d;
+    if location != 14 {
+        return Did {
+            machine: m,
+            value: 255,
+        };
+    }
     let at = d.sense_at(wiring::sel_of(m.via.ports));
     let levels = m.sense;
     let stored = levels[at as usize];
     let sense = m.drives.shown(at, stored);
-    m.disk = d;
     Did {
         machine: m,
         value: d.read(location, sense),

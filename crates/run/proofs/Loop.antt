@@ -154,9 +154,9 @@ module _ (l a₀ : List ℕ) (m₀ : Machine) where
     here n e = rw (from e) (simp (append-nil, add-zero, front), simp (append-nil, front) (sym (ap (λ (r : List ℕ). take out a ++ r) (sym (h .kept)) ∙ take-append-drop out a)))
 
     -- the end of the list
-    pub ended : length l ≤ at → Ret (record { machine = m; stop = 0; consumed = at; written = out }) a
+    pub ended : (n : ℕ) → n ≡ 0 → length l ≤ at → Ret (record { machine = m; stop = n; consumed = at; written = out }) a
     unfolding runPieces piecesFrom
-    ended e = here 0 (rw (drop-of-length-le l e))
+    ended n z e = here n (rw (drop-of-length-le l e, z))
 
     module _ (more : at < length l) where
       rest : List ℕ

@@ -15,7 +15,7 @@ pub struct Ran {
 }
 
 // Runs the list from the machine given. The stop is 0 at the end of the list, else 1, 6 or 7.
-pub fn run(m: Machine, list: &[u8], answers: &mut [u8]) -> Ran
+pub fn run(mut m: Machine, list: &[u8], answers: &mut [u8]) -> Ran
     ensures { λ r. ⌜ r ≡ ranOf (runOf m (now (list .entry)) (length (now (answers .entry)))) ⌝ }
     ensures { λ _. ⌜ now (answers .exit) ≡ over (runOf m (now (list .entry)) (length (now (answers .entry)))) (now (answers .entry)) ⌝ }
     ensures { λ r. ⌜ r .written ≤ length (now (answers .entry)) ⌝ }
@@ -28,37 +28,30 @@ pub fn run(m: Machine, list: &[u8], answers: &mut [u8]) -> Ran
             written: 0,
         };
     }
-    let mut state = m;
+    let mut stop: u8 = 0;
     let mut at: usize = 0;
     let mut out: usize = 0;
     while at < list.len() {
         if answers.len() - out < 8 {
-            return Ran {
-                machine: state,
-                stop: 6,
-                consumed: at,
-                written: out,
-            };
+            stop = 6;
+            break;
         }
         let rest = &list[at..];
         let Framed::Whole(n) = record::frame(rest) else {
             slot::put(answers, out, record::answer_bytes(record::no(1)));
-            return Ran {
-                machine: state,
-                stop: 1,
-                consumed: at,
-                written: out + 8,
-            };
+            out += 8;
+            stop = 1;
+            break;
         };
-        let t = turn::turn_of(state, &rest[2..n]);
+        let t = turn::turn_of(m, &rest[2..n]);
         slot::put(answers, out, record::answer_bytes(t.answer));
-        state = t.machine;
+        m = t.machine;
         at += n;
         out += 8;
     }
     Ran {
-        machine: state,
-        stop: 0,
+        machine: m,
+        stop: stop,
         consumed: at,
         written: out,
     }

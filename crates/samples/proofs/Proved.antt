@@ -9,8 +9,10 @@ use Rattle.store.specs.Store.{fetch, put, act}
 use Rattle.phase.specs.Phase.{between, shown, acceptedPhase}
 use Rattle.clock.specs.Step.{next, acts, stepWires}
 use Rattle.iwm.specs.Lines.{linesOff, accessed, lineByteOf, senseAt, readLine}
-use Rattle.drive.specs.Drive as drive
-use Rattle.drive.specs.Drive.{registerWritten, neighbour, tickDrive, driveTicks, drivesSense, shownOf, acceptedDrive}
+use Rattle.sense.specs.Sense as sense
+use Rattle.drive.specs.Drive.{neighbour, tickDrive, driveTicks}
+use Rattle.control.specs.Control.{registerWritten}
+use Rattle.sense.specs.Sense.{drivesSense, shownOf, acceptedDrive}
 use Rattle.strobe.specs.Strobe.{tickStrobe, strobeTicks, heldStill, unspoilt, strobeAfter, registerOf, longEnough, strobeWrites, acceptedStrobe}
 use Rattle.drives.specs.Drives.{drivesTicks, placed, placeRefused, drivesPowered, drivesAfter, drivesShown, acceptedDrives}
 use Rattle.wiring.specs.Wiring.{wiresOf, selOf, inputsOf, interruptLevel, watchedOf}
@@ -52,7 +54,7 @@ samples =
 pub driveSamples : DriveSamples
 unfolding allLevels freshVia tickOf ticks resetOf asking levelOf acceptedVia written between stepWires next acts act shown acceptedPhase linesOff accessed lineByteOf
     senseAt readLine wiresOf selOf watchedOf le16Of le32Of frameOf answerBytes noOf isKind placeFrom foundOf writeOf plainOf powerOf diskOf decodedOf items.readOf items.senseOf
-    registerWritten neighbour tickDrive driveTicks drivesSense drive.senseOf shownOf acceptedDrive tickStrobe strobeTicks heldStill unspoilt strobeAfter registerOf
+    registerWritten neighbour tickDrive driveTicks drivesSense sense.senseOf shownOf acceptedDrive tickStrobe strobeTicks heldStill unspoilt strobeAfter registerOf
     longEnough strobeWrites acceptedStrobe drivesTicks placed placeRefused drivesPowered drivesAfter drivesShown acceptedDrives
     acceptedOf waitOf iwmRead actedOf stepOf refusesOf answerOf cut piecesFrom turnOf onto onPiece runPieces runOf values
 driveSamples =

@@ -4,7 +4,7 @@ use Rattle.drives.proofs.Drives.accepted.Statement.{statement}
 use Rattle.drives.proofs.Drives.accepted.Tie as tie
 use Rattle.drives.proofs.Drives.accepted.Reads as reads
 use Rattle.drives.proofs.Drives.accepted.Lts as lts
-use Rattle.drive.proofs.Drive.accepted.Reads as Drive-accepted-reads
+use Rattle.sense.proofs.accepted.Reads as sense-accepted-reads
 use Rattle.strobe.proofs.Strobe.accepted.Reads as Strobe-accepted-reads
 
 -- src/lib.rt:129:9

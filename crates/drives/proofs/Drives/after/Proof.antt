@@ -1,73 +1,115 @@
-use mathlib.Core.Path.{_≡_, refl, _∙_}
-use mathlib.Core.Bool.{Bool, true, false}
+use Prim.Native.Nat.{ℕ}
+use mathlib.Core.Path.{_≡_, refl, sym, ap, _∙_}
+use mathlib.Core.Bool.{Bool, true, false, not, _||_}
 use borrow.Author.Needs.{needs}
 use Rattle.drive.specs.declared.Drive.{Drive}
+use Rattle.control.specs.Control.{registerWritten}
 use Rattle.strobe.specs.declared.Strobe.{Strobe}
+use Rattle.strobe.specs.declared.Watched.{Watched}
+use Rattle.strobe.specs.Strobe.{quiet, registerOf, strobeAfter, strobeWrites}
+use Rattle.levels.proofs.Laws.{no}
 use Rattle.drives.specs.declared.Drives.{Drives}
-use Rattle.drives.specs.Drives.{withStrobe, withSelected, drivesAfter}
+use Rattle.drives.specs.Drives.{withStrobe, selected, withSelected, writtenBy, drivesAfter}
 use Rattle.drives.proofs.Drives.after.Statement.{statement}
 use Rattle.drives.proofs.Drives.after.Tie as tie
 use Rattle.drives.proofs.Drives.after.Reads as reads
 use Rattle.drives.proofs.Drives.after.Lts as lts
-use Rattle.drive.proofs.Drive.write_register.Reads as write-register-reads
-use Rattle.drives.proofs.Drives.at.Reads as at-reads
-use Rattle.drives.proofs.Drives.with_at.Reads as with-at-reads
+use Rattle.control.proofs.write_register.Reads as write-register-reads
 use Rattle.strobe.proofs.Strobe.after.Reads as after-reads
 use Rattle.strobe.proofs.Strobe.writes.Reads as writes-reads
 use Rattle.strobe.proofs.Watched.register.Reads as register-reads
+use Rattle.strobe.proofs.Strobe.off.Reads as off-reads
 
--- the strobe before or after a drive
-swapped : (b : Bool) (d : Drives) (x : Drive) (s : Strobe) → withSelected b (withStrobe d s) x ≡ withStrobe (withSelected b d x) s
-swapped true d x s = refl
-swapped false d x s = refl
+-- src/lib.rt:81:13
+off-requires : tie.Need-off-requires
+off-requires c κs = search needs
 
--- src/lib.rt:100:9
+-- LSTRB off before and after: no write, and no strobe.
+unstrobed : (v w : Watched) (d : Drives) {s : Strobe} → not (v .lstrb || w .lstrb) ≡ true → s ≡ quiet → withStrobe d s ≡ drivesAfter v w d
+unfolding drivesAfter strobeAfter strobeWrites
+unstrobed v w d {s} h e = go (v .lstrb) (w .lstrb) refl refl h
+  where
+    go : (a b : Bool) → v .lstrb ≡ a → w .lstrb ≡ b → not (a || b) ≡ true → withStrobe d s ≡ drivesAfter v w d
+    go true b p q k = no k
+    go false true p q k = no k
+    go false false p q k = simp (p, q, e)
+
+-- A write that acts, on the drive that SELECT names.
+written : (b : Bool) (v w : Watched) (d : Drives) {g : ℕ} {x : Drive} {s : Strobe} → strobeWrites v w (d .strobe) ≡ true → w .select ≡ b
+    → g ≡ registerOf w → x ≡ registerWritten g (w .ca2) (selected b d) → s ≡ strobeAfter v w (d .strobe)
+    → withStrobe (withSelected b d x) s ≡ drivesAfter v w d
+unfolding drivesAfter
+written b v w d {g} {x} {s} acts on named put strobed =
+    let z = strobeAfter v w (d .strobe) in
+    let whole : Bool → ℕ → Drives = λ (e : Bool) (n : ℕ). withStrobe (withSelected e d (registerWritten n (w .ca2) (selected e d))) z in
+    ap (λ (y : Strobe). withStrobe (withSelected b d x) y) strobed
+    ∙ ap (λ (y : Drive). withStrobe (withSelected b d y) z) put
+    ∙ ap (whole b) named
+    ∙ sym (ap (λ (t : Bool). withStrobe (writtenBy t w d) z) acts ∙ ap (λ (e : Bool). whole e (registerOf w)) on)
+
+-- src/lib.rt:82:13
+returns : tie.Need-returns
+returns c = let a = c .before .before .before .before .args in unstrobed (a .before) (a .after) (a .self) (c .before .if1 .taken) (c .off .ensures)
+
+-- src/lib.rt:84:9
 after-requires : tie.Need-after-requires
 after-requires c κs = search needs
 
--- src/lib.rt:101:12
+-- src/lib.rt:85:12
 writes-requires : tie.Need-writes-requires
 writes-requires c κs = search needs
 
--- src/lib.rt:102:17
-at-requires : tie.Need-at-requires
-at-requires c κs = search needs
-
--- src/lib.rt:103:64
+-- src/lib.rt:87:63
 register-requires : tie.Need-register-requires
 register-requires c κs = search needs
 
--- src/lib.rt:103:47
+-- src/lib.rt:87:17
 write-register-requires : tie.Need-write-register-requires
 write-register-requires c κs = search needs
 
--- src/lib.rt:103:13
-with-at-requires : tie.Need-with-at-requires
-with-at-requires c κs = search needs
-
--- src/lib.rt:103:13
-returns : tie.Need-returns
-unfolding drivesAfter
-returns c =
-    let s = c .before .before .before .before .before .before .before .args in
-    let e = c .before .before .before .before .before .writes .ensures in
-    let t = c .before .before .before .before .if1 .taken in
-    simp (← e, t) (c .with-at .ensures ∙ simp (c .before .write-register .ensures, c .before .before .register .ensures, c .before .before .before .at .ensures, c .before .before .before .before .before .before .after .ensures) (swapped (s .after .select) (s .self) _ _))
-
--- src/lib.rt:96:5
+-- src/lib.rt:88:17
 returns-2 : tie.Need-returns-2
 unfolding drivesAfter
-returns-2 c = simp (← c .before .writes .ensures, c .if1 .left, ← c .before .before .after .ensures)
+returns-2 c =
+    let u = c .before .before .before .before in
+    let a = u .before .before .before .before .before .args in
+    written true (a .before) (a .after) (a .self) (sym (u .writes .ensures) ∙ c .before .before .before .if2 .taken)
+    (c .before .before .if3 .taken) (c .before .register .ensures) (c .write-register .ensures) (u .before .after .ensures)
+
+-- src/lib.rt:90:59
+register-requires-2 : tie.Need-register-requires-2
+register-requires-2 c κs = search needs
+
+-- src/lib.rt:90:13
+write-register-requires-2 : tie.Need-write-register-requires-2
+write-register-requires-2 c κs = search needs
+
+-- src/lib.rt:76:5
+returns-3 : tie.Need-returns-3
+unfolding drivesAfter
+returns-3 c =
+    let u = c .before .before .before .before in
+    let a = u .before .before .before .before .before .args in
+    written false (a .before) (a .after) (a .self) (sym (u .writes .ensures) ∙ c .before .before .before .if2 .taken)
+    (c .before .before .if3 .left) (c .before .register2 .ensures) (c .write-register2 .ensures) (u .before .after .ensures)
+
+-- src/lib.rt:76:5
+returns-4 : tie.Need-returns-4
+unfolding drivesAfter
+returns-4 c = simp (← c .before .writes .ensures, c .if2 .left, ← c .before .before .after .ensures)
 
 pub after-spec : {M : Type 1} → statement M
 after-spec =
     tie.close
     (tie.spec
+    off-requires
+    returns
     after-requires
     writes-requires
-    at-requires
     register-requires
     write-register-requires
-    with-at-requires
-    returns
-    returns-2)
+    returns-2
+    register-requires-2
+    write-register-requires-2
+    returns-3
+    returns-4)

@@ -1,24 +1,32 @@
-use borrow.Author.Needs.{needs}
-use Rattle.drives.specs.Drives.{placeRefused}
+use mathlib.Core.Path.{_≡_, refl, sym, ap, _∙_}
+use mathlib.Core.Bool.{Bool, true, false, not, _&&_, _||_}
+use Rattle.drives.specs.declared.Drives.{Drives}
+use Rattle.drives.specs.Drives.{selected, clashes, placeRefused}
 use Rattle.drives.proofs.Drives.refuses_place.Statement.{statement}
 use Rattle.drives.proofs.Drives.refuses_place.Tie as tie
 use Rattle.drives.proofs.Drives.refuses_place.Reads as reads
 use Rattle.drives.proofs.Drives.refuses_place.Lts as lts
-use Rattle.drives.proofs.Drives.at.Reads as at-reads
 
--- src/lib.rt:81:13
-at-requires : tie.Need-at-requires
-at-requires c κs = search needs
+or-off : (b : Bool) → (b || false) ≡ b
+or-off true = refl
+or-off false = refl
 
--- src/lib.rt:83:13
+-- Whether the selected drive has a disk.
+there : (e : Bool) (d : Drives) → (e && d .external .disk || not e && d .internal .disk) ≡ selected e d .disk
+there true d = or-off (d .external .disk)
+there false d = refl
+
 returns : tie.Need-returns
 unfolding placeRefused
-returns c = simp (← c .before .at .ensures, c .if1 .taken)
+returns c =
+    let a = c .before .before .before .args in
+    there (a .external) (a .self) ∙ sym (ap (λ i. clashes i (selected (a .external) (a .self) .disk)) (c .if1 .taken))
 
--- src/lib.rt:78:5
 returns-2 : tie.Need-returns-2
 unfolding placeRefused
-returns-2 c = simp (← c .before .before .at .ensures, c .before .if1 .left)
+returns-2 c =
+    let a = c .before .before .before .args in
+    ap not (there (a .external) (a .self)) ∙ sym (ap (λ i. clashes i (selected (a .external) (a .self) .disk)) (c .if1 .left))
 
 pub refuses-place-spec : {M : Type 1} → statement M
-refuses-place-spec = tie.close (tie.spec at-requires returns returns-2)
+refuses-place-spec = tie.close (tie.spec returns returns-2)

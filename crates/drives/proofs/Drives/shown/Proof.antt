@@ -1,24 +1,32 @@
+use Prim.Native.Nat.{_%_}
+use mathlib.Core.Path.{sym, ap, _∙_}
 use borrow.Author.Needs.{needs}
-use Rattle.drives.specs.Drives.{drivesShown}
+use borrow.Author.Tests.{eq-eqb, ne-eqb}
+use Rattle.sense.specs.Sense.{shownOf}
+use Rattle.drives.specs.Drives.{selected, drivesShown}
 use Rattle.drives.proofs.Drives.shown.Statement.{statement}
 use Rattle.drives.proofs.Drives.shown.Tie as tie
 use Rattle.drives.proofs.Drives.shown.Reads as reads
 use Rattle.drives.proofs.Drives.shown.Lts as lts
-use Rattle.drive.proofs.Drive.shown.Reads as shown-reads
-use Rattle.drives.proofs.Drives.at.Reads as at-reads
+use Rattle.sense.proofs.shown.Reads as shown-reads
 
--- src/lib.rt:122:9
-at-requires : tie.Need-at-requires
-at-requires c κs = search needs
-
--- src/lib.rt:122:9
 shown-requires : tie.Need-shown-requires
 shown-requires c κs = search needs
 
--- src/lib.rt:119:5
 returns : tie.Need-returns
 unfolding drivesShown
-returns c = simp (← c .before .at .ensures, ← c .shown .ensures)
+returns c =
+    let a = c .before .before .args in
+    c .shown .ensures ∙ sym (ap (λ b. shownOf (a .place % 16) (a .stored) (selected b (a .self))) (eq-eqb _ _ (c .before .if1 .taken)))
+
+shown-requires-2 : tie.Need-shown-requires-2
+shown-requires-2 c κs = search needs
+
+returns-2 : tie.Need-returns-2
+unfolding drivesShown
+returns-2 c =
+    let a = c .before .before .args in
+    c .shown2 .ensures ∙ sym (ap (λ b. shownOf (a .place % 16) (a .stored) (selected b (a .self))) (ne-eqb _ _ (c .before .if1 .left)))
 
 pub shown-spec : {M : Type 1} → statement M
-shown-spec = tie.close (tie.spec at-requires shown-requires returns)
+shown-spec = tie.close (tie.spec shown-requires returns shown-requires-2 returns-2)
