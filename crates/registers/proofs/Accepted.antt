@@ -6,11 +6,12 @@ use native.Mathlib.Nat.{mod-lt, lt-of-le-of-lt}
 use native.Mathlib.Omega.{arith}
 use lib.Dec.{eqb}
 use lib.Bits.{or-lt, and-le-l}
-use Rattle.via.specs.Via.{bit, clear, acceptedVia}
+use Rattle.viabits.specs.Bytes.{bit, clear, portAFlags}
+use Rattle.via.specs.Via.{acceptedVia}
 use Rattle.via.specs.declared.Inputs.{Inputs}
 use Rattle.via.specs.declared.Via.{Via}
 use Rattle.via.proofs.Accepted.{below, accept, either}
-use Rattle.via.specs.Writes.{portAFlags, written}
+use Rattle.via.specs.Writes.{written}
 use Rattle.registers.specs.Registers.{readOf}
 
 cleared : (a m : ℕ) → a < 128 → clear a m < 128

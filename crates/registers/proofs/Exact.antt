@@ -9,7 +9,8 @@ use Rattle.timer.specs.Timer.{at, steps}
 use Rattle.timer.specs.declared.Counter.{Counter}
 use Rattle.timer.proofs.Exact.{exactly, passages, again, unarmed}
 use Rattle.via.specs.Setters.{withFlags}
-use Rattle.via.specs.Via.{bit, clear, latchOf, counter1, counter2, settled, ticks}
+use Rattle.viabits.specs.Bytes.{bit, clear}
+use Rattle.via.specs.Via.{latchOf, counter1, counter2, settled, ticks}
 use Rattle.via.specs.Writes.{written}
 use Rattle.via.specs.declared.Via.{Via}
 use Rattle.registers.proofs.Bits.{or-bit, clear-bit}

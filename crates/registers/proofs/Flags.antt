@@ -6,8 +6,9 @@ use native.Mathlib.Omega.{arith}
 use borrow.Author.Tests.{eq-eqb, ne-eqb}
 use lib.Dec.{eqb}
 use lib.Bits.{bitAnd, bitOr}
-use Rattle.via.specs.Via.{bit, clear, portLevel, asking, levelOf, raisedOf}
-use Rattle.via.specs.Writes.{portAFlags, enabledBy, written}
+use Rattle.viabits.specs.Bytes.{bit, clear, portAFlags, enabledBy}
+use Rattle.via.specs.Via.{portLevel, asking, levelOf, raisedOf}
+use Rattle.via.specs.Writes.{written}
 use Rattle.registers.specs.Registers.{readOf}
 use Rattle.via.specs.declared.Inputs.{Inputs}
 use Rattle.via.specs.declared.Via.{Via}

@@ -3,8 +3,8 @@ use Prim.Native.Nat.{ℕ, _+_, _/_, _%_}
 use mathlib.Core.Bool.{Bool, cond}
 use lib.Dec.{eqb}
 use Rattle.via.specs.Setters.{withFlags}
-use Rattle.via.specs.Via.{clear, portLevel, asking}
-use Rattle.via.specs.Writes.{portAFlags}
+use Rattle.viabits.specs.Bytes.{clear, portAFlags}
+use Rattle.via.specs.Via.{portLevel, asking}
 use Rattle.via.specs.declared.Via.{Via}
 use Rattle.via.specs.declared.Inputs.{Inputs}
 use Rattle.registers.specs.declared.Access.{Access}

@@ -2,7 +2,8 @@
 use Prim.Native.Nat.{ℕ}
 use mathlib.Core.Bool.{Bool, true, false}
 use mathlib.Core.Path.{_≡_, refl}
-use Rattle.via.specs.Via.{bit, freshVia, tickOf, ticks}
+use Rattle.viabits.specs.Bytes.{bit}
+use Rattle.via.specs.Via.{freshVia, tickOf, ticks}
 use Rattle.via.specs.Writes.{written}
 use Rattle.registers.specs.Registers.{readOf}
 use Rattle.via.specs.declared.Via.{Via}

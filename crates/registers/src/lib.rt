@@ -37,7 +37,7 @@ fn high_byte(x: u16) -> u8
 fn flags_byte(via: Via) -> u8
     ensures { λ r. ⌜ r ≡ flagsByte via ⌝ }
 {
-    via::pick(via.asks(), via.flags % 128 + 128, via.flags % 128)
+    viabits::pick(via.asks(), via.flags % 128 + 128, via.flags % 128)
 }
 
 // The value that reading a register gives.
@@ -70,9 +70,9 @@ fn flags_read(via: Via, register: u8) -> u8
     ensures { λ r. ⌜ r ≡ flagsRead register via ⌝ }
 {
     let f = via.flags;
-    let on8 = via::pick(register == 8, f & !32, f);
-    let on4 = via::pick(register == 4, f & !64, on8);
-    via::pick(register == 1, f & !via::port_a_flags(via.pcr), on4)
+    let on8 = viabits::pick(register == 8, f & !32, f);
+    let on4 = viabits::pick(register == 4, f & !64, on8);
+    viabits::pick(register == 1, f & !viabits::port_a_flags(via.pcr), on4)
 }
 
 // A register is read, with these levels on the input lines.

@@ -6,7 +6,8 @@ use native.Mathlib.Omega.{arith}
 use borrow.Author.Tests.{lt-ltb, ltb-true}
 use lib.Dec.{ltb}
 use lib.Bits.{bitOr, or-lt}
-use Rattle.via.specs.Via.{bit, freshVia, ticks, raisedOf, resetOf, acceptedVia}
+use Rattle.viabits.specs.Bytes.{bit}
+use Rattle.via.specs.Via.{freshVia, ticks, raisedOf, resetOf, acceptedVia}
 use Rattle.via.specs.declared.Via.{Via}
 use Rattle.via.proofs.Waits.{first, second, waits}
 

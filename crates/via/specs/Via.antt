@@ -1,8 +1,9 @@
 -- The VIA by document 01: fresh, its ports, its timers tick by tick, its flags and its level, reset.
-use Prim.Native.Nat.{ℕ, zero, suc, _+_, _-_, _*_, _/_, _%_, _^_}
+use Prim.Native.Nat.{ℕ, zero, suc, _+_, _*_}
 use mathlib.Core.Bool.{Bool, true, false, cond, not, _&&_}
 use lib.Dec.{eqb, ltb}
 use lib.Bits.{bitAnd, bitOr}
+use Rattle.viabits.specs.Bytes.{bit, clear}
 use Rattle.timer.specs.Timer.{at, step}
 use Rattle.timer.specs.declared.Counter.{Counter}
 use Rattle.via.specs.declared.Timer1.{Timer1}
@@ -23,15 +24,6 @@ freshVia =
       flags = 0;
       enables = 0;
     }
-
--- ---- bits of a byte
--- Bit k of a number.
-abbrev pub bit : ℕ → ℕ → Bool
-bit k x = eqb (x / 2 ^ k % 2) 1
-
--- The bits of a where those of m are 0.
-abbrev pub clear : ℕ → ℕ → ℕ
-clear a m = bitAnd a (255 - m)
 
 -- ---- ports
 -- "A port bit's level is the output bit where its direction is 1. Otherwise it is the input".

@@ -1,10 +1,9 @@
 -- Writing the VIA's registers 0 to 15, by document 01: for each part of the state, which register changes it and to what.
-use Prim.Native.Nat.{ℕ, _+_, _*_, _/_, _%_}
-use mathlib.Core.Bool.{Bool, cond, not, _&&_, _||_}
+use Prim.Native.Nat.{ℕ, _+_, _*_, _%_}
+use mathlib.Core.Bool.{cond, not, _&&_, _||_}
 use lib.Dec.{eqb}
-use lib.Bits.{bitOr}
 use Rattle.via.specs.Setters.{withPorts, withT1, withT2, withSr, withAcr, withPcr, withFlags, withEnables}
-use Rattle.via.specs.Via.{bit, clear}
+use Rattle.viabits.specs.Bytes.{clear, portAFlags, enabledBy}
 use Rattle.via.specs.declared.Ports.{Ports}
 use Rattle.via.specs.declared.Timer1.{Timer1}
 use Rattle.via.specs.declared.Timer2.{Timer2}
@@ -42,11 +41,7 @@ timer2Written r v t =
       armed = eqb r 9 || t .armed;
     }
 
--- "Any access to register 1 clears flag 1, and flag 0 unless PCR bits 3 to 1 are 001 or 011": the flags that it clears.
-unfoldable pub portAFlags : ℕ → ℕ
-portAFlags pcr = cond (eqb (pcr / 2 % 8) 1 || eqb (pcr / 2 % 8) 3) 2 3
-
--- Register 1 as above; 5 and 7 clear flag 6, 9 flag 5. "Writing 13 clears flags where bits 0 to 6 are 1." "register 15 clears none".
+-- Register 1 clears portAFlags; 5 and 7 clear flag 6, 9 flag 5. "Writing 13 clears flags where bits 0 to 6 are 1." "register 15 clears none".
 unfoldable pub flagsWritten : ℕ → ℕ → Via → ℕ
 flagsWritten r v s =
     cond (eqb r 1) (clear (s .flags) (portAFlags (s .pcr)))
@@ -54,10 +49,6 @@ flagsWritten r v s =
     (cond (eqb r 9) (clear (s .flags) 32)
     (cond (eqb r 13) (clear (s .flags) (v % 128))
     (s .flags))))
-
--- "Writing 14 sets the enables where bits 0 to 6 are 1 if bit 7 is 1, else clears them."
-unfoldable pub enabledBy : ℕ → ℕ → ℕ
-enabledBy v e = cond (bit 7 v) (bitOr e (v % 128)) (clear e (v % 128))
 
 -- "Registers 10 to 12 store."
 unfoldable pub written : ℕ → ℕ → Via → Via

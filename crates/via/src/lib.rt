@@ -1,10 +1,10 @@
 // The VIA: ports, two timers, flags, and its part of the interrupt level. The state goes in by value, and the next one comes out.
 ghost use mathlib.Core.Path.{_≡_};
-ghost use mathlib.Core.Bool.{cond, true, false};
-ghost use Prim.Native.Nat.{_<_, _+_, _*_, _/_, _%_};
+ghost use mathlib.Core.Bool.{cond, false};
+ghost use Prim.Native.Nat.{_<_};
 ghost use Rattle.timer.specs.Timer.{steps};
-ghost use Rattle.via.specs.Writes.{portAFlags, enabledBy, written};
-ghost use Rattle.via.specs.Via.{freshVia, latchOf, counter1, counter2, settled, ticks, raisedOf, asking, levelOf, resetOf, acceptedVia};
+ghost use Rattle.via.specs.Writes.{timer1Written, written};
+ghost use Rattle.via.specs.Via.{freshVia, latchOf, counter1, counter2, ticks, raisedOf, asking, levelOf, resetOf, acceptedVia};
 use timer::Counter;
 
 // Output bits and directions of ports B and A; a direction bit of 1 is an output.
@@ -80,11 +80,24 @@ pub fn fresh() -> Via
     }
 }
 
+impl Timer1 {
+    // Register 5 takes the value: the latches go into the counter.
+    fn load(mut self, value: u8) -> Timer1
+        ensures { λ r. ⌜ r ≡ timer1Written 5 value self ⌝ }
+    {
+        self.counter = viabits::word(value, self.low);
+        self.high = value;
+        self.armed = true;
+        self.due = false;
+        self
+    }
+}
+
 // n VIA ticks of T1, in free run or not.
 fn run1(t: Timer1, free: bool, n: u16) -> Counter
     ensures { λ r. ⌜ r ≡ steps n free (latchOf t) (counter1 t) ⌝ }
 {
-    let latch = (t.high as u16) * 256 + (t.low as u16);
+    let latch = viabits::word(t.high, t.low);
     let counter = Counter {
         value: t.counter,
         armed: t.armed,
@@ -111,35 +124,20 @@ fn run2(t: Timer2, still: bool, n: u16) -> Counter
     }
 }
 
-// The mask where it is on, else nothing.
-fn mask(on: bool, bits: u8) -> u8
-    ensures { λ r. ⌜ r ≡ cond on bits 0 ⌝ }
-{
-    if on { bits } else { 0 }
-}
-
 impl Via {
-    // The timers come to a and b, and those that fired set their flags.
-    fn settle(self, a: Counter, b: Counter) -> Via
-        ensures { λ r. ⌜ r ≡ settled self a b ⌝ }
-    {
-        let mut via = self;
-        via.t1.counter = a.value;
-        via.t1.armed = a.armed;
-        via.t1.due = a.due;
-        via.t2.counter = b.value;
-        via.t2.armed = b.armed;
-        via.flags = self.flags | mask(a.fired, 64) | mask(b.fired, 32);
-        via
-    }
-
     // n VIA ticks, worked out from n.
-    pub fn wait(self, n: u16) -> Via
+    pub fn wait(mut self, n: u16) -> Via
         ensures { λ r. ⌜ r ≡ ticks n self ⌝ }
     {
         let a = run1(self.t1, self.acr / 64 % 2 == 1, n);
         let b = run2(self.t2, self.acr / 32 % 2 == 1, n);
-        self.settle(a, b)
+        self.t1.counter = a.value;
+        self.t1.armed = a.armed;
+        self.t1.due = a.due;
+        self.t2.counter = b.value;
+        self.t2.armed = b.armed;
+        self.flags = self.flags | viabits::pick(a.fired, 64, 0) | viabits::pick(b.fired, 32, 0);
+        self
     }
 
     // The flags of the mask are set: 2 for vertical blanking, 1 for a second.
@@ -161,7 +159,7 @@ impl Via {
     pub fn level(self) -> u8
         ensures { λ r. ⌜ r ≡ levelOf self ⌝ }
     {
-        mask(self.asks(), 1)
+        viabits::pick(self.asks(), 1, 0)
     }
 
     // Counters, latches and register 10 stay; the rest is as fresh.
@@ -184,43 +182,7 @@ impl Via {
     {
         (self.flags < 128) & (self.enables < 128)
     }
-}
 
-// ---- what writing a register changes
-// The one or the other.
-pub fn pick(on: bool, new: u8, old: u8) -> u8
-    ensures { λ r. ⌜ r ≡ cond on new old ⌝ }
-{
-    if on { new } else { old }
-}
-
-// ---- what writing a register changes
-fn load(high: u8, low: u8) -> u16
-    ensures { λ r. ⌜ r ≡ high * 256 + low ⌝ }
-{
-    (high as u16) * 256 + (low as u16)
-}
-
-// The flags that an access to register 1 clears: flag 1, and flag 0 unless PCR bits 3 to 1 are 001 or 011.
-pub fn port_a_flags(pcr: u8) -> u8
-    ensures { λ r. ⌜ r ≡ portAFlags pcr ⌝ }
-{
-    let control = pcr / 2 % 8;
-    pick((control == 1) | (control == 3), 2, 3)
-}
-
-// Enables set where bits 0 to 6 are 1 if bit 7 is 1, else cleared.
-fn enable(value: u8, enables: u8) -> u8
-    ensures { λ r. ⌜ r ≡ enabledBy value enables ⌝ }
-{
-    pick(
-        value / 128 % 2 == 1,
-        enables | value % 128,
-        enables & !(value % 128),
-    )
-}
-
-impl Via {
     // The value is written to a register.
     pub fn write(mut self, register: u8, value: u8) -> Via
         requires { ⌜ register < 16 ⌝ }
@@ -230,17 +192,13 @@ impl Via {
             0 => self.ports.outb = value,
             1 => {
                 self.ports.outa = value;
-                self.flags = self.flags & !port_a_flags(self.pcr);
+                self.flags = self.flags & !viabits::port_a_flags(self.pcr);
             },
             2 => self.ports.dirb = value,
             3 => self.ports.dira = value,
             4 => self.t1.low = value,
             5 => {
-                let counter = load(value, self.t1.low);
-                self.t1.counter = counter;
-                self.t1.high = value;
-                self.t1.armed = true;
-                self.t1.due = false;
+                self.t1 = self.t1.load(value);
                 self.flags = self.flags & !64;
             },
             6 => self.t1.low = value,
@@ -250,7 +208,7 @@ impl Via {
             },
             8 => self.t2.low = value,
             9 => {
-                let counter = load(value, self.t2.low);
+                let counter = viabits::word(value, self.t2.low);
                 self.t2.counter = counter;
                 self.t2.armed = true;
                 self.flags = self.flags & !32;
@@ -259,7 +217,7 @@ impl Via {
             11 => self.acr = value,
             12 => self.pcr = value,
             13 => self.flags = self.flags & !(value % 128),
-            14 => self.enables = enable(value, self.enables),
+            14 => self.enables = viabits::enable(value, self.enables),
             _ => self.ports.outa = value,
         }
         self

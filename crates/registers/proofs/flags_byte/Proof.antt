@@ -5,7 +5,7 @@ use Rattle.registers.proofs.flags_byte.Statement.{statement}
 use Rattle.registers.proofs.flags_byte.Tie as tie
 use Rattle.registers.proofs.flags_byte.Reads as reads
 use Rattle.registers.proofs.flags_byte.Lts as lts
-use Rattle.via.proofs.pick.Reads as pick-reads
+use Rattle.viabits.proofs.pick.Reads as pick-reads
 use Rattle.via.proofs.Via.asks.Reads as asks-reads
 
 -- src/lib.rt:136:10

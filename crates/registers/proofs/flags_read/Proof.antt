@@ -5,8 +5,8 @@ use Rattle.registers.proofs.flags_read.Statement.{statement}
 use Rattle.registers.proofs.flags_read.Tie as tie
 use Rattle.registers.proofs.flags_read.Reads as reads
 use Rattle.registers.proofs.flags_read.Lts as lts
-use Rattle.via.proofs.pick.Reads as pick-reads
-use Rattle.via.proofs.port_a_flags.Reads as port-a-flags-reads
+use Rattle.viabits.proofs.pick.Reads as pick-reads
+use Rattle.viabits.proofs.port_a_flags.Reads as port-a-flags-reads
 
 -- src/lib.rt:169:9
 pick-requires : tie.Need-pick-requires

@@ -6,21 +6,8 @@ use Rattle.via.proofs.run1.Reads as reads
 use Rattle.via.proofs.run1.Lts as lts
 use Rattle.timer.proofs.Counter.run.Reads as run-reads
 
--- src/lib.rt:101:18
-cast-latch : tie.Need-cast-latch
-cast-latch c = search needs
-
--- src/lib.rt:101:17
-mul-latch : tie.Need-mul-latch
-mul-latch c = search needs
-
--- src/lib.rt:101:42
-cast-latch-2 : tie.Need-cast-latch-2
-cast-latch-2 c = search needs
-
--- src/lib.rt:101:17
-add-latch : tie.Need-add-latch
-add-latch c = search needs
+word-requires : tie.Need-word-requires
+word-requires c κs = search needs
 
 -- src/lib.rt:108:5
 run-requires : tie.Need-run-requires
@@ -29,7 +16,7 @@ run-requires c κs = search needs
 -- src/lib.rt:98:1
 returns : tie.Need-returns
 unfolding latchOf
-returns c = c .run .ensures
+returns c = simp (c .run .ensures, c .before .word .ensures)
 
 pub run1-spec : {M : Type 1} → statement M
-run1-spec = tie.close (tie.spec cast-latch mul-latch cast-latch-2 add-latch run-requires returns)
+run1-spec = tie.close (tie.spec word-requires run-requires returns)

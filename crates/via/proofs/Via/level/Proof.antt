@@ -5,20 +5,20 @@ use Rattle.via.proofs.Via.level.Tie as tie
 use Rattle.via.proofs.Via.level.Reads as reads
 use Rattle.via.proofs.Via.level.Lts as lts
 use Rattle.via.proofs.Via.asks.Reads as asks-reads
-use Rattle.via.proofs.mask.Reads as mask-reads
+use Rattle.viabits.proofs.pick.Reads as pick-reads
 
 -- src/lib.rt:179:14
 asks-requires : tie.Need-asks-requires
 asks-requires c κs = search needs
 
 -- src/lib.rt:179:9
-mask-requires : tie.Need-mask-requires
-mask-requires c κs = search needs
+pick-requires : tie.Need-pick-requires
+pick-requires c κs = search needs
 
 -- src/lib.rt:176:5
 returns : tie.Need-returns
 unfolding levelOf
-returns c = simp (c .mask .ensures, c .before .asks .ensures)
+returns c = simp (c .pick .ensures, c .before .asks .ensures)
 
 pub level-spec : {M : Type 1} → statement M
-level-spec = tie.close (tie.spec asks-requires mask-requires returns)
+level-spec = tie.close (tie.spec asks-requires pick-requires returns)

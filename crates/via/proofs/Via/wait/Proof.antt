@@ -1,4 +1,7 @@
 use mathlib.Core.Path.{sym, ap₂, _∙_}
+use Prim.Native.Nat.{ℕ}
+use lib.Bits.{bitOr}
+use Rattle.via.specs.Setters.{withFlags}
 use Rattle.via.specs.Via.{settled}
 use Rattle.via.proofs.Waits.{waits}
 use borrow.Author.Needs.{needs}
@@ -6,30 +9,36 @@ use Rattle.via.proofs.Via.wait.Statement.{statement}
 use Rattle.via.proofs.Via.wait.Tie as tie
 use Rattle.via.proofs.Via.wait.Reads as reads
 use Rattle.via.proofs.Via.wait.Lts as lts
-use Rattle.via.proofs.Via.settle.Reads as settle-reads
 use Rattle.via.proofs.run1.Reads as run1-reads
 use Rattle.via.proofs.run2.Reads as run2-reads
+use Rattle.viabits.proofs.pick.Reads as pick-reads
 
--- src/lib.rt:154:13
+-- src/lib.rt:132:13
 run1-requires : tie.Need-run1-requires
 run1-requires c κs = search needs
 
--- src/lib.rt:155:13
+-- src/lib.rt:133:13
 run2-requires : tie.Need-run2-requires
 run2-requires c κs = search needs
 
--- src/lib.rt:156:9
-settle-requires : tie.Need-settle-requires
-settle-requires c κs = search needs
+-- src/lib.rt:140:34
+pick-requires : tie.Need-pick-requires
+pick-requires c κs = search needs
 
--- src/lib.rt:151:5
+-- src/lib.rt:140:66
+pick-requires-2 : tie.Need-pick-requires-2
+pick-requires-2 c κs = search needs
+
+-- src/lib.rt:129:5
 returns : tie.Need-returns
 returns c =
-    let b = c .before .before .before in
-    let a = b .before .before .args in
-    c .settle .ensures
-    ∙ ap₂ (settled (a .self)) (b .run1 .ensures) (c .before .run2 .ensures)
+    let second = c .before .before .before .before .before .before .before .before in
+    let first = second .before .before in
+    let a = first .before .before .args in
+    ap₂ (λ (f g : ℕ). withFlags (settled (a .self) (first .run1 .result) (second .run2 .result)) (bitOr (bitOr (a .self .flags) f) g))
+    (c .before .before .pick .ensures) (c .pick2 .ensures)
+    ∙ ap₂ (settled (a .self)) (first .run1 .ensures) (second .run2 .ensures)
     ∙ sym (waits (a .n) (a .self))
 
 pub wait-spec : {M : Type 1} → statement M
-wait-spec = tie.close (tie.spec run1-requires run2-requires settle-requires returns)
+wait-spec = tie.close (tie.spec run1-requires run2-requires pick-requires pick-requires-2 returns)

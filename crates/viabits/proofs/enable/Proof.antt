@@ -1,0 +1,19 @@
+use borrow.Author.Needs.{needs}
+use Rattle.viabits.specs.Bytes.{enabledBy}
+use Rattle.viabits.proofs.enable.Statement.{statement}
+use Rattle.viabits.proofs.enable.Tie as tie
+use Rattle.viabits.proofs.enable.Reads as reads
+use Rattle.viabits.proofs.enable.Lts as lts
+use Rattle.viabits.proofs.pick.Reads as pick-reads
+
+-- src/lib.rt:99:5
+pick-requires : tie.Need-pick-requires
+pick-requires c κs = search needs
+
+-- src/lib.rt:96:1
+returns : tie.Need-returns
+unfolding enabledBy
+returns c = c .pick .ensures
+
+pub enable-spec : {M : Type 1} → statement M
+enable-spec = tie.close (tie.spec pick-requires returns)

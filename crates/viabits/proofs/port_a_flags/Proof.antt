@@ -1,0 +1,19 @@
+use borrow.Author.Needs.{needs}
+use Rattle.viabits.specs.Bytes.{portAFlags}
+use Rattle.viabits.proofs.port_a_flags.Statement.{statement}
+use Rattle.viabits.proofs.port_a_flags.Tie as tie
+use Rattle.viabits.proofs.port_a_flags.Reads as reads
+use Rattle.viabits.proofs.port_a_flags.Lts as lts
+use Rattle.viabits.proofs.pick.Reads as pick-reads
+
+-- src/lib.rt:82:5
+pick-requires : tie.Need-pick-requires
+pick-requires c κs = search needs
+
+-- src/lib.rt:78:1
+returns : tie.Need-returns
+unfolding portAFlags
+returns c = c .pick .ensures
+
+pub port-a-flags-spec : {M : Type 1} → statement M
+port-a-flags-spec = tie.close (tie.spec pick-requires returns)
