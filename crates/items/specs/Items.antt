@@ -1,9 +1,9 @@
--- What the bytes of a record of each kind ask for: document 01, "Items and answers as bytes" and refusals 3 to 5, and request W-203's DI.
+-- What the bytes of a record of each kind with no range to keep ask for: document 01, "Items and answers as bytes" and refusals 3 and 4; the ranges of every kind's item.
 use Prim.Native.Nat.{ℕ, _<_}
 use mathlib.Core.Bool.{cond}
 use mathlib.Core.List.{List}
 use lib.ListN.{length, getD}
-use lib.Dec.{ltb, eqb}
+use lib.Dec.{eqb}
 use Rattle.record.specs.Record.{le16Of, le32Of}
 use Rattle.items.specs.declared.Item.{Item}
 use Rattle.items.specs.declared.Item.the-variants.{ReadVia, ReadIwm, WriteVia, WriteIwm, Line, Sense, Power, Disk}
@@ -29,10 +29,6 @@ placed (Via r) f g = Done (f r)
 placed (Iwm k) f g = Done (g k)
 placed Nowhere f g = Refused 4
 
--- Refusal 5, "line, drive, register or level out of range".
-abbrev pub upTo : ℕ → ℕ → Decoded → Decoded
-upTo v most x = cond (ltb most v) (Refused 5) x
-
 -- "Every item's body begins with a wait in VIA ticks (2 bytes)."
 abbrev pub waitOf : List ℕ → ℕ
 waitOf s = le16Of s 2
@@ -46,27 +42,9 @@ unfoldable pub writeOf : List ℕ → Decoded
 writeOf s =
     sized s 9 (placed (foundOf (le32Of s 4)) (λ r. WriteVia (waitOf s) r (getD s 8 0)) (λ k. WriteIwm (waitOf s) k (getD s 8 0)))
 
--- IN, 6: "line 0 to 4, level 0 or 1"; W-205: "IN gains line 5 (serial chip asks) and line 6 (programmer's switch)".
-unfoldable pub lineOf : List ℕ → Decoded
-lineOf s = sized s 6 (upTo (getD s 4 0) 6 (upTo (getD s 5 0) 1 (Done (Line (waitOf s) (getD s 4 0) (getD s 5 0)))))
-
--- SN, 7: "drive 0 internal or 1 external, register 0 to 15, level".
-unfoldable pub senseOf : List ℕ → Decoded
-senseOf s =
-    sized s 7 (upTo (getD s 4 0) 1 (upTo (getD s 5 0) 15 (upTo (getD s 6 0) 1 (Done (Sense (waitOf s) (getD s 4 0) (getD s 5 0) (getD s 6 0))))))
-
 -- PW, 8: "power cut: seconds off (4)".
 unfoldable pub powerOf : List ℕ → Decoded
 powerOf s = sized s 8 (Done (Power (waitOf s) (le32Of s 4)))
-
--- DI, 8: "drive, insert 1 or remove 0, locked 1, double-sided 1"; "in all four, always, other values get refusal 5".
-unfoldable pub diskOf : List ℕ → Decoded
-diskOf s =
-    sized s 8
-    (upTo (getD s 4 0) 1
-    (upTo (getD s 5 0) 1
-    (upTo (getD s 6 0) 1
-    (upTo (getD s 7 0) 1 (Done (Disk (waitOf s) (getD s 4 0) (getD s 5 0) (getD s 6 0) (getD s 7 0)))))))
 
 -- VB, SE, RS, 4: nothing after the wait.
 abbrev pub plainItem : Plain → ℕ → Item

@@ -1,8 +1,8 @@
-// The kinds of items, and the body of each kind read: an item or a refusal.
+// The kinds of items, and the bodies of those with no range to keep: RD, WR, VB, SE, RS, PW.
 ghost use mathlib.Core.Path.{_≡_};
 ghost use Prim.Native.Nat.{_≤_};
 ghost use lib.ListN.{length};
-ghost use Rattle.items.specs.Items.{refusalOf, plainOf, readOf, writeOf, lineOf, senseOf, powerOf, diskOf};
+ghost use Rattle.items.specs.Items.{refusalOf, plainOf, readOf, writeOf, powerOf};
 use addresses::Found;
 
 // What a record asks for. Each wait is in VIA ticks.
@@ -147,48 +147,6 @@ pub fn write_item(s: &[u8]) -> Decoded
     }
 }
 
-// IN
-pub fn line_item(s: &[u8]) -> Decoded
-    requires { ⌜ 2 ≤ length (now s) ⌝ }
-    ensures { λ r. ⌜ r ≡ lineOf (now (s .entry)) ⌝ }
-{
-    if s.len() != 6 {
-        return Decoded::Refused(3);
-    }
-    let line = s[4];
-    let level = s[5];
-    if (6 < line) | (1 < level) {
-        return Decoded::Refused(5);
-    }
-    Decoded::Done(Item::Line {
-        wait: record::le16(s, 2),
-        line,
-        level,
-    })
-}
-
-// SN
-pub fn sense_item(s: &[u8]) -> Decoded
-    requires { ⌜ 2 ≤ length (now s) ⌝ }
-    ensures { λ r. ⌜ r ≡ senseOf (now (s .entry)) ⌝ }
-{
-    if s.len() != 7 {
-        return Decoded::Refused(3);
-    }
-    let drive = s[4];
-    let register = s[5];
-    let level = s[6];
-    if (1 < drive) | (15 < register) | (1 < level) {
-        return Decoded::Refused(5);
-    }
-    Decoded::Done(Item::Sense {
-        wait: record::le16(s, 2),
-        drive,
-        register,
-        level,
-    })
-}
-
 // PW
 pub fn power_item(s: &[u8]) -> Decoded
     requires { ⌜ 2 ≤ length (now s) ⌝ }
@@ -200,29 +158,5 @@ pub fn power_item(s: &[u8]) -> Decoded
     Decoded::Done(Item::Power {
         wait: record::le16(s, 2),
         seconds: record::le32(s, 4),
-    })
-}
-
-// DI
-pub fn disk_item(s: &[u8]) -> Decoded
-    requires { ⌜ 2 ≤ length (now s) ⌝ }
-    ensures { λ r. ⌜ r ≡ diskOf (now (s .entry)) ⌝ }
-{
-    if s.len() != 8 {
-        return Decoded::Refused(3);
-    }
-    let external = s[4];
-    let insert = s[5];
-    let locked = s[6];
-    let sides = s[7];
-    if (1 < external) | (1 < insert) | (1 < locked) | (1 < sides) {
-        return Decoded::Refused(5);
-    }
-    Decoded::Done(Item::Disk {
-        wait: record::le16(s, 2),
-        drive: external,
-        insert,
-        locked,
-        sides,
     })
 }

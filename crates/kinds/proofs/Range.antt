@@ -10,7 +10,8 @@ use borrow.Author.Tests.{ltb-false}
 use Rattle.record.specs.Record.{le32Of, Bytes}
 use Rattle.record.proofs.Laws.{le16-width, le32-width}
 use Rattle.addresses.specs.Addresses.{foundOf}
-use Rattle.items.specs.Items.{sized, placed, upTo, waitOf, readOf, writeOf, lineOf, senseOf, powerOf, diskOf, plainItem, plainOf, InRange, InWidth}
+use Rattle.items.specs.Items.{sized, placed, waitOf, readOf, writeOf, powerOf, plainItem, plainOf, InRange, InWidth}
+use Rattle.ranged.specs.Ranged.{upTo, lineOf, senseOf, diskOf}
 use Rattle.kinds.specs.Kinds.{isKind, decodedOf}
 use Rattle.items.specs.declared.Item.{Item}
 use Rattle.items.specs.declared.Item.the-variants.{ReadVia, ReadIwm, WriteVia, WriteIwm}

@@ -3,7 +3,8 @@ use mathlib.Core.Path.{_≡_, refl}
 use mathlib.Core.List.{[], _∷_}
 use Rattle.record.specs.Record.{le16Of, le32Of}
 use Rattle.addresses.specs.Addresses.{placeFrom, foundOf}
-use Rattle.items.specs.Items.{plainOf, readOf, writeOf, lineOf, senseOf, powerOf, diskOf}
+use Rattle.items.specs.Items.{plainOf, readOf, writeOf, powerOf}
+use Rattle.ranged.specs.Ranged.{lineOf, senseOf, diskOf}
 use Rattle.kinds.specs.Kinds.{isKind, decodedOf}
 use Rattle.items.specs.declared.Item.{Item}
 use Rattle.items.specs.declared.Item.the-variants.{ReadVia, ReadIwm, WriteVia, Line, Sense, Power, Disk}

@@ -4,7 +4,8 @@ use mathlib.Core.Bool.{Bool, cond, _&&_}
 use mathlib.Core.List.{List, [], _∷_}
 use lib.ListN.{getD}
 use lib.Dec.{eqb}
-use Rattle.items.specs.Items.{readOf, writeOf, lineOf, senseOf, powerOf, diskOf, plainOf}
+use Rattle.items.specs.Items.{readOf, writeOf, powerOf, plainOf}
+use Rattle.ranged.specs.Ranged.{lineOf, senseOf, diskOf}
 use Rattle.items.specs.declared.Decoded.{Decoded}
 use Rattle.items.specs.declared.Decoded.the-variants.{Refused}
 use Rattle.items.specs.declared.Plain.{Plain}

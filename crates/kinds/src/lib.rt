@@ -32,10 +32,10 @@ pub fn decode(s: &[u8]) -> Decoded
         return items::plain_item(s, Plain::Second);
     }
     if is(s, b"IN") {
-        return items::line_item(s);
+        return ranged::line_item(s);
     }
     if is(s, b"SN") {
-        return items::sense_item(s);
+        return ranged::sense_item(s);
     }
     if is(s, b"RS") {
         return items::plain_item(s, Plain::Reset);
@@ -44,7 +44,7 @@ pub fn decode(s: &[u8]) -> Decoded
         return items::power_item(s);
     }
     if is(s, b"DI") {
-        return items::disk_item(s);
+        return ranged::disk_item(s);
     }
     Decoded::Refused(2)
 }

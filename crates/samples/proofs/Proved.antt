@@ -18,9 +18,11 @@ use Rattle.drives.specs.Drives.{drivesTicks, placed, placeRefused, drivesPowere
 use Rattle.wiring.specs.Wiring.{wiresOf, selOf, inputsOf, interruptLevel, watchedOf}
 use Rattle.record.specs.Record.{le16Of, le32Of, frameOf, answerBytes, noOf}
 use Rattle.addresses.specs.Addresses.{placeFrom, foundOf}
-use Rattle.items.specs.Items.{writeOf, plainOf, powerOf, diskOf}
+use Rattle.items.specs.Items.{writeOf, plainOf, powerOf}
+use Rattle.ranged.specs.Ranged.{diskOf}
 use Rattle.kinds.specs.Kinds.{isKind, decodedOf}
 use Rattle.items.specs.Items as items
+use Rattle.ranged.specs.Ranged as ranged
 use Rattle.machine.specs.Machine.{acceptedOf}
 use Rattle.effect.specs.Effect.{viaRead, iwmRead}
 use Rattle.action.specs.Action.{actedOf}
@@ -53,7 +55,7 @@ samples =
 
 pub driveSamples : DriveSamples
 unfolding allLevels freshVia tickOf ticks resetOf asking levelOf acceptedVia written between stepWires next acts act shown acceptedPhase linesOff accessed lineByteOf
-    senseAt readLine wiresOf selOf watchedOf le16Of le32Of frameOf answerBytes noOf isKind placeFrom foundOf writeOf plainOf powerOf diskOf decodedOf items.readOf items.senseOf
+    senseAt readLine wiresOf selOf watchedOf le16Of le32Of frameOf answerBytes noOf isKind placeFrom foundOf writeOf plainOf powerOf diskOf decodedOf items.readOf ranged.senseOf
     registerWritten neighbour tickDrive driveTicks drivesSense sense.senseOf shownOf acceptedDrive tickStrobe strobeTicks heldStill unspoilt strobeAfter registerOf
     longEnough strobeWrites acceptedStrobe drivesTicks placed placeRefused drivesPowered drivesAfter drivesShown acceptedDrives
     acceptedOf waitOf iwmRead actedOf stepOf refusesOf answerOf cut piecesFrom turnOf onto onPiece runPieces runOf values

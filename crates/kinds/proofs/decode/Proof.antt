@@ -5,13 +5,13 @@ use Rattle.kinds.proofs.decode.Statement.{statement}
 use Rattle.kinds.proofs.decode.Tie as tie
 use Rattle.kinds.proofs.decode.Reads as reads
 use Rattle.kinds.proofs.decode.Lts as lts
-use Rattle.items.proofs.disk_item.Reads as disk-item-reads
+use Rattle.ranged.proofs.disk_item.Reads as disk-item-reads
 use Rattle.kinds.proofs.is.Reads as is-reads
-use Rattle.items.proofs.line_item.Reads as line-item-reads
+use Rattle.ranged.proofs.line_item.Reads as line-item-reads
 use Rattle.items.proofs.plain_item.Reads as plain-item-reads
 use Rattle.items.proofs.power_item.Reads as power-item-reads
 use Rattle.items.proofs.read_item.Reads as read-item-reads
-use Rattle.items.proofs.sense_item.Reads as sense-item-reads
+use Rattle.ranged.proofs.sense_item.Reads as sense-item-reads
 use Rattle.items.proofs.write_item.Reads as write-item-reads
 
 -- src/lib.rt:308:8

@@ -1,11 +1,11 @@
 use borrow.Author.Needs.{needs}
-use Rattle.items.specs.Items.{senseOf}
+use Rattle.ranged.specs.Ranged.{senseOf}
 use borrow.Author.Tests.{eq-eqb, ne-eqb}
-use Rattle.items.proofs.Any.{any3}
-use Rattle.items.proofs.sense_item.Statement.{statement}
-use Rattle.items.proofs.sense_item.Tie as tie
-use Rattle.items.proofs.sense_item.Reads as reads
-use Rattle.items.proofs.sense_item.Lts as lts
+use Rattle.ranged.proofs.Any.{any3}
+use Rattle.ranged.proofs.sense_item.Statement.{statement}
+use Rattle.ranged.proofs.sense_item.Tie as tie
+use Rattle.ranged.proofs.sense_item.Reads as reads
+use Rattle.ranged.proofs.sense_item.Lts as lts
 use Rattle.record.proofs.le16.Reads as le16-reads
 
 -- src/lib.rt:176:9

@@ -1,11 +1,11 @@
 use borrow.Author.Needs.{needs}
-use Rattle.items.specs.Items.{lineOf}
+use Rattle.ranged.specs.Ranged.{lineOf}
 use borrow.Author.Tests.{eq-eqb, ne-eqb}
-use Rattle.items.proofs.Any.{any2}
-use Rattle.items.proofs.line_item.Statement.{statement}
-use Rattle.items.proofs.line_item.Tie as tie
-use Rattle.items.proofs.line_item.Reads as reads
-use Rattle.items.proofs.line_item.Lts as lts
+use Rattle.ranged.proofs.Any.{any2}
+use Rattle.ranged.proofs.line_item.Statement.{statement}
+use Rattle.ranged.proofs.line_item.Tie as tie
+use Rattle.ranged.proofs.line_item.Reads as reads
+use Rattle.ranged.proofs.line_item.Lts as lts
 use Rattle.record.proofs.le16.Reads as le16-reads
 
 -- src/lib.rt:156:9
