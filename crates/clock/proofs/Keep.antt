@@ -20,15 +20,12 @@ use Rattle.phase.specs.declared.Wires.{Wires}
 use Rattle.store.specs.declared.Store.{Store}
 use Rattle.clock.specs.declared.Clock.{Clock}
 use Rattle.command.proofs.Range.{bit-le}
-use Rattle.phase.proofs.Range.{and-left, and-right, few-count, few-value}
-
-both : (a b : Bool) → a ≡ true → b ≡ true → (a && b) ≡ true
-both true b h k = k
-both false b h k = h
+use Rattle.phase.proofs.Range.{few-count, few-value}
+use Rattle.levels.proofs.Laws.{both, joined}
 
 judged-ok : (N : ℕ) (s : Store) (v : ℕ) (c : Command) → decode N v ≡ c → acceptedPhase N (judged s v c) false ≡ true
 unfolding acceptedPhase
-judged-ok N s v (Write t) e = both (isWrite (decode N v)) true (ap isWrite e) refl
+judged-ok N s v (Write t) e = joined (isWrite (decode N v)) true (ap isWrite e) refl
 judged-ok N s v (Read t) e = refl
 judged-ok N s v Illegal e = refl
 
@@ -38,7 +35,7 @@ few-more n v b h e =
     let l : n < 8 = few-count n v h in
     let u : v < 2 ^ n = few-value n v h in
     let x : 2 * v + bit b < 2 ^ suc n = omega (arith, bit-le b) in
-    both (ltb (n + 1) 8) (ltb (2 * v + bit b) (2 ^ (n + 1))) (lt-ltb (n + 1) 8 (omega (arith, eqb-false n 7 e)))
+    joined (ltb (n + 1) 8) (ltb (2 * v + bit b) (2 ^ (n + 1))) (lt-ltb (n + 1) 8 (omega (arith, eqb-false n 7 e)))
     (lt-ltb (2 * v + bit b) (2 ^ (n + 1)) (rw add-one x))
 
 listened-ok : (N : ℕ) (s : Store) (n v : ℕ) (b t : Bool) → eqb n 7 ≡ t → fewBits n v ≡ true
@@ -52,8 +49,8 @@ taken-ok : (N c n v : ℕ) (b t : Bool) → eqb n 7 ≡ t → (isWrite (decode N
 unfolding acceptedPhase
 taken-ok N c n v b true e h = refl
 taken-ok N c n v b false e h =
-    both (isWrite (decode N c)) (fewBits (n + 1) (2 * v + bit b)) (and-left (isWrite (decode N c)) (fewBits n v) h)
-    (few-more n v b (and-right (isWrite (decode N c)) (fewBits n v) h) e)
+    joined (isWrite (decode N c)) (fewBits (n + 1) (2 * v + bit b)) (both (isWrite (decode N c)) (fewBits n v) h .0)
+    (few-more n v b (both (isWrite (decode N c)) (fewBits n v) h .1) e)
 
 shifted-ok : (N y n : ℕ) (t : Bool) → eqb n 8 ≡ t → ltb n 9 ≡ true → acceptedPhase N (cond t Ignoring (Sending y (n + 1))) false ≡ true
 unfolding acceptedPhase

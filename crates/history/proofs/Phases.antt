@@ -4,10 +4,11 @@ use mathlib.Core.Bool.{Bool, true, false, not, _&&_, false≢true}
 use Prim.Native.Nat.{ℕ, _+_, _-_, _/_, _%_, _^_, _<_}
 use lib.Dec.{ltb, leb, eqb}
 use borrow.Author.Tests.{ltb-true, leb-false, not-true}
+use Rattle.levels.proofs.Laws.{both}
 use Rattle.command.specs.Command.{named, decode, isWrite}
 use Rattle.phase.specs.Phase.{fewBits, acceptedPhase}
 use Rattle.command.proofs.Range.{cond-case}
-use Rattle.phase.proofs.Range.{and-left, and-right, few-count, few-value}
+use Rattle.phase.proofs.Range.{few-count, few-value}
 use Rattle.command.specs.declared.Command.{Command}
 use Rattle.phase.specs.declared.Phase.{Phase}
 use Rattle.phase.specs.declared.Phase.the-variants.{Idle, Listening, Taking, Sending, Ignoring}
@@ -24,13 +25,13 @@ pub parts : (N : ℕ) (p : Phase) (e : Bool) → acceptedPhase N p e ≡ true �
 unfolding acceptedPhase
 parts N Idle e h = h
 parts N (Listening n v) e h =
-    let f : fewBits n v ≡ true = and-right (not e) (fewBits n v) h in
-    (not-true e (and-left (not e) (fewBits n v) h), few-count n v f, few-value n v f)
+    let f : fewBits n v ≡ true = both (not e) (fewBits n v) h .1 in
+    (not-true e (both (not e) (fewBits n v) h .0), few-count n v f, few-value n v f)
 parts N (Taking c n v) e h =
-    let r : (isWrite (decode N c) && fewBits n v) ≡ true = and-right (not e) (isWrite (decode N c) && fewBits n v) h in
-    let f : fewBits n v ≡ true = and-right (isWrite (decode N c)) (fewBits n v) r in
-    (not-true e (and-left (not e) (isWrite (decode N c) && fewBits n v) h), and-left (isWrite (decode N c)) (fewBits n v) r, few-count n v f, few-value n v f)
-parts N (Sending y n) e h = (not-true e (and-left (not e) (ltb n 9) h), ltb-true n 9 (and-right (not e) (ltb n 9) h))
+    let r : (isWrite (decode N c) && fewBits n v) ≡ true = both (not e) (isWrite (decode N c) && fewBits n v) h .1 in
+    let f : fewBits n v ≡ true = both (isWrite (decode N c)) (fewBits n v) r .1 in
+    (not-true e (both (not e) (isWrite (decode N c) && fewBits n v) h .0), both (isWrite (decode N c)) (fewBits n v) r .0, few-count n v f, few-value n v f)
+parts N (Sending y n) e h = (not-true e (both (not e) (ltb n 9) h .0), ltb-true n 9 (both (not e) (ltb n 9) h .1))
 parts N Ignoring e h = not-true e h
 
 -- A command with bit 7 set is no write.

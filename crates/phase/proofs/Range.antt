@@ -1,24 +1,17 @@
 -- Ranges: how many bits are taken, and their value.
 use mathlib.Core.Path.{_≡_, refl, ap}
-use mathlib.Core.Bool.{Bool, true, false, not, _&&_, false≢true}
+use mathlib.Core.Bool.{Bool, true, false, not, _&&_}
 use Prim.Native.Nat.{ℕ, zero, suc, _+_, _*_, _/_, _^_, _<_}
 use native.Mathlib.Omega.{arith}
 use lib.Dec.{ltb, eqb}
 use native.Mathlib.Nat.{div-eq-of-lt, lt-mul-div-succ}
 use lib.Pow.{pow-pos}
 use borrow.Author.Tests.{ltb-true, ltb-false, eq-eqb, ne-eqb}
+use Rattle.levels.proofs.Laws.{both}
 use Rattle.command.specs.Command.{decode, isWrite}
 use Rattle.phase.specs.Phase.{fewBits, acceptedPhase, counts}
 use Rattle.phase.specs.declared.Phase.{Phase}
 use Rattle.phase.specs.declared.Phase.the-variants.{Idle, Listening, Taking, Sending, Ignoring}
-
-pub and-left : (a b : Bool) → (a && b) ≡ true → a ≡ true
-and-left true b h = refl
-and-left false b h = h
-
-pub and-right : (a b : Bool) → (a && b) ≡ true → b ≡ true
-and-right true b h = h
-and-right false b h = absurd (false≢true h)
 
 -- Seven bits at most are below 128.
 small : (n v : ℕ) → n < 8 → v < 2 ^ n → v < 128
@@ -33,10 +26,10 @@ small (suc (suc (suc (suc (suc (suc (suc zero))))))) v h l = omega arith
 small (suc (suc (suc (suc (suc (suc (suc (suc n)))))))) v h l = absurd (omega arith)
 
 pub few-count : (n v : ℕ) → fewBits n v ≡ true → n < 8
-few-count n v h = ltb-true n 8 (and-left (ltb n 8) (ltb v (2 ^ n)) h)
+few-count n v h = ltb-true n 8 (both (ltb n 8) (ltb v (2 ^ n)) h .0)
 
 pub few-value : (n v : ℕ) → fewBits n v ≡ true → v < 2 ^ n
-few-value n v h = ltb-true v (2 ^ n) (and-right (ltb n 8) (ltb v (2 ^ n)) h)
+few-value n v h = ltb-true v (2 ^ n) (both (ltb n 8) (ltb v (2 ^ n)) h .1)
 
 pub few-small : (n v : ℕ) → fewBits n v ≡ true → v < 128
 few-small n v h = small n v (few-count n v h) (few-value n v h)
@@ -53,8 +46,8 @@ below-shift n v = go (ltb v (2 ^ n)) refl
 pub accepted-counts : (N : ℕ) (p : Phase) (e : Bool) → acceptedPhase N p e ≡ true → counts p ≡ true
 unfolding acceptedPhase
 accepted-counts N Idle e h = refl
-accepted-counts N (Listening n v) e h = and-right (not e) (fewBits n v) h
+accepted-counts N (Listening n v) e h = both (not e) (fewBits n v) h .1
 accepted-counts N (Taking c n v) e h =
-    and-right (isWrite (decode N c)) (fewBits n v) (and-right (not e) (isWrite (decode N c) && fewBits n v) h)
-accepted-counts N (Sending y n) e h = and-right (not e) (ltb n 9) h
+    both (isWrite (decode N c)) (fewBits n v) (both (not e) (isWrite (decode N c) && fewBits n v) h .1) .1
+accepted-counts N (Sending y n) e h = both (not e) (ltb n 9) h .1
 accepted-counts N Ignoring e h = refl

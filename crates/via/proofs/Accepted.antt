@@ -1,31 +1,27 @@
 -- Time, an edge of VB or SE, reset and a power cut keep an accepted VIA accepted.
-use mathlib.Core.Path.{_≡_, refl, ap, ap₂, _∙_}
-use mathlib.Core.Bool.{Bool, true, false, cond, _&&_, and-comm}
+use mathlib.Core.Path.{_≡_, refl, ap, _∙_}
+use mathlib.Core.Bool.{Bool, true, false, cond}
 use Prim.Native.Nat.{ℕ, _<_}
 use native.Mathlib.Omega.{arith}
 use borrow.Author.Tests.{lt-ltb, ltb-true}
 use lib.Dec.{ltb}
 use lib.Bits.{bitOr, or-lt}
+use Rattle.levels.proofs.Laws.{both, joined}
 use Rattle.viabits.specs.Bytes.{bit}
 use Rattle.via.specs.Via.{freshVia, ticks, raisedOf, resetOf, acceptedVia}
 use Rattle.via.specs.declared.Via.{Via}
 use Rattle.via.proofs.Waits.{first, second, waits}
 
 -- What accepted says, as two bounds.
-left : (a b : Bool) → (a && b) ≡ true → a ≡ true
-left true b e = refl
-left false b e = e
-
 pub below : (v : Via) → acceptedVia v ≡ true → (v .flags < 128) × (v .enables < 128)
 unfolding acceptedVia
 below v h =
-    let f = ltb (v .flags) 128 in
-    let e = ltb (v .enables) 128 in
-    (ltb-true (v .flags) 128 (left f e h), ltb-true (v .enables) 128 (left e f (and-comm e f ∙ h)))
+    let p = both (ltb (v .flags) 128) (ltb (v .enables) 128) h in
+    (ltb-true (v .flags) 128 (p .0), ltb-true (v .enables) 128 (p .1))
 
 pub accept : (v : Via) → v .flags < 128 → v .enables < 128 → acceptedVia v ≡ true
 unfolding acceptedVia
-accept v f e = ap₂ (λ (a b : Bool). a && b) (lt-ltb (v .flags) 128 f) (lt-ltb (v .enables) 128 e)
+accept v f e = joined (ltb (v .flags) 128) (ltb (v .enables) 128) (lt-ltb (v .flags) 128 f) (lt-ltb (v .enables) 128 e)
 
 pub either : (t : Bool) (x y : ℕ) → x < 128 → y < 128 → cond t x y < 128
 either true x y h k = h
