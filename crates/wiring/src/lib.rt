@@ -55,31 +55,16 @@ fn middle(a: u8, b: u8, c: u8, d: u8) -> u8
     8 * a + 16 * b + 32 * c + 64 * d
 }
 
-// PB0 the clock's data line, PB3 to PB6 IN lines 0 to 3, the rest undriven.
-fn inputs_b(line: u8, lines: u8) -> u8
-    requires { ⌜ (line < 2) × (lines < 121) ⌝ }
-    ensures { λ r. ⌜ r ≡ line + 2 + 4 + lines + 128 ⌝ }
-{
-    line + 2 + 4 + lines + 128
-}
-
-// PA7 IN line 4, the rest undriven.
-fn inputs_a(line: u8) -> u8
-    requires { ⌜ line < 2 ⌝ }
-    ensures { λ r. ⌜ r ≡ 127 + 128 * line ⌝ }
-{
-    127 + 128 * line
-}
-
-// What the outside gives the ports; `line` is the level that the chip gives its data line.
+// What the outside gives the ports: PB0 the clock's data line, PB3 to PB6 IN lines 0 to 3, PA7 IN line 4, the rest undriven.
+// `line` is the level that the chip gives its data line.
 pub fn inputs_of(line: bool, lines: [u8; 7]) -> Inputs
     requires { ⌜ allLevels lines ≡ true ⌝ }
     ensures { λ r. ⌜ r ≡ inputsOf line lines ⌝ }
 {
     let between = middle(lines[0], lines[1], lines[2], lines[3]);
     Inputs {
-        b: inputs_b(level_of(line), between),
-        a: inputs_a(lines[4]),
+        b: level_of(line) + 2 + 4 + between + 128,
+        a: 127 + 128 * lines[4],
     }
 }
 

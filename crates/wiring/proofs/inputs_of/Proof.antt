@@ -1,3 +1,4 @@
+use native.Mathlib.Omega.{arith}
 use Rattle.wiring.specs.Wiring.{inputsOf}
 use Rattle.levels.proofs.Laws.{level-at}
 use borrow.Author.Needs.{needs}
@@ -5,51 +6,65 @@ use Rattle.wiring.proofs.inputs_of.Statement.{statement}
 use Rattle.wiring.proofs.inputs_of.Tie as tie
 use Rattle.wiring.proofs.inputs_of.Reads as reads
 use Rattle.wiring.proofs.inputs_of.Lts as lts
-use Rattle.wiring.proofs.inputs_a.Reads as inputs-a-reads
-use Rattle.wiring.proofs.inputs_b.Reads as inputs-b-reads
 use Rattle.wiring.proofs.level_of.Reads as level-of-reads
 use Rattle.wiring.proofs.middle.Reads as middle-reads
 
--- src/lib.rt:113:26
+-- src/lib.rt:64:26
 array-read-middle : tie.Need-array-read-middle
 array-read-middle c = search needs
 
--- src/lib.rt:113:36
+-- src/lib.rt:64:36
 array-read-middle-2 : tie.Need-array-read-middle-2
 array-read-middle-2 c = search needs
 
--- src/lib.rt:113:46
+-- src/lib.rt:64:46
 array-read-middle-3 : tie.Need-array-read-middle-3
 array-read-middle-3 c = search needs
 
--- src/lib.rt:113:56
+-- src/lib.rt:64:56
 array-read-middle-4 : tie.Need-array-read-middle-4
 array-read-middle-4 c = search needs
 
--- src/lib.rt:113:9
+-- src/lib.rt:64:9
 middle-requires : tie.Need-middle-requires
 middle-requires c κs = (level-at _ 0 (c .pre), level-at _ 1 (c .pre), level-at _ 2 (c .pre), level-at _ 3 (c .pre))
 
--- src/lib.rt:115:21
+-- src/lib.rt:66:12
 level-of-requires : tie.Need-level-of-requires
 level-of-requires c κs = search needs
 
--- src/lib.rt:115:12
-inputs-b-requires : tie.Need-inputs-b-requires
-inputs-b-requires c κs = search needs
+-- src/lib.rt:66:12
+add-t16 : tie.Need-add-t16
+add-t16 c = search needs
 
--- src/lib.rt:116:21
-array-read-inputs-a : tie.Need-array-read-inputs-a
-array-read-inputs-a c = search needs
+-- src/lib.rt:66:12
+add-t13 : tie.Need-add-t13
+add-t13 c = search needs
 
--- src/lib.rt:116:12
-inputs-a-requires : tie.Need-inputs-a-requires
-inputs-a-requires c κs = level-at _ 4 (c .before .before .before .pre)
+-- src/lib.rt:66:12
+add-t10 : tie.Need-add-t10
+add-t10 c = search needs
 
--- src/lib.rt:109:1
+-- src/lib.rt:66:12
+add-t17 : tie.Need-add-t17
+add-t17 c = search needs
+
+-- src/lib.rt:67:24
+array-read-t20 : tie.Need-array-read-t20
+array-read-t20 c = search needs
+
+-- src/lib.rt:67:18
+mul-t21 : tie.Need-mul-t21
+mul-t21 c = omega (arith, level-at _ 4 (c .before .before .pre))
+
+-- src/lib.rt:67:12
+add-t22 : tie.Need-add-t22
+add-t22 c = omega (arith, level-at _ 4 (c .before .before .pre))
+
+-- src/lib.rt:60:1
 returns : tie.Need-returns
 unfolding inputsOf
-returns c = simp (c .inputs-a .ensures, c .before .inputs-b .ensures, c .before .before .level-of .ensures .0, c .before .before .before .middle .ensures .0)
+returns c = simp (c .level-of .ensures .0, c .before .middle .ensures .0)
 
 pub inputs-of-spec : {M : Type 1} → statement M
 inputs-of-spec =
@@ -61,7 +76,11 @@ inputs-of-spec =
     array-read-middle-4
     middle-requires
     level-of-requires
-    inputs-b-requires
-    array-read-inputs-a
-    inputs-a-requires
+    add-t16
+    add-t13
+    add-t10
+    add-t17
+    array-read-t20
+    mul-t21
+    add-t22
     returns)
