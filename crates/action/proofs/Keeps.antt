@@ -19,7 +19,7 @@ use Rattle.items.specs.declared.Item.{Item}
 use Rattle.items.specs.declared.Item.the-variants.{ReadVia, ReadIwm, WriteVia, WriteIwm, Blank, Second, Line, Sense, Reset, Power, Disk}
 use Rattle.machine.specs.declared.Machine.{Machine}
 use Rattle.machine.specs.Machine.{Levels}
-use Rattle.effect.specs.Effect.{viaRead, iwmRead}
+use Rattle.accesses.specs.Accesses.{viaRead, iwmRead}
 use Rattle.action.specs.Action.{actedOf}
 
 -- What an action leaves of the levels and of the VIA.

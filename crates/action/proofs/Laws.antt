@@ -3,7 +3,7 @@ use mathlib.Core.Path.{_≡_, refl}
 use Rattle.items.specs.declared.Item.{Item}
 use Rattle.items.specs.declared.Item.the-variants.{ReadVia, ReadIwm, WriteVia, WriteIwm, Blank, Second, Line, Sense, Reset, Power, Disk}
 use Rattle.machine.specs.declared.Machine.{Machine}
-use Rattle.effect.specs.Effect.{viaRead, iwmRead}
+use Rattle.accesses.specs.Accesses.{viaRead, iwmRead}
 use Rattle.action.specs.Action.{actedOf}
 
 -- An action moves no phase: the clock sees its wires afterwards.

@@ -11,9 +11,10 @@ use Rattle.drives.specs.Drives.{placed, drivesPowered}
 use Rattle.items.specs.declared.Item.{Item}
 use Rattle.items.specs.declared.Item.the-variants.{ReadVia, ReadIwm, WriteVia, WriteIwm, Blank, Second, Line, Sense, Reset, Power, Disk}
 use Rattle.machine.specs.declared.Machine.{Machine}
-use Rattle.machine.specs.Machine.{withVia, withDisk, withInputs, withSense, withDrives}
-use Rattle.effect.specs.declared.Did.{Did}
-use Rattle.effect.specs.Effect.{passed, noValue, viaRead, iwmRead}
+use Rattle.machine.specs.Machine.{withVia, withDisk, withInputs, withSense, withDrives, noValue}
+use Rattle.machine.specs.declared.Did.{Did}
+use Rattle.accesses.specs.Accesses.{viaRead, iwmRead}
+use Rattle.events.specs.Events.{passed}
 
 -- What an item does to the clock beside its wires.
 unfoldable pub eventOf : Item → Event

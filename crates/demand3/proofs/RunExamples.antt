@@ -24,9 +24,10 @@ use Rattle.machine.specs.declared.Machine.{Machine}
 use Rattle.wiring.specs.Wiring.{wiresOf}
 use Rattle.machine.specs.Machine.{acceptedOf, freshMachine}
 use Rattle.action.specs.Action.{eventOf, actedOf}
-use Rattle.step.specs.Step.{waitOf, stepOf, refusesOf}
+use Rattle.stages.specs.Stages.{waitOf, refusesOf}
+use Rattle.step.specs.Step.{stepOf}
 use Rattle.turn.specs.Turn.{turnOf}
-use Rattle.run.specs.Run.{cut, piecesFrom, onto, onPiece, runPieces, runOf}
+use Rattle.outcome.specs.Outcome.{cut, piecesFrom, onto, onPiece, runPieces, runOf}
 use Rattle.history.specs.History.{History, wiresAt, rises, ended, protectAt, endedClear, last, secondsAt}
 use Rattle.history.specs.Start.{freshStart}
 use Rattle.history.specs.Items.{stateAfter, historyOf}

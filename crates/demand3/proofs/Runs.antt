@@ -28,13 +28,14 @@ use Rattle.kinds.specs.Kinds.{decodedOf}
 use Rattle.machine.specs.declared.Machine.{Machine}
 use Rattle.wiring.specs.Wiring.{pin, wiresOf}
 use Rattle.machine.specs.Machine.{cellCount, wires, acceptedOf, freshMachine}
-use Rattle.effect.specs.Effect.{viaRead, iwmRead}
+use Rattle.accesses.specs.Accesses.{viaRead, iwmRead}
 use Rattle.action.specs.Action.{eventOf, actedOf}
-use Rattle.step.specs.Step.{waitOf, waited, stepOf, refusesOf}
+use Rattle.stages.specs.Stages.{waitOf, waited, refusesOf}
+use Rattle.step.specs.Step.{stepOf}
 use Rattle.machine.proofs.Laws.{parts}
 use Rattle.step.proofs.Drives.{disk-wires}
 use Rattle.turn.specs.Turn.{refused, carriedOut, turnBy, turnOf}
-use Rattle.run.specs.Run.{Piece, whole, broken, pieces, halt, onto, onPiece, runPieces, runOf}
+use Rattle.outcome.specs.Outcome.{Piece, whole, broken, pieces, halt, onto, onPiece, runPieces, runOf}
 use Rattle.history.specs.History.{wiresAt}
 use Rattle.history.specs.Start.{Accepted, freshStart}
 use Rattle.history.specs.Demand3.{clockAfter}

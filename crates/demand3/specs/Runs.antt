@@ -13,9 +13,9 @@ use Rattle.kinds.specs.Kinds.{decodedOf}
 use Rattle.machine.specs.declared.Machine.{Machine}
 use Rattle.machine.specs.Machine.{cellCount, wires}
 use Rattle.action.specs.Action.{eventOf}
-use Rattle.step.specs.Step.{refusesOf}
+use Rattle.stages.specs.Stages.{refusesOf}
 use Rattle.turn.specs.Turn.{turnOf}
-use Rattle.run.specs.Run.{Piece, whole, broken, pieces}
+use Rattle.outcome.specs.Outcome.{Piece, whole, broken, pieces}
 use Rattle.history.specs.History.{Start, Entry, History, cellAt, testAt, protectAt, secondsAt, gained, Kept}
 use Rattle.history.specs.Start.{startOf}
 use Rattle.history.specs.Items.{stateAfter, historyOf, entriesSince}

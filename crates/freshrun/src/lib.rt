@@ -3,9 +3,9 @@ ghost use mathlib.Core.Path.{_≡_};
 ghost use Prim.Native.Nat.{_≤_};
 ghost use lib.ListN.{length};
 ghost use Rattle.machine.specs.Machine.{freshMachine};
-ghost use Rattle.run.specs.Run.{ranOf, over, runOf};
+ghost use Rattle.outcome.specs.Outcome.{ranOf, over, runOf};
 ghost use Rattle.demand3.specs.Runs.{Run3};
-use run::Ran;
+use outcome::Ran;
 
 // Runs the list from the fresh machine: what `run` gives, and demand 3 of the machine handed back.
 pub fn run_fresh(list: &[u8], answers: &mut [u8]) -> Ran

@@ -18,6 +18,7 @@ use Rattle.strobe.specs.declared.Watched.{Watched}
 use Rattle.drives.specs.declared.Drives.{Drives}
 use Rattle.drives.specs.Drives.{freshDrives, acceptedDrives}
 use Rattle.machine.specs.declared.Machine.{Machine}
+use Rattle.machine.specs.declared.Did.{Did}
 
 -- ---- the state, field by field
 
@@ -38,6 +39,10 @@ withSense m x = record { via = m .via; clock = m .clock; disk = m .disk; inputs 
 
 abbrev pub withDrives : Machine → Drives → Machine
 withDrives m x = record { via = m .via; clock = m .clock; disk = m .disk; inputs = m .inputs; sense = m .sense; drives = x }
+
+-- What an item leaves that reads nothing: "value read (0 unless RD)".
+abbrev pub noValue : Machine → Did
+noValue m = record { machine = m; value = 0 }
 
 -- "The clock chip with its 20 cells."
 abbrev pub cellCount : ℕ

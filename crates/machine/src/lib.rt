@@ -1,4 +1,4 @@
-// The machine: the whole state by value, the fresh one, and which states are accepted.
+// The machine: the whole state by value, the fresh one, and which states are accepted; and what an item leaves of it.
 ghost use mathlib.Core.Path.{_≡_};
 ghost use Rattle.machine.specs.Machine.{wires, watched, acceptedOf, freshMachine};
 use clock::Clock;
@@ -18,6 +18,12 @@ pub struct Machine {
     pub sense: [u8; 32],
     // The two drives behind the disk lines, and their strobe.
     pub drives: Drives,
+}
+
+// What an item leaves: the next state and the value read.
+pub struct Did {
+    pub machine: Machine,
+    pub value: u8,
 }
 
 pub fn fresh() -> Machine

@@ -1,15 +1,12 @@
 -- A turn of `run`'s loop, on plain values.
-use Prim.Native.Nat.{ℕ, zero, suc, _+_, _-_, _≤_, _<_}
+use Prim.Native.Nat.{ℕ, _+_, _-_, _≤_, _<_}
 use mathlib.Core.Path.{_≡_, refl, sym, ap, _∙_}
-use mathlib.Core.Bool.{Bool, true, false, cond}
-use lib.Dec.{ltb}
-use mathlib.Core.List.{List, [], _∷_, _++_, append-nil, append-assoc}
+use mathlib.Core.Bool.{true, false}
+use mathlib.Core.List.{List, [], _++_, append-nil}
 use native.Mathlib.Omega.{arith}
-use native.Mathlib.Nat.{le-of-eq, add-zero, zero-add, add-assoc, sub-zero, sub-add-eq}
-use native.Mathlib.Numerals.{add-one, sub-one}
+use native.Mathlib.Nat.{le-of-eq, add-zero, sub-zero, sub-add-eq}
 use lib.ListN.{length, take, drop, length-append, length-drop, take-append-drop, drop-of-length-le}
-use lib.Seq.{take-all, length-take-le, take-at, drop-at, drop-drop, drop-nil}
-use borrow.Author.Tests.{lt-ltb, le-ltb, ltb-false}
+use lib.Seq.{take-all, length-take-le, take-at, drop-at, drop-drop}
 use Rattle.record.specs.Record.{frameOf, answerBytes, noOf, putAt}
 use Rattle.record.specs.declared.Framed.{Framed}
 use Rattle.record.specs.declared.Framed.the-variants.{Whole, Cut}
@@ -17,31 +14,12 @@ use Rattle.record.proofs.Laws.{answer-long, whole-fits}
 use Rattle.machine.specs.declared.Machine.{Machine}
 use Rattle.machine.specs.Machine.{acceptedOf}
 use Rattle.turn.proofs.Keeps.{turn-keeps}
-use Rattle.run.specs.declared.Ran.{Ran}
+use Rattle.outcome.specs.declared.Ran.{Ran}
 use Rattle.turn.specs.declared.Turn.{Turn}
 use Rattle.turn.specs.Turn.{turnOf}
-use Rattle.run.specs.Run.{Piece, whole, broken, cut, piecesFrom, pieces, Out, halt, onto, onPiece, runPieces, runOf, ranOf, over}
-
--- ---- the pieces of a list
-
-pub pieces-drop : (k : ℕ) (l : List ℕ) → piecesFrom k l ≡ pieces (drop k l)
-unfolding piecesFrom
-pieces-drop zero l = refl
-pieces-drop (suc k) [] = refl
-pieces-drop (suc k) (x ∷ xs) = pieces-drop k xs
-
-pub pieces-broken : (l : List ℕ) → 0 < length l → frameOf l ≡ Cut → pieces l ≡ broken ∷ []
-unfolding piecesFrom cut
-pieces-broken [] h e = absurd (omega arith)
-pieces-broken (x ∷ xs) h e = ap (λ f. cut f (x ∷ xs) (λ k. piecesFrom k xs)) e
-
-pub pieces-whole : (l : List ℕ) (n : ℕ) → frameOf l ≡ Whole n → pieces l ≡ whole (take (n - 2) (drop 2 l)) ∷ pieces (drop n l)
-unfolding piecesFrom cut
-pieces-whole [] n e = let h = whole-fits [] n e in absurd (omega arith)
-pieces-whole (x ∷ xs) zero e = let h = whole-fits (x ∷ xs) 0 e in absurd (omega arith)
-pieces-whole (x ∷ xs) (suc n) e =
-    ap (λ f. cut f (x ∷ xs) (λ k. piecesFrom k xs)) e
-    ∙ ap (λ (p : List Piece). whole (take (suc n - 2) (drop 2 (x ∷ xs))) ∷ p) (ap (λ (k : ℕ). piecesFrom k xs) (omega arith) ∙ pieces-drop n xs)
+use Rattle.outcome.specs.Outcome.{Piece, piecesFrom, pieces, Out, halt, onto, runPieces, runOf, ranOf, over}
+use Rattle.outcome.proofs.Users.{item-after-item, no-record, written-fits}
+use Rattle.outcome.proofs.Pieces.{pieces-broken, pieces-whole, bytes-left, onto-none, onto-onto}
 
 -- what a slice from `at` on is
 pub at-rest : (l : List ℕ) (at : ℕ) → take (length l - at) (drop at l) ≡ drop at l
@@ -57,62 +35,6 @@ pub body-long : (l : List ℕ) (at n : ℕ) → frameOf (drop at l) ≡ Whole n 
 body-long l at n e =
     let f = whole-fits (drop at l) n e in
     rw at-rest (rw (length-take-le (n - 2) (drop 2 (drop at l)) (simp (length-drop 2 (drop at l)) (omega arith))) (omega arith))
-
--- ---- outcomes
-
-pub onto-none : (o : Out) → o ≡ onto [] 0 o
-unfolding onto
-onto-none o = ap (λ (n : ℕ). record { machine = o .machine; stop = o .stop; consumed = n; answers = o .answers }) (sym (zero-add (o .consumed)))
-
-pub onto-onto : (a b : List ℕ) (n k : ℕ) (o : Out) → onto a n (onto b k o) ≡ onto (a ++ b) (n + k) o
-unfolding onto
-onto-onto a b n k o = simp (append-assoc, add-assoc)
-
--- one whole record
-pub run-whole : (m : Machine) (s : List ℕ) (ps : List Piece) (room : ℕ) → 8 ≤ room
-    → runPieces m (whole s ∷ ps) room ≡ onto (answerBytes (turnOf m s .answer)) (length s + 2) (runPieces (turnOf m s .machine) ps (room - 8))
-unfolding runPieces onPiece
-run-whole m s ps room h = simp (le-ltb _ _ h)
-
--- something is left, and no room
-pub no-room : (m : Machine) (s : List ℕ) (room : ℕ) → 0 < length s → room < 8 → runPieces m (pieces s) room ≡ halt m 6
-unfolding runPieces piecesFrom cut
-no-room m [] room h r = absurd (omega arith)
-no-room m (x ∷ xs) room h r = any (frameOf (x ∷ xs))
-  where
-    any : (f : Framed) → runPieces m (cut f (x ∷ xs) (λ k. piecesFrom k xs)) room ≡ halt m 6
-    any (Whole n) = simp (lt-ltb _ _ r)
-    any Cut = simp (lt-ltb _ _ r)
-
--- bytes that are no whole record
-pub run-broken : (m : Machine) (room : ℕ) → 8 ≤ room
-    → runPieces m (broken ∷ []) room ≡ record { machine = m; stop = 1; consumed = 0; answers = answerBytes (noOf 1) }
-unfolding runPieces onPiece
-run-broken m room h = simp (le-ltb _ _ h)
-
--- the answers are within the room
-run-room : (ps : List Piece) (m : Machine) (room : ℕ) → length (runPieces m ps room .answers) ≤ room
-unfolding runPieces onPiece onto
-run-room [] m room = omega arith
-run-room (broken ∷ ps) m room = go (ltb room 8) refl
-  where
-    go : (t : Bool) → ltb room 8 ≡ t → length ((cond t (halt m 6) (onPiece m broken (λ m₁. runPieces m₁ ps (room - 8)))) .answers) ≤ room
-    go true e = omega arith
-    go false e = rw (answer-long (noOf 1)) (ltb-false _ _ e)
-run-room (whole s ∷ ps) m room = go (run-room ps (turnOf m s .machine) (room - 8)) (ltb room 8) refl
-  where
-    go : length (runPieces (turnOf m s .machine) ps (room - 8) .answers) ≤ room - 8 → (t : Bool) → ltb room 8 ≡ t
-        → length ((cond t (halt m 6) (onPiece m (whole s) (λ m₁. runPieces m₁ ps (room - 8)))) .answers) ≤ room
-    go r true e = omega arith
-    go r false e = simp (length-append, answer-long (turnOf m s .answer)) (omega (arith, ltb-false))
-
-pub answers-fit : (m : Machine) (l : List ℕ) (room : ℕ) → length (runOf m l room .answers) ≤ room
-unfolding runOf
-answers-fit m l room = go (acceptedOf m)
-  where
-    go : (t : Bool) → length ((cond t (runPieces m (pieces l) room) (halt m 7)) .answers) ≤ room
-    go true = run-room (pieces l) m room
-    go false = omega arith
 
 -- ---- the loop
 
@@ -133,12 +55,12 @@ module _ (l a₀ : List ℕ) (m₀ : Machine) where
 
   -- the contract: its first two clauses give the third
   pub ret : {r : Ran} {a : List ℕ} → Ret r a → (r ≡ ranOf (runOf m₀ l (length a₀))) × ((a ≡ over (runOf m₀ l (length a₀)) a₀) × (r .written ≤ length a₀))
-  ret p = (p .0, (p .1, omega (arith, ap (λ (x : Ran). x .written) (p .0), answers-fit m₀ l (length a₀))))
+  ret p = (p .0, (p .1, omega (arith, ap (λ (x : Ran). x .written) (p .0), written-fits m₀ l (length a₀))))
 
   -- a state that is not accepted
-  pub unaccepted : acceptedOf m₀ ≡ false → Ret (record { machine = m₀; stop = 7; consumed = 0; written = 0 }) a₀
+  pub unaccepted : acceptedOf m₀ ≡ false → {r : Ran} → r ≡ ranOf (halt m₀ 7) → Ret r a₀
   unfolding runOf
-  unaccepted e = simp e (refl, refl)
+  unaccepted e p = simp e (p, refl)
 
   module _ (acc : acceptedOf m₀ ≡ true) (a : List ℕ) (m : Machine) (at out : ℕ) (h : Head a m at out) where
     front : length (take out a) ≡ out
@@ -167,7 +89,7 @@ module _ (l a₀ : List ℕ) (m₀ : Machine) where
 
       -- no room for an answer
       pub full : length a - out < 8 → Ret (record { machine = m; stop = 6; consumed = at; written = out }) a
-      full e = here 6 (no-room m (drop at l) (length a₀ - out) some (omega arith))
+      full e = here 6 (bytes-left m (drop at l) (length a₀ - out) some (omega arith))
 
       -- what the list has past the front and what the buffer has past an answer
       past : drop (out + 8) a ≡ drop (out + 8) a₀
@@ -179,7 +101,7 @@ module _ (l a₀ : List ℕ) (m₀ : Machine) where
             → Ret (record { machine = m; stop = 1; consumed = at; written = out + 8 }) a′
         unfolding onto
         cutoff e a′ w =
-            rw (from (ap (λ (p : List Piece). runPieces m p (length a₀ - out)) (pieces-broken (drop at l) some e) ∙ run-broken m (length a₀ - out) (omega arith))) (
+            rw (from (ap (λ (p : List Piece). runPieces m p (length a₀ - out)) (pieces-broken (drop at l) some e) ∙ no-record m [] (length a₀ - out) (omega arith))) (
               simp (add-zero, length-append, front, answer-long (noOf 1)),
               simp (length-append, front, answer-long (noOf 1)) (w ∙ ap (λ (r : List ℕ). take out a ++ answerBytes (noOf 1) ++ r) (simp (answer-long (noOf 1)) past)),
             )
@@ -199,7 +121,7 @@ module _ (l a₀ : List ℕ) (m₀ : Machine) where
             let N : length s + 2 ≡ n =
             omega (arith, length-take-le (n - 2) (drop 2 (drop at l)) (simp length-drop (omega arith))) in
             let T : take (out + 8) a′ ≡ take out a ++ x = ap (take (out + 8)) w ∙ take-at (take out a ++ x) (drop (out + length x) a) (out + 8) lx in
-            let E = ap (λ (p : List Piece). runPieces m p (length a₀ - out)) (pieces-whole (drop at l) n e) ∙ run-whole m s (pieces (drop n (drop at l))) (length a₀ - out) (omega arith) in
+            let E = ap (λ (p : List Piece). runPieces m p (length a₀ - out)) (pieces-whole (drop at l) n e) ∙ item-after-item m s (pieces (drop n (drop at l))) (length a₀ - out) (omega arith) in
             record {
               ok = turn-keeps m s (h .ok);
               at≤ = omega arith;

@@ -2,16 +2,21 @@
 ghost use mathlib.Core.Path.{_≡_};
 ghost use Prim.Native.Nat.{_≤_};
 ghost use lib.ListN.{length};
-ghost use Rattle.run.specs.Run.{ranOf, over, runOf};
+ghost use Rattle.outcome.specs.Outcome.{halt, ranOf, over, runOf};
 use machine::Machine;
+use outcome::Ran;
 use record::Framed;
 
-// What a run gives back: the machine, the stop number, the bytes consumed and the bytes written.
-pub struct Ran {
-    pub machine: Machine,
-    pub stop: u8,
-    pub consumed: usize,
-    pub written: usize,
+// A state that is not accepted: handed back as given, nothing read or written.
+fn unaccepted(m: Machine) -> Ran
+    ensures { λ r. ⌜ r ≡ ranOf (halt m 7) ⌝ }
+{
+    Ran {
+        machine: m,
+        stop: 7,
+        consumed: 0,
+        written: 0,
+    }
 }
 
 // Runs the list from the machine given. The stop is 0 at the end of the list, else 1, 6 or 7.
@@ -21,12 +26,7 @@ pub fn run(mut m: Machine, list: &[u8], answers: &mut [u8]) -> Ran
     ensures { λ r. ⌜ r .written ≤ length (now (answers .entry)) ⌝ }
 {
     if !m.accepted() {
-        return Ran {
-            machine: m,
-            stop: 7,
-            consumed: 0,
-            written: 0,
-        };
+        return unaccepted(m);
     }
     let mut stop: u8 = 0;
     let mut at: usize = 0;

@@ -24,11 +24,12 @@ use Rattle.kinds.specs.Kinds.{isKind, decodedOf}
 use Rattle.items.specs.Items as items
 use Rattle.ranged.specs.Ranged as ranged
 use Rattle.machine.specs.Machine.{acceptedOf}
-use Rattle.effect.specs.Effect.{viaRead, iwmRead}
+use Rattle.accesses.specs.Accesses.{viaRead, iwmRead}
 use Rattle.action.specs.Action.{actedOf}
-use Rattle.step.specs.Step.{waitOf, stepOf, refusesOf, answerOf}
+use Rattle.stages.specs.Stages.{waitOf, refusesOf}
+use Rattle.step.specs.Step.{stepOf, answerOf}
 use Rattle.turn.specs.Turn.{turnOf}
-use Rattle.run.specs.Run.{cut, piecesFrom, onto, onPiece, runPieces, runOf}
+use Rattle.outcome.specs.Outcome.{cut, piecesFrom, onto, onPiece, runPieces, runOf}
 use Rattle.samples.specs.Lists.{sent}
 use Rattle.samples.specs.Samples.{Samples, values}
 use Rattle.samples.specs.Drives.{DriveSamples}

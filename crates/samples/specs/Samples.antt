@@ -6,7 +6,7 @@ use lib.ListN.{getD}
 use Rattle.phase.specs.declared.Phase.{Phase}
 use Rattle.phase.specs.declared.Phase.the-variants.{Listening, Ignoring}
 use Rattle.machine.specs.Machine.{freshMachine}
-use Rattle.run.specs.Run.{Out, halt, runOf}
+use Rattle.outcome.specs.Outcome.{Out, halt, runOf}
 use Rattle.samples.specs.Lists.{rd, wr, se, begin, end, select, sent, byte, transaction}
 
 -- The fresh machine run over a list, with room for 100 answers.

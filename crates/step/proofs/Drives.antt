@@ -1,8 +1,7 @@
 -- What RS, PW and DI leave of the drives and of the clock's wires: request W-203.
 use Prim.Native.Nat.{ℕ}
 use mathlib.Core.Path.{_≡_, refl, ap, _∙_}
-use mathlib.Core.Bool.{Bool, true, false}
-use lib.Dec.{eqb}
+use mathlib.Core.Bool.{Bool, false}
 use Rattle.via.proofs.Kept.{ticks-ports}
 use Rattle.via.specs.declared.Ports.{Ports}
 use Rattle.phase.specs.Phase.{shown}
@@ -12,12 +11,13 @@ use Rattle.strobe.specs.declared.Watched.{Watched}
 use Rattle.strobe.specs.Strobe.{quiet, afterBy, unspoilt, strobeAfter}
 use Rattle.strobe.proofs.Pulses.{reset-writes-nothing}
 use Rattle.drives.specs.declared.Drives.{Drives}
-use Rattle.drives.specs.Drives.{withStrobe, drivesTicks, placed, placeRefused, drivesPowered, writtenBy, drivesAfter}
+use Rattle.drives.specs.Drives.{withStrobe, drivesTicks, drivesPowered, writtenBy, drivesAfter}
 use Rattle.items.specs.declared.Item.the-variants.{Reset, Power, Disk}
 use Rattle.machine.specs.declared.Machine.{Machine}
 use Rattle.machine.specs.Machine.{wires, watched}
 use Rattle.action.specs.Action.{actedOf}
-use Rattle.step.specs.Step.{waitOf, waited, stepOf, refusesOf}
+use Rattle.stages.specs.Stages.{waitOf, waited}
+use Rattle.step.specs.Step.{stepOf}
 
 -- LSTRB and ENABLE off together: no write, and no strobe.
 dropped : (before after : Watched) (d : Drives) → after .lstrb ≡ false → after .enable ≡ false → drivesAfter before after d ≡ withStrobe d quiet
@@ -40,8 +40,3 @@ power-drives m w s = dropped (watched m) (watched (stepOf m (Power w s) .machine
 pub disk-wires : (m : Machine) (w d i l b : ℕ) → wires (actedOf (waited w m) (Disk w d i l b) .machine) ≡ wires m
 unfolding actedOf
 disk-wires m w d i l b = ap (λ (p : Ports). wiresOf p (shown (m .clock .phase))) (ticks-ports w (m .via))
-
--- "Inserting where a disk is, or removing where none is, gets refusal 8."
-pub clash : (m : Machine) (w d i l b : ℕ) → placeRefused (eqb d 1) (eqb i 1) (m .drives) ≡ true → refusesOf m (Disk w d i l b) ≡ 8
-unfolding refusesOf
-clash m w d i l b h = simp h

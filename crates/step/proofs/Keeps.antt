@@ -16,7 +16,8 @@ use Rattle.machine.proofs.Laws.{parts, whole}
 use Rattle.action.specs.Action.{actedOf}
 use Rattle.action.proofs.Laws.{acted-phase}
 use Rattle.action.proofs.Keeps.{act-keeps, act-keeps-drives}
-use Rattle.step.specs.Step.{waitOf, waited, stepOf}
+use Rattle.stages.specs.Stages.{waitOf, waited}
+use Rattle.step.specs.Step.{stepOf}
 
 -- Enable does not hang on what the chip shows.
 enable-same : (m : Machine) (a b : Bool) → wiresOf (m .via .ports) a .enable ≡ wiresOf (m .via .ports) b .enable

@@ -28,12 +28,14 @@ use Rattle.items.proofs.Item.{the-type}
 use Rattle.machine.specs.declared.Machine.{Machine}
 use Rattle.machine.specs.Machine.{withClock, withDrives, cellCount, wires, watched, acceptedOf}
 use Rattle.machine.proofs.Laws.{parts}
-use Rattle.effect.specs.declared.Did.{Did}
-use Rattle.effect.specs.Effect.{viaRead}
+use Rattle.machine.specs.declared.Did.{Did}
+use Rattle.accesses.specs.Accesses.{viaRead}
 use Rattle.action.specs.Action.{actedOf}
 use Rattle.action.proofs.Laws.{acted-phase}
 use Rattle.action.proofs.Keeps.{act-keeps-drives}
-use Rattle.step.specs.Step.{waitOf, waited, compared, strobed, stepOf, refusesOf}
+use Rattle.stages.specs.Stages.{waitOf, waited}
+use Rattle.stages.proofs.Laws.{waited-wires, waited-watched, unmoved}
+use Rattle.step.specs.Step.{stepOf}
 
 -- The clock meets the wires after an action in a phase that goes with the wires before the item.
 pub met : (m m₁ : Machine) (i : Item) (d : Did) (w : Wires) → d ≡ actedOf m₁ i → m₁ .clock ≡ m .clock → w ≡ wires m → acceptedOf m ≡ true
@@ -43,21 +45,6 @@ met m m₁ i d w p q e a =
     (ap (λ (x : Did). x .machine .clock .phase) p ∙ acted-phase m₁ i ∙ ap (λ (c : Clock). c .phase) q)
     (ap (λ (x : Wires). x .enable) e)
     ∙ parts m a .phase
-
--- A wait moves no line.
-pub waited-wires : (n : ℕ) (m : Machine) → wires (waited n m) ≡ wires m
-waited-wires n m = ap (λ (p : Ports). wiresOf p (shown (m .clock .phase))) (ticks-ports n (m .via))
-
-pub waited-watched : (n : ℕ) (m : Machine) → watched (waited n m) ≡ watched m
-waited-watched n m = ap (λ (p : Ports). watchedOf (m .disk) (selOf p)) (ticks-ports n (m .via))
-
--- Where every line is as before, the clock and the strobe change nothing.
-unmoved : (m : Machine) (w : Wires) (v : Watched) → wires m ≡ w → watched m ≡ v
-    → acceptedPhase cellCount (m .clock .phase) (w .enable) ≡ true → acceptedDrives v (m .drives) ≡ true
-    → strobed v (compared w m) ≡ m
-unmoved m w v p q h k =
-    ap₂ (λ (x : Wires) (y : Watched). withDrives (withClock m (stepWires cellCount (m .clock) w x)) (drivesAfter v y (m .drives))) p q
-    ∙ ap₂ (λ (c : Clock) (d : Drives). withDrives (withClock m c) d) (still cellCount (m .clock) w h) (drives-untouched v (m .drives) k)
 
 -- An action that moves no line, whatever the machine.
 abbrev pub Quiet : Item → Type 0
@@ -79,24 +66,6 @@ kinds-quiet (Sense w d r v) h m = (refl, refl)
 kinds-quiet (Reset w) h m = absurd (miss quiet-kinds 8 tt h)
 kinds-quiet (Power w s) h m = absurd (miss quiet-kinds 9 tt h)
 kinds-quiet (Disk w d i l b) h m = (refl, refl)
-
--- No state refuses an item of another kind than DI.
-abbrev unrefused-kinds : List ℕ
-unrefused-kinds = 0 ∷ 1 ∷ 2 ∷ 3 ∷ 4 ∷ 5 ∷ 6 ∷ 7 ∷ 8 ∷ 9 ∷ []
-
-pub kinds-unrefused : (m : Machine) (i : Item) → OneOf unrefused-kinds (tagOf the-type i) → 0 ≡ refusesOf m i
-unfolding refusesOf
-kinds-unrefused m (ReadVia w r) h = refl
-kinds-unrefused m (ReadIwm w k) h = refl
-kinds-unrefused m (WriteVia w r v) h = refl
-kinds-unrefused m (WriteIwm w k v) h = refl
-kinds-unrefused m (Blank w) h = refl
-kinds-unrefused m (Second w) h = refl
-kinds-unrefused m (Line w l v) h = refl
-kinds-unrefused m (Sense w d r v) h = refl
-kinds-unrefused m (Reset w) h = refl
-kinds-unrefused m (Power w s) h = refl
-kinds-unrefused m (Disk w d i l b) h = absurd (miss unrefused-kinds 10 tt h)
 
 -- An item whose action moves no line is its wait and its action.
 pub quiet-step : (m : Machine) (i : Item) → acceptedOf m ≡ true → Quiet i → stepOf m i ≡ actedOf (waited (waitOf i) m) i

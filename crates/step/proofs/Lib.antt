@@ -1,4 +1,3 @@
 pub mod Laws
 pub mod Keeps
 pub mod Drives
-pub mod Waits

@@ -10,9 +10,9 @@ use Rattle.levels.proofs.Laws.{no}
 use Rattle.machine.specs.declared.Machine.{Machine}
 use Rattle.machine.specs.Machine.{acceptedOf}
 use Rattle.turn.specs.Turn.{turnOf}
-use Rattle.run.specs.declared.Ran.{Ran}
-use Rattle.run.specs.Run.{Piece, whole, broken, pieces, Out, halt, onto, onPiece, runPieces, runOf, ranOf, over}
-use Rattle.run.proofs.Joined.{run-accepted}
+use Rattle.outcome.specs.declared.Ran.{Ran}
+use Rattle.outcome.specs.Outcome.{Piece, whole, broken, pieces, Out, halt, onto, onPiece, runPieces, runOf, ranOf, over}
+use Rattle.outcome.proofs.Users.{accepted-kept}
 use Rattle.image.specs.Image.{imageOf, machineOf, validImage}
 use Rattle.image.proofs.Round.{valid-is, image-typed}
 use Rattle.demand3.specs.Runs.{Run3}
@@ -58,7 +58,7 @@ module _ (i l d : List ℕ) where
       → (i′ : List ℕ) → i′ ≡ imageOf (r .machine) → machineOf i′ ≡ r .machine → (acceptedOf (r .machine) ≡ true → validImage i′ ≡ true) → Post (r .stop) (r .consumed) (r .written) i′ d′
   unfolding callOf callImage callAnswers
   ran e m em r er d′ ed i′ ei er′ ev =
-      let a : acceptedOf (runOf m l (length d) .machine) ≡ true = run-accepted m l (length d) (ap acceptedOf em ∙ valid-is i e .accepted) in
+      let a : acceptedOf (runOf m l (length d) .machine) ≡ true = accepted-kept m l (length d) (ap acceptedOf em ∙ valid-is i e .accepted) in
       let v : validImage i′ ≡ true = ev (ap (λ (x : Ran). acceptedOf (x .machine)) er ∙ a) in
       let k : machineOf i′ ≡ callOf i l (length d) .machine =
       er′ ∙ ap (λ (x : Ran). x .machine) er ∙ ap (λ (x : Machine). runOf x l (length d) .machine) em ∙ sym (ap (λ (o : Out). o .machine) (is-run i l (length d) e)) in

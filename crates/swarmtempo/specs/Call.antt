@@ -6,7 +6,7 @@ use lib.ListN.{length}
 use lib.Dec.{ltb}
 use Rattle.record.specs.Record.{putAt}
 use Rattle.machine.specs.Machine.{freshMachine}
-use Rattle.run.specs.Run.{Out, halt, runOf, over}
+use Rattle.outcome.specs.Outcome.{Out, halt, runOf, over}
 use Rattle.image.specs.Image.{imageLength, imageOf, machineOf, validImage}
 
 -- "An image that no accepted state has gets refusal 7", both counts 0; every other is the state that the run starts from.

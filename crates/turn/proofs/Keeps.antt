@@ -10,7 +10,8 @@ use Rattle.items.specs.declared.Decoded.the-variants.{Done, Refused}
 use Rattle.kinds.proofs.Range.{decoded-range}
 use Rattle.machine.specs.declared.Machine.{Machine}
 use Rattle.machine.specs.Machine.{acceptedOf}
-use Rattle.step.specs.Step.{stepOf, refusesOf}
+use Rattle.stages.specs.Stages.{refusesOf}
+use Rattle.step.specs.Step.{stepOf}
 use Rattle.step.proofs.Keeps.{step-keeps}
 use Rattle.turn.specs.Turn.{carriedOut, refused, turnBy, turnOf}
 

@@ -20,7 +20,8 @@ use Rattle.kinds.proofs.Range.{decoded-range}
 use Rattle.machine.specs.declared.Machine.{Machine}
 use Rattle.machine.specs.Machine.{acceptedOf}
 use Rattle.machine.proofs.Laws.{parts}
-use Rattle.step.specs.Step.{stepOf, refusesOf, answerOf}
+use Rattle.stages.specs.Stages.{refusesOf}
+use Rattle.step.specs.Step.{stepOf, answerOf}
 use Rattle.step.proofs.Laws.{via-level}
 use Rattle.step.proofs.Keeps.{step-keeps}
 use Rattle.turn.specs.Turn.{refused, carriedOut, turnBy, turnOf}

@@ -10,8 +10,9 @@ use Rattle.items.specs.declared.Decoded.{Decoded}
 use Rattle.items.specs.declared.Decoded.the-variants.{Done, Refused}
 use Rattle.kinds.specs.Kinds.{decodedOf}
 use Rattle.machine.specs.declared.Machine.{Machine}
-use Rattle.effect.specs.declared.Did.{Did}
-use Rattle.step.specs.Step.{stepOf, refusesOf, answerOf}
+use Rattle.machine.specs.declared.Did.{Did}
+use Rattle.stages.specs.Stages.{refusesOf}
+use Rattle.step.specs.Step.{stepOf, answerOf}
 use Rattle.turn.specs.declared.Turn.{Turn}
 
 -- The next state and the answer.

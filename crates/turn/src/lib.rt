@@ -28,7 +28,7 @@ pub fn turn_of(m: Machine, s: &[u8]) -> Turn
             answer: record::no(items::refusal(d)),
         };
     };
-    let n = step::refuses(m, item);
+    let n = stages::refuses(m, item);
     if n != 0 {
         return Turn {
             machine: m,

@@ -1,139 +1,120 @@
-// Items run one at a time, and the clock transactions that are made of them.
+// The items that operations make, run on a state's image.
 ghost use Prim.Native.Nat.{_≤_, _<_};
-use machine::Machine;
 
-// What an item left: the machine, and byte 4 of the answer, which is the value read or the refusal's number.
-pub struct Seen {
-    pub machine: Machine,
-    pub value: u8,
-}
-
-// Runs a list of one record.
-pub fn item(m: Machine, list: &[u8]) -> Seen {
-    let mut answers = [0u8; 8];
-    let r = run::run(m, list, &mut answers);
-    let next = r.machine;
-    Seen {
-        machine: next,
-        value: answers[4],
+// Several records of one operation, with zeros behind, at which a run stops. The clock's data is bit 0 of port B, its data-clock bit 1; an
+// input is undriven and 1. The number is the drive's address, the level is the bit to send.
+fn several(op: u8, number: u8, level: u8) -> [u8; 41]
+    requires { ⌜ (number < 16) × (level < 2) ⌝ }
+{
+    match op {
+        // CA0, CA1, CA2 and SEL take bits 1, 2, 3 and 0 of the number.
+        b'a' => {
+            let mut list =
+                *b"\x08\0RD\0\0\xff\0\xdf\0\x08\0RD\0\0\xff\0\xdf\0\x08\0RD\0\0\xff\0\xdf\0\x09\0WR\0\0\xfe\xff\xef\0\0";
+            list[7] = 0xe1 + number / 2 % 2 * 2;
+            list[17] = 0xe5 + number / 4 % 2 * 2;
+            list[27] = 0xe9 + number / 8 * 2;
+            list[40] = number % 2 * 0x20;
+            list
+        }
+        // LSTRB on, off after 1 VIA tick; the sense is read 9,401 VIA ticks later.
+        b's' =>
+            *b"\x08\0RD\0\0\xff\xef\xdf\0\x08\0RD\x01\0\xff\xed\xdf\0\x08\0RD\xb9\x24\xff\xfd\xdf\0\0\0\0\0\0\0\0\0\0\0\0",
+        // Port B is read; data-clock rises and falls.
+        b'g' =>
+            *b"\x08\0RD\0\0\xfe\xe1\xef\0\x09\0WR\0\0\xfe\xe1\xef\0\x02\x09\0WR\0\0\xfe\xe1\xef\0\0\0\0\0\0\0\0\0\0\0",
+        // Data; data-clock rises and falls by writes of the directions.
+        b't' => {
+            let mut list =
+                *b"\x09\0WR\0\0\xfe\xe1\xef\0\0\x09\0WR\0\0\xfe\xe5\xef\0\x05\x09\0WR\0\0\xfe\xe5\xef\0\x07\0\0\0\0\0\0\0\0";
+            list[10] = level;
+            list
+        }
+        // Data with data-clock low, then high.
+        _ => {
+            let mut list =
+                *b"\x09\0WR\0\0\xfe\xe1\xef\0\0\x09\0WR\0\0\xfe\xe1\xef\0\0\0\0\0\0\0\0\0\0\0\0\0\0\0\0\0\0\0\0\0";
+            list[10] = level;
+            list[21] = 2 + level;
+            list
+        }
     }
 }
 
-// WR to a VIA register, wait 0.
-pub fn write(m: Machine, register: u8, value: u8) -> Machine
-    requires { ⌜ register < 16 ⌝ }
+// The records of an operation. The number is a register, a location or an address; low and high are the value to write or the wait in VIA
+// ticks.
+fn records(op: u8, number: u8, level: u8, low: u8, high: u8) -> [u8; 41]
+    requires { ⌜ (number < 16) × (level < 2) ⌝ }
 {
-    let place = 0xe1 + 2 * register;
-    let list = [9, 0, 87, 82, 0, 0, 0xfe, place, 0xef, 0, value];
-    item(m, &list).machine
-}
-
-// RD of a VIA register after a wait in VIA ticks.
-pub fn read(m: Machine, register: u8, wait: u8) -> Seen
-    requires { ⌜ register < 16 ⌝ }
-{
-    let place = 0xe1 + 2 * register;
-    let list = [8, 0, 82, 68, wait, 0, 0xfe, place, 0xef, 0];
-    item(m, &list)
-}
-
-// SE after a wait in VIA ticks.
-pub fn second(m: Machine, wait: u8) -> Machine {
-    let list = [4, 0, 83, 69, wait, 0];
-    item(m, &list).machine
-}
-
-// VB, wait 0.
-pub fn blank(m: Machine) -> Machine {
-    let list = [4, 0, 86, 66, 0, 0];
-    item(m, &list).machine
-}
-
-// RD of $EFE1FF, where nothing is, after a wait in VIA ticks.
-pub fn nowhere(m: Machine, wait: u8) -> Seen {
-    let list = [8, 0, 82, 68, wait, 0, 0xff, 0xe1, 0xef, 0];
-    item(m, &list)
-}
-
-// PW, so many seconds off.
-pub fn power(m: Machine, seconds: u8) -> Machine {
-    let list = [8, 0, 80, 87, 0, 0, seconds, 0, 0, 0];
-    item(m, &list).machine
-}
-
-// Port B has the clock's data in bit 0, its data-clock in bit 1, its enable, low active, in bit 2. All three become outputs; enable is 1
-// and data-clock 0.
-pub fn ready(m: Machine) -> Machine {
-    write(write(m, 0, 4), 2, 7)
-}
-
-// A transaction starts: enable falls.
-pub fn start(m: Machine) -> Machine {
-    write(ready(m), 0, 0)
-}
-
-// Enable goes up.
-pub fn finish(m: Machine) -> Machine {
-    write(m, 0, 4)
-}
-
-// One bit: data-clock falls, then rises, by a write of the port or, turned, by writes of the direction, since an input is undriven and 1.
-fn bit(m: Machine, level: u8, turned: bool) -> Machine
-    requires { ⌜ level < 2 ⌝ }
-{
-    let low = write(m, 0, level);
-    if turned {
-        return write(write(low, 2, 5), 2, 7);
+    let place = 0xe1 + 2 * number;
+    match op {
+        // WR to a VIA register.
+        b'w' => {
+            let mut list =
+                *b"\x09\0WR\0\0\xfe\0\xef\0\0\0\0\0\0\0\0\0\0\0\0\0\0\0\0\0\0\0\0\0\0\0\0\0\0\0\0\0\0\0\0";
+            list[7] = place;
+            list[10] = low;
+            list
+        }
+        // RD of a VIA register after a wait.
+        b'r' => {
+            let mut list =
+                *b"\x08\0RD\0\0\xfe\0\xef\0\0\0\0\0\0\0\0\0\0\0\0\0\0\0\0\0\0\0\0\0\0\0\0\0\0\0\0\0\0\0\0";
+            list[4] = low;
+            list[5] = high;
+            list[7] = place;
+            list
+        }
+        // RD of an IWM location after a wait.
+        b'i' => {
+            let mut list =
+                *b"\x08\0RD\0\0\xff\0\xdf\0\0\0\0\0\0\0\0\0\0\0\0\0\0\0\0\0\0\0\0\0\0\0\0\0\0\0\0\0\0\0\0";
+            list[4] = low;
+            list[5] = high;
+            list[7] = place;
+            list
+        }
+        _ => several(op, number, level),
     }
-    write(low, 0, 2 + level)
 }
 
-// The first `count` bits of a byte, high-order first.
-pub fn send(m: Machine, byte: u8, count: u8, turned: bool) -> Machine {
-    let mut state = m;
-    let mut rest = byte;
+// An operation once: the value read, or the byte, moved up by one bit, with bit 0 of the value read behind.
+fn once(image: &mut [u8], op: u8, a: u64, b: u64, byte: u8) -> u8 {
+    let list = records(
+        op,
+        (a % 16) as u8,
+        byte / 128,
+        (b % 256) as u8,
+        (b / 256 % 256) as u8,
+    );
+    let mut answers = [0u8; 32];
+    crate::lists::carry_out(image, op, &list, &mut answers);
+    if (op == b'r') | (op == b'i') {
+        return answers[4];
+    }
+    byte % 128 * 2 + answers[4] % 2
+}
+
+// An operation so many times.
+pub fn many(image: &mut [u8], op: u8, a: u64, b: u64, byte: u64, count: u64) -> u64 {
+    let mut rest = (byte % 256) as u8;
     let mut left = count;
     while 0 < left {
-        state = bit(state, rest / 128, turned);
-        rest = rest % 128 * 2;
+        rest = once(image, op, a, b, rest);
         left -= 1;
     }
-    state
+    crate::words::wide(rest)
 }
 
-// A whole write: a command byte and a data byte.
-pub fn set(m: Machine, command: u8, value: u8) -> Machine {
-    finish(send(send(start(m), command, 8, false), value, 8, false))
-}
-
-// A read command, sent; data becomes an input.
-pub fn ask(m: Machine, command: u8) -> Machine {
-    write(send(start(m), command, 8, false), 2, 6)
-}
-
-// One bit that the chip shows: data-clock falls, port B is read, data-clock rises. The value has the new bit behind the bits seen before.
-fn take(m: Machine, before: u8) -> Seen {
-    let s = read(write(m, 0, 0), 0, 0);
-    let next = s.machine;
-    Seen {
-        machine: write(next, 0, 2),
-        value: before % 128 * 2 + s.value % 2,
+// A byte of the image, seen or, with `z`, changed.
+pub fn byte(image: &mut [u8], op: u8, at: u64, b: u64) -> u64 {
+    let k = at as usize;
+    if image.len() <= k {
+        return 256;
     }
-}
-
-// So many bits that the chip shows, behind the bits seen before.
-pub fn receive(m: Machine, before: u8, count: u8) -> Seen {
-    let mut state = m;
-    let mut value = before;
-    let mut left = count;
-    while 0 < left {
-        let s = take(state, value);
-        state = s.machine;
-        value = s.value;
-        left -= 1;
+    if op == b'm' {
+        return crate::words::wide(image[k]);
     }
-    Seen {
-        machine: state,
-        value,
-    }
+    image[k] = (b % 256) as u8;
+    0
 }

@@ -11,7 +11,7 @@ pub fn pick(on: bool, new: u8, old: u8) -> u8
     if on { new } else { old }
 }
 
-// The number that two latches hold.
+// The number of a high and a low byte.
 pub fn word(high: u8, low: u8) -> u16
     ensures { λ r. ⌜ r ≡ high * 256 + low ⌝ }
 {

@@ -7,17 +7,17 @@ use Rattle.action.proofs.act.Statement.{statement}
 use Rattle.action.proofs.act.Tie as tie
 use Rattle.action.proofs.act.Reads as reads
 use Rattle.action.proofs.act.Lts as lts
-use Rattle.effect.proofs.blank.Reads as blank-reads
-use Rattle.effect.proofs.place_disk.Reads as place-disk-reads
-use Rattle.effect.proofs.power_cut.Reads as power-cut-reads
-use Rattle.effect.proofs.read_iwm.Reads as read-iwm-reads
-use Rattle.effect.proofs.read_via.Reads as read-via-reads
-use Rattle.effect.proofs.reset.Reads as reset-reads
-use Rattle.effect.proofs.second.Reads as second-reads
-use Rattle.effect.proofs.set_line.Reads as set-line-reads
-use Rattle.effect.proofs.set_sense.Reads as set-sense-reads
-use Rattle.effect.proofs.write_iwm.Reads as write-iwm-reads
-use Rattle.effect.proofs.write_via.Reads as write-via-reads
+use Rattle.events.proofs.blank.Reads as blank-reads
+use Rattle.events.proofs.place_disk.Reads as place-disk-reads
+use Rattle.events.proofs.power_cut.Reads as power-cut-reads
+use Rattle.accesses.proofs.read_iwm.Reads as read-iwm-reads
+use Rattle.accesses.proofs.read_via.Reads as read-via-reads
+use Rattle.events.proofs.reset.Reads as reset-reads
+use Rattle.events.proofs.second.Reads as second-reads
+use Rattle.events.proofs.set_line.Reads as set-line-reads
+use Rattle.events.proofs.set_sense.Reads as set-sense-reads
+use Rattle.accesses.proofs.write_iwm.Reads as write-iwm-reads
+use Rattle.accesses.proofs.write_via.Reads as write-via-reads
 
 -- src/lib.rt:169:25
 enum-known-item : tie.Need-enum-known-item

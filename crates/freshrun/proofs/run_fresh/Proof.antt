@@ -3,8 +3,8 @@ use lib.ListN.{length}
 use denote.Ref.{now}
 use Rattle.machine.specs.declared.Machine.{Machine}
 use Rattle.machine.specs.Machine.{freshMachine}
-use Rattle.run.specs.declared.Ran.{Ran}
-use Rattle.run.specs.Run.{ranOf, over, runOf}
+use Rattle.outcome.specs.declared.Ran.{Ran}
+use Rattle.outcome.specs.Outcome.{ranOf, over, runOf}
 use Rattle.demand3.specs.Runs.{Run3}
 use Rattle.demand3.proofs.Runs.{run3-fresh}
 use borrow.Author.Needs.{needs}

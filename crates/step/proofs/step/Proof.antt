@@ -4,7 +4,8 @@ use Rattle.machine.specs.declared.Machine.{Machine}
 use Rattle.machine.specs.Machine.{Levels}
 use Rattle.machine.proofs.Laws.{parts}
 use Rattle.action.specs.Action.{actedOf}
-use Rattle.step.specs.Step.{waited, stepOf}
+use Rattle.stages.specs.Stages.{waited}
+use Rattle.step.specs.Step.{stepOf}
 use Rattle.step.proofs.Laws.{met, quiet-step}
 use borrow.Author.Needs.{needs}
 use Rattle.step.proofs.step.Statement.{statement}
@@ -14,10 +15,10 @@ use Rattle.step.proofs.step.Lts as lts
 use Rattle.action.proofs.act.Reads as act-reads
 use Rattle.machine.proofs.Machine.watched.Reads as watched-reads
 use Rattle.machine.proofs.Machine.wires.Reads as wires-reads
-use Rattle.step.proofs.compare.Reads as compare-reads
+use Rattle.stages.proofs.compare.Reads as compare-reads
 use Rattle.step.proofs.moves_lines.Reads as moves-lines-reads
-use Rattle.step.proofs.wait.Reads as wait-reads
-use Rattle.step.proofs.wait_of.Reads as wait-of-reads
+use Rattle.stages.proofs.wait.Reads as wait-reads
+use Rattle.stages.proofs.wait_of.Reads as wait-of-reads
 
 -- src/lib.rt:81:33
 wait-of-requires : tie.Need-wait-of-requires

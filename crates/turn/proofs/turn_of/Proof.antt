@@ -1,7 +1,7 @@
 use Rattle.levels.specs.Levels.{allLevels}
 use Rattle.items.specs.Items.{InRange}
 use Rattle.kinds.proofs.Range.{decoded-range}
-use Rattle.effect.specs.declared.Did.{Did}
+use Rattle.machine.specs.declared.Did.{Did}
 use Rattle.machine.proofs.Laws.{parts}
 use Rattle.step.proofs.Keeps.{step-keeps}
 use borrow.Author.Needs.{needs}
@@ -15,7 +15,7 @@ use Rattle.turn.proofs.turn_of.Reads as reads
 use Rattle.turn.proofs.turn_of.Lts as lts
 use Rattle.kinds.proofs.decode.Reads as decode-reads
 use Rattle.items.proofs.refusal.Reads as refusal-reads
-use Rattle.step.proofs.refuses.Reads as refuses-reads
+use Rattle.stages.proofs.refuses.Reads as refuses-reads
 use Rattle.step.proofs.step.Reads as step-reads
 use Rattle.step.proofs.answer.Reads as answer-reads
 use Rattle.record.proofs.no.Reads as no-reads

@@ -1,0 +1,30 @@
+use Rattle.accesses.specs.Accesses.{viaRead}
+use borrow.Author.Needs.{needs}
+use borrow.Author.Tests.{lt-ltb, le-ltb, le-leb, lt-leb, eq-eqb, ne-eqb}
+use Rattle.accesses.proofs.read_via.Statement.{statement}
+use Rattle.accesses.proofs.read_via.Tie as tie
+use Rattle.accesses.proofs.read_via.Reads as reads
+use Rattle.accesses.proofs.read_via.Lts as lts
+use Rattle.phase.proofs.shown_line.Reads as shown-line-reads
+use Rattle.registers.proofs.read.Reads as read-reads
+use Rattle.wiring.proofs.inputs_of.Reads as inputs-of-reads
+
+-- src/lib.rt:42:37
+shown-line-requires : tie.Need-shown-line-requires
+shown-line-requires c κs = search needs
+
+-- src/lib.rt:42:9
+inputs-of-requires : tie.Need-inputs-of-requires
+inputs-of-requires c κs = search needs
+
+-- src/lib.rt:43:9
+read-requires : tie.Need-read-requires
+read-requires c κs = search needs
+
+-- src/lib.rt:34:1
+returns : tie.Need-returns
+unfolding viaRead
+returns c = simp (← c .before .before .before .shown-line .ensures, ← c .before .before .inputs-of .ensures, ← c .before .read .ensures)
+
+pub read-via-spec : {M : Type 1} → statement M
+read-via-spec = tie.close (tie.spec shown-line-requires inputs-of-requires read-requires returns)

@@ -1,0 +1,18 @@
+use borrow.Author.Needs.{needs}
+use borrow.Author.Tests.{lt-ltb, le-ltb, le-leb, lt-leb, eq-eqb, ne-eqb}
+use Rattle.accesses.proofs.write_iwm.Statement.{statement}
+use Rattle.accesses.proofs.write_iwm.Tie as tie
+use Rattle.accesses.proofs.write_iwm.Reads as reads
+use Rattle.accesses.proofs.write_iwm.Lts as lts
+use Rattle.iwm.proofs.DiskLines.access.Reads as access-reads
+
+-- src/lib.rt:84:5
+access-requires : tie.Need-access-requires
+access-requires c κs = search needs
+
+-- src/lib.rt:80:1
+returns : tie.Need-returns
+returns c = simp (← c .access .ensures)
+
+pub write-iwm-spec : {M : Type 1} → statement M
+write-iwm-spec = tie.close (tie.spec access-requires returns)

@@ -1,0 +1,18 @@
+use borrow.Author.Needs.{needs}
+use borrow.Author.Tests.{lt-ltb, le-ltb, le-leb, lt-leb, eq-eqb, ne-eqb}
+use Rattle.accesses.proofs.write_via.Statement.{statement}
+use Rattle.accesses.proofs.write_via.Tie as tie
+use Rattle.accesses.proofs.write_via.Reads as reads
+use Rattle.accesses.proofs.write_via.Lts as lts
+use Rattle.via.proofs.Via.write.Reads as write-reads
+
+-- src/lib.rt:75:5
+write-requires : tie.Need-write-requires
+write-requires c κs = search needs
+
+-- src/lib.rt:71:1
+returns : tie.Need-returns
+returns c = simp (← c .write .ensures)
+
+pub write-via-spec : {M : Type 1} → statement M
+write-via-spec = tie.close (tie.spec write-requires returns)

@@ -1,0 +1,12 @@
+use mathlib.Core.Path.{refl}
+use Rattle.drive.proofs.Drive.insert.Statement.{statement}
+use Rattle.drive.proofs.Drive.insert.Tie as tie
+use Rattle.drive.proofs.Drive.insert.Reads as reads
+use Rattle.drive.proofs.Drive.insert.Lts as lts
+
+-- src/lib.rt:58:5
+returns : tie.Need-returns
+returns c = refl
+
+pub insert-spec : {M : Type 1} → statement M
+insert-spec = tie.close (tie.spec returns)

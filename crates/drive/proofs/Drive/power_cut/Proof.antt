@@ -1,0 +1,12 @@
+use mathlib.Core.Path.{refl}
+use Rattle.drive.proofs.Drive.power_cut.Statement.{statement}
+use Rattle.drive.proofs.Drive.power_cut.Tie as tie
+use Rattle.drive.proofs.Drive.power_cut.Reads as reads
+use Rattle.drive.proofs.Drive.power_cut.Lts as lts
+
+-- src/lib.rt:106:5
+returns : tie.Need-returns
+returns c = refl
+
+pub power-cut-spec : {M : Type 1} → statement M
+power-cut-spec = tie.close (tie.spec returns)

@@ -1,0 +1,12 @@
+use mathlib.Core.Path.{refl}
+use Rattle.drive.proofs.Drive.remove.Statement.{statement}
+use Rattle.drive.proofs.Drive.remove.Tie as tie
+use Rattle.drive.proofs.Drive.remove.Reads as reads
+use Rattle.drive.proofs.Drive.remove.Lts as lts
+
+-- src/lib.rt:70:5
+returns : tie.Need-returns
+returns c = refl
+
+pub remove-spec : {M : Type 1} → statement M
+remove-spec = tie.close (tie.spec returns)

@@ -1,0 +1,18 @@
+use borrow.Author.Needs.{needs}
+use borrow.Author.Tests.{lt-ltb, le-ltb, le-leb, lt-leb, eq-eqb, ne-eqb}
+use Rattle.events.proofs.blank.Statement.{statement}
+use Rattle.events.proofs.blank.Tie as tie
+use Rattle.events.proofs.blank.Reads as reads
+use Rattle.events.proofs.blank.Lts as lts
+use Rattle.via.proofs.Via.raise.Reads as raise-reads
+
+-- src/lib.rt:92:5
+raise-requires : tie.Need-raise-requires
+raise-requires c κs = search needs
+
+-- src/lib.rt:89:1
+returns : tie.Need-returns
+returns c = simp (← c .raise .ensures)
+
+pub blank-spec : {M : Type 1} → statement M
+blank-spec = tie.close (tie.spec raise-requires returns)

@@ -1,0 +1,18 @@
+use borrow.Author.Needs.{needs}
+use borrow.Author.Tests.{lt-ltb, le-ltb, le-leb, lt-leb, eq-eqb, ne-eqb}
+use Rattle.events.proofs.place_disk.Statement.{statement}
+use Rattle.events.proofs.place_disk.Tie as tie
+use Rattle.events.proofs.place_disk.Reads as reads
+use Rattle.events.proofs.place_disk.Lts as lts
+use Rattle.drives.proofs.Drives.place.Reads as place-reads
+
+-- src/lib.rt:159:5
+place-requires : tie.Need-place-requires
+place-requires c κs = search needs
+
+-- src/lib.rt:156:1
+returns : tie.Need-returns
+returns c = simp (← c .place .ensures)
+
+pub place-disk-spec : {M : Type 1} → statement M
+place-disk-spec = tie.close (tie.spec place-requires returns)

@@ -1,0 +1,108 @@
+// Input events, reset and power cut: what each leaves, the item's wait having passed.
+ghost use mathlib.Core.Path.{_≡_};
+ghost use Prim.Native.Nat.{_+_, _*_, _<_};
+ghost use lib.ListN.{set};
+ghost use Rattle.via.specs.Via.{freshVia, raisedOf, resetOf};
+ghost use Rattle.store.specs.Shared.{second, off};
+ghost use Rattle.iwm.specs.Lines.{linesOff};
+ghost use Rattle.drives.specs.Drives.{placed, drivesPowered};
+ghost use Rattle.machine.specs.Machine.{withVia, withDisk, withInputs, withSense, withDrives, noValue};
+ghost use Rattle.events.specs.Events.{passed};
+use machine::Did;
+use machine::Machine;
+
+// VB: flag 1.
+pub fn blank(mut m: Machine) -> Did
+    ensures { λ r. ⌜ r ≡ noValue (withVia m (raisedOf 2 (m .via))) ⌝ }
+{
+    m.via = m.via.raise(2);
+    Did {
+        machine: m,
+        value: 0,
+    }
+}
+
+// SE: flag 0, and a second of the clock.
+pub fn second(mut m: Machine) -> Did
+    ensures { λ r. ⌜ r ≡ noValue (passed second (withVia m (raisedOf 1 (m .via)))) ⌝ }
+{
+    m.via = m.via.raise(1);
+    m.clock = m.clock.second();
+    Did {
+        machine: m,
+        value: 0,
+    }
+}
+
+// IN: a line's level.
+pub fn set_line(mut m: Machine, line: u8, level: u8) -> Did
+    requires { ⌜ line < 7 ⌝ }
+    ensures { λ r. ⌜ r ≡ noValue (withInputs m (set (m .inputs) line level)) ⌝ }
+{
+    let mut lines = m.inputs;
+    lines[line as usize] = level;
+    m.inputs = lines;
+    Did {
+        machine: m,
+        value: 0,
+    }
+}
+
+fn sense_index(drive: u8, register: u8) -> usize
+    requires { ⌜ (drive < 2) × (register < 16) ⌝ }
+    ensures { λ r. ⌜ (r ≡ 16 * drive + register) × (r < 32) ⌝ }
+{
+    (16 * drive + register) as usize
+}
+
+// SN: the level of a sense register.
+pub fn set_sense(mut m: Machine, drive: u8, register: u8, level: u8) -> Did
+    requires { ⌜ (drive < 2) × (register < 16) ⌝ }
+    ensures { λ r. ⌜ r ≡ noValue (withSense m (set (m .sense) (16 * drive + register) level)) ⌝ }
+{
+    let at = sense_index(drive, register);
+    let mut levels = m.sense;
+    levels[at] = level;
+    m.sense = levels;
+    Did {
+        machine: m,
+        value: 0,
+    }
+}
+
+// RS.
+pub fn reset(mut m: Machine) -> Did
+    ensures { λ r. ⌜ r ≡ noValue (withDisk (withVia m (resetOf (m .via))) linesOff) ⌝ }
+{
+    m.via = m.via.reset();
+    m.disk = iwm::off();
+    Did {
+        machine: m,
+        value: 0,
+    }
+}
+
+// PW: the power is off for so many seconds.
+pub fn power_cut(mut m: Machine, seconds: u32) -> Did
+    ensures { λ r. ⌜ r ≡ noValue (passed (off seconds) (withDrives (withDisk (withVia m freshVia) linesOff) (drivesPowered (m .drives)))) ⌝ }
+{
+    m.via = via::fresh();
+    m.disk = iwm::off();
+    m.clock = m.clock.time_off(seconds);
+    m.drives = m.drives.power_cut();
+    Did {
+        machine: m,
+        value: 0,
+    }
+}
+
+// DI: a disk comes or leaves.
+pub fn place_disk(mut m: Machine, external: bool, insert: bool, locked: bool, sides: bool) -> Did
+    ensures { λ r. ⌜ r ≡ noValue (withDrives m (placed external insert locked sides (m .drives))) ⌝ }
+{
+    m.drives = m.drives.place(external, insert, locked, sides);
+    Did {
+        machine: m,
+        value: 0,
+    }
+}

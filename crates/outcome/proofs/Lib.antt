@@ -1,0 +1,4 @@
+pub mod Users
+pub mod Pieces
+pub mod Joined
+pub mod Answers

@@ -1,0 +1,23 @@
+use borrow.Author.Needs.{needs}
+use borrow.Author.Tests.{lt-ltb, le-ltb, le-leb, lt-leb, eq-eqb, ne-eqb}
+use Rattle.stages.proofs.wait.Statement.{statement}
+use Rattle.stages.proofs.wait.Tie as tie
+use Rattle.stages.proofs.wait.Reads as reads
+use Rattle.stages.proofs.wait.Lts as lts
+use Rattle.drives.proofs.Drives.wait.Reads as Drives-wait-reads
+use Rattle.via.proofs.Via.wait.Reads as Via-wait-reads
+
+-- src/lib.rt:41:5
+wait-requires : tie.Need-wait-requires
+wait-requires c κs = search needs
+
+-- src/lib.rt:42:5
+wait-requires-2 : tie.Need-wait-requires-2
+wait-requires-2 c κs = search needs
+
+-- src/lib.rt:38:1
+returns : tie.Need-returns
+returns c = simp (← c .before .wait .ensures, ← c .wait2 .ensures)
+
+pub wait-spec : {M : Type 1} → statement M
+wait-spec = tie.close (tie.spec wait-requires wait-requires-2 returns)
