@@ -76,9 +76,13 @@ fn script(image: &mut [u8], s: &[u8]) {
 }
 
 fn main() {
-    let mut image = [0; 123];
+    let mut image = [0; image::LENGTH];
     lists::fresh(&mut image);
     let mut text = io::large_buffer();
     let n = io::read_full(0, &mut text);
+    if text.len() <= n {
+        words::say(b". the script is too long", 0);
+        return;
+    }
     script(&mut image, &text[..n]);
 }
