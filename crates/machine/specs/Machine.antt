@@ -1,4 +1,4 @@
--- The machine's state by document 01 and request W-203: its lines, the fresh machine, and which states are accepted.
+-- The machine's state by document 01 and request W-203: what an item leaves, its lines, the fresh machine, and which states are accepted.
 use Prim.Native.Nat.{ℕ}
 use mathlib.Core.Path.{_≡_}
 use mathlib.Core.Bool.{Bool, true, _&&_}
@@ -40,9 +40,13 @@ withSense m x = record { via = m .via; clock = m .clock; disk = m .disk; inputs 
 abbrev pub withDrives : Machine → Drives → Machine
 withDrives m x = record { via = m .via; clock = m .clock; disk = m .disk; inputs = m .inputs; sense = m .sense; drives = x }
 
--- What an item leaves that reads nothing: "value read (0 unless RD)".
+-- ---- what an item leaves
+
+-- Of an item that reads nothing: "value read (0 unless RD)".
 abbrev pub noValue : Machine → Did
 noValue m = record { machine = m; value = 0 }
+
+-- ---- the chip's size and the fresh machine
 
 -- "The clock chip with its 20 cells."
 abbrev pub cellCount : ℕ

@@ -4,7 +4,6 @@ ghost use mathlib.Core.Bool.{true};
 ghost use Rattle.phase.specs.Phase.{acceptedPhase};
 ghost use Rattle.machine.specs.Machine.{cellCount};
 ghost use Rattle.stages.specs.Stages.{waitOf, waited, compared, strobed, refusesOf};
-use drives::Drives;
 use items::Item;
 use machine::Machine;
 use phase::Wires;

@@ -1,32 +1,24 @@
 -- What the clock and the strobe meet after an item's action, and what they leave where no line has moved.
 use Prim.Native.Nat.{ℕ, _<_}
 use native.Mathlib.Omega.{arith}
-use mathlib.Core.Path.{_≡_, refl, sym, ap, ap₂, _∙_}
+use mathlib.Core.Path.{_≡_, refl, ap, ap₂, _∙_}
 use mathlib.Core.Bool.{Bool, true, false, cond}
 use mathlib.Core.List.{List, [], _∷_}
 use types.Run.{OneOf, miss}
 use denote.Enum.Declared.{tagOf}
-use Rattle.via.specs.declared.Ports.{Ports}
 use Rattle.via.specs.declared.Via.{Via}
 use Rattle.via.specs.Via.{raisedOf, asking, levelOf}
 use Rattle.registers.specs.Registers.{readOf}
-use Rattle.via.proofs.Kept.{ticks-ports}
 use Rattle.phase.specs.declared.Phase.{Phase}
 use Rattle.phase.specs.declared.Wires.{Wires}
 use Rattle.clock.specs.declared.Clock.{Clock}
-use Rattle.phase.specs.Phase.{acceptedPhase, shown}
-use Rattle.clock.specs.Step.{stepWires}
-use Rattle.clock.proofs.Keep.{still}
-use Rattle.wiring.specs.Wiring.{wiresOf, selOf, watchedOf}
-use Rattle.strobe.specs.declared.Watched.{Watched}
-use Rattle.drives.specs.declared.Drives.{Drives}
-use Rattle.drives.specs.Drives.{acceptedDrives, drivesAfter}
-use Rattle.drives.proofs.Laws.{drivesTicks-accepted, drives-untouched}
+use Rattle.phase.specs.Phase.{acceptedPhase}
+use Rattle.drives.proofs.Laws.{drivesTicks-accepted}
 use Rattle.items.specs.declared.Item.{Item}
 use Rattle.items.specs.declared.Item.the-variants.{ReadVia, ReadIwm, WriteVia, WriteIwm, Blank, Second, Line, Sense, Reset, Power, Disk}
 use Rattle.items.proofs.Item.{the-type}
 use Rattle.machine.specs.declared.Machine.{Machine}
-use Rattle.machine.specs.Machine.{withClock, withDrives, cellCount, wires, watched, acceptedOf}
+use Rattle.machine.specs.Machine.{cellCount, wires, watched, acceptedOf}
 use Rattle.machine.proofs.Laws.{parts}
 use Rattle.machine.specs.declared.Did.{Did}
 use Rattle.accesses.specs.Accesses.{viaRead}

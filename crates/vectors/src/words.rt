@@ -8,8 +8,16 @@ pub struct Read {
     pub end: usize,
 }
 
-// A number with one character more: a digit, or a capital letter, which is its ASCII byte.
-fn grown(n: u64, c: u8, hex: bool) -> u64 {
+// Whether the text ends before `at` or has a space there.
+pub fn spaced(text: &[u8], at: usize) -> bool {
+    if at < text.len() {
+        return text[at] == b' ';
+    }
+    true
+}
+
+// A number with one character more: a digit, or, where it is the first, a capital letter, which is its ASCII byte.
+fn grown(n: u64, c: u8, hex: bool, first: bool) -> u64 {
     if 65535 < n {
         return n;
     }
@@ -22,26 +30,31 @@ fn grown(n: u64, c: u8, hex: bool) -> u64 {
             }
         }
         b'a'..=b'f' => { if hex { n * 16 + (c - 87) as u64 } else { 65536 } }
-        b'A'..=b'Z' => c as u64,
+        b'A'..=b'Z' => { if first { c as u64 } else { 65536 } }
         _ => 65536,
     }
 }
 
-// The number after the space at `at`, 0 at the end of the text. `$` makes it one in hexadecimal.
+// The number after the space at `at`, 0 at the end of the text. `$` before it makes it one in hexadecimal.
 pub fn number(text: &[u8], at: usize) -> Read {
     let mut end = std::num::wrapping_add_usize(at, 1);
     let mut value: u64 = 0;
     let mut hex = false;
+    let mut first = true;
+    if !spaced(text, at) {
+        value = 65536;
+    }
     while end < text.len() {
         let c = text[end];
         if c == b' ' {
             return Read { value, end };
         }
-        if c == b'$' {
+        if first & (c == b'$') {
             hex = true;
         } else {
-            value = grown(value, c, hex);
+            value = grown(value, c, hex, first);
         }
+        first = false;
         end += 1;
     }
     Read { value, end }
@@ -80,6 +93,9 @@ pub fn place(c: u8, value: u64) {
 pub fn say(text: &[u8], value: u64) -> u64
     requires { ⌜ 1 ≤ length (now text) ⌝ }
 {
+    if !spaced(text, 1) {
+        return 256;
+    }
     let mut at: usize = 2;
     while at < text.len() {
         place(text[at], value);

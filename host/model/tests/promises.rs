@@ -1,4 +1,5 @@
-//! docs/PROMISES.md: the files, definitions, theorems and wrong programs that it names are there, and no wrong program is left out.
+//! docs/PROMISES.md: the files, the names given with their file and the wrong programs that it names are there, and no wrong program
+//! is left out.
 
 use std::collections::BTreeSet;
 use std::fs;

@@ -18,46 +18,37 @@ use Rattle.iwm.proofs.DiskLines.read.Reads as read-reads
 use Rattle.iwm.proofs.DiskLines.sense_at.Reads as sense-at-reads
 use Rattle.wiring.proofs.sel_of.Reads as sel-of-reads
 
--- src/lib.rt:47:9
 access-requires : tie.Need-access-requires
 access-requires c κs = search needs
 
--- src/lib.rt:50:9
 returns : tie.Need-returns
 unfolding iwmRead readLine
 returns c = simp (ne-eqb _ _ (c .if1 .taken), c .before .access .ensures)
 
--- src/lib.rt:55:25
 sel-of-requires : tie.Need-sel-of-requires
 sel-of-requires c κs = search needs
 
--- src/lib.rt:55:9
 sense-at-requires : tie.Need-sense-at-requires
 sense-at-requires c κs =
     let a = c .before .before in
     (ap (λ (d : DiskLines). allLevels (d .lines)) (a .access .ensures) ∙ access-levels _ _ (a .before .pre .1 .0), c .sel-of .ensures .1)
 
--- src/lib.rt:57:25
 cast-stored : tie.Need-cast-stored
 cast-stored c = search needs
 
--- src/lib.rt:57:18
 array-read-stored : tie.Need-array-read-stored
 array-read-stored c =
     let b = c .before in
     let a = b .before .before .before in
     rw (b .sense-at .ensures) (sense-below _ _ (ap (λ (d : DiskLines). allLevels (d .lines)) (a .access .ensures) ∙ access-levels _ _ (a .before .pre .1 .0)) (b .before .sel-of .ensures .1))
 
--- src/lib.rt:58:9
 shown-requires : tie.Need-shown-requires
 shown-requires c κs = search needs
 
--- src/lib.rt:61:16
 read-requires : tie.Need-read-requires
 read-requires c κs =
     rw (c .shown .ensures) (shown-below _ _ _ (level-at _ _ (c .before .before .before .before .before .before .pre .1 .2)))
 
--- src/lib.rt:42:1
 returns-2 : tie.Need-returns-2
 unfolding iwmRead
 returns-2 c =

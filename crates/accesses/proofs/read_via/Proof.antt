@@ -9,19 +9,15 @@ use Rattle.phase.proofs.shown_line.Reads as shown-line-reads
 use Rattle.registers.proofs.read.Reads as read-reads
 use Rattle.wiring.proofs.inputs_of.Reads as inputs-of-reads
 
--- src/lib.rt:42:37
 shown-line-requires : tie.Need-shown-line-requires
 shown-line-requires c κs = search needs
 
--- src/lib.rt:42:9
 inputs-of-requires : tie.Need-inputs-of-requires
 inputs-of-requires c κs = search needs
 
--- src/lib.rt:43:9
 read-requires : tie.Need-read-requires
 read-requires c κs = search needs
 
--- src/lib.rt:34:1
 returns : tie.Need-returns
 unfolding viaRead
 returns c = simp (← c .before .before .before .shown-line .ensures, ← c .before .before .inputs-of .ensures, ← c .before .read .ensures)

@@ -6,11 +6,9 @@ use Rattle.accesses.proofs.write_iwm.Reads as reads
 use Rattle.accesses.proofs.write_iwm.Lts as lts
 use Rattle.iwm.proofs.DiskLines.access.Reads as access-reads
 
--- src/lib.rt:84:5
 access-requires : tie.Need-access-requires
 access-requires c κs = search needs
 
--- src/lib.rt:80:1
 returns : tie.Need-returns
 returns c = simp (← c .access .ensures)
 

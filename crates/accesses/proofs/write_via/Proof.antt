@@ -6,11 +6,9 @@ use Rattle.accesses.proofs.write_via.Reads as reads
 use Rattle.accesses.proofs.write_via.Lts as lts
 use Rattle.via.proofs.Via.write.Reads as write-reads
 
--- src/lib.rt:75:5
 write-requires : tie.Need-write-requires
 write-requires c κs = search needs
 
--- src/lib.rt:71:1
 returns : tie.Need-returns
 returns c = simp (← c .write .ensures)
 

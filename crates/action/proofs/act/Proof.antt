@@ -19,145 +19,112 @@ use Rattle.events.proofs.set_sense.Reads as set-sense-reads
 use Rattle.accesses.proofs.write_iwm.Reads as write-iwm-reads
 use Rattle.accesses.proofs.write_via.Reads as write-via-reads
 
--- src/lib.rt:169:25
 enum-known-item : tie.Need-enum-known-item
 enum-known-item c = search needs
 
--- src/lib.rt:169:43
 read-via-requires : tie.Need-read-via-requires
 read-via-requires c κs = let a = c .before .before .before in (subst InRange (c .before .item .given .1) (a .pre .0), a .pre .1 .1)
 
--- src/lib.rt:170:25
 enum-known-item-2 : tie.Need-enum-known-item-2
 enum-known-item-2 c = search needs
 
--- src/lib.rt:170:43
 read-iwm-requires : tie.Need-read-iwm-requires
 read-iwm-requires c κs = let a = c .before .before .before in (subst InRange (c .before .item2 .given .1) (a .pre .0), a .pre .1)
 
--- src/lib.rt:172:13
 enum-known-item-3 : tie.Need-enum-known-item-3
 enum-known-item-3 c = search needs
 
--- src/lib.rt:175:23
 write-via-requires : tie.Need-write-via-requires
 write-via-requires c κs = subst InRange (c .before .item3 .given .1) (c .before .before .before .pre .0)
 
--- src/lib.rt:176:26
 enum-known-item-4 : tie.Need-enum-known-item-4
 enum-known-item-4 c = search needs
 
--- src/lib.rt:176:53
 write-iwm-requires : tie.Need-write-iwm-requires
 write-iwm-requires c κs = subst InRange (c .before .item4 .given .1) (c .before .before .before .pre .0)
 
--- src/lib.rt:177:40
 enum-told : tie.Need-enum-told
 enum-told c = search needs
 
--- src/lib.rt:177:40
 blank-requires : tie.Need-blank-requires
 blank-requires c κs = search needs
 
--- src/lib.rt:178:41
 enum-told-2 : tie.Need-enum-told-2
 enum-told-2 c = search needs
 
--- src/lib.rt:178:41
 second-requires : tie.Need-second-requires
 second-requires c κs = search needs
 
--- src/lib.rt:179:22
 enum-known-item-5 : tie.Need-enum-known-item-5
 enum-known-item-5 c = search needs
 
--- src/lib.rt:179:52
 set-line-requires : tie.Need-set-line-requires
 set-line-requires c κs = subst InRange (c .before .item5 .given .1) (c .before .before .before .pre .0) .0
 
--- src/lib.rt:181:13
 enum-known-item-6 : tie.Need-enum-known-item-6
 enum-known-item-6 c = search needs
 
--- src/lib.rt:185:23
 set-sense-requires : tie.Need-set-sense-requires
 set-sense-requires c κs = let r = subst InRange (c .before .item6 .given .1) (c .before .before .before .pre .0) in (r .0, r .1)
 
--- src/lib.rt:186:40
 enum-told-3 : tie.Need-enum-told-3
 enum-told-3 c = search needs
 
--- src/lib.rt:186:40
 reset-requires : tie.Need-reset-requires
 reset-requires c κs = search needs
 
--- src/lib.rt:187:23
 enum-known-item-7 : tie.Need-enum-known-item-7
 enum-known-item-7 c = search needs
 
--- src/lib.rt:187:49
 power-cut-requires : tie.Need-power-cut-requires
 power-cut-requires c κs = search needs
 
--- src/lib.rt:189:13
 enum-known-item-8 : tie.Need-enum-known-item-8
 enum-known-item-8 c = search needs
 
--- src/lib.rt:194:23
 place-disk-requires : tie.Need-place-disk-requires
 place-disk-requires c κs = search needs
 
--- src/lib.rt:163:1
 returns : tie.Need-returns
 unfolding actedOf
 returns c = simp (c .before .before .item .given .1, ← c .read-via .ensures)
 
--- src/lib.rt:163:1
 returns-2 : tie.Need-returns-2
 unfolding actedOf
 returns-2 c = simp (c .before .before .item2 .given .1, ← c .read-iwm .ensures)
 
--- src/lib.rt:163:1
 returns-3 : tie.Need-returns-3
 unfolding actedOf
 returns-3 c = simp (c .before .before .item3 .given .1, ← c .write-via .ensures)
 
--- src/lib.rt:163:1
 returns-4 : tie.Need-returns-4
 unfolding actedOf
 returns-4 c = simp (c .before .before .item4 .given .1, ← c .write-iwm .ensures)
 
--- src/lib.rt:163:1
 returns-5 : tie.Need-returns-5
 unfolding actedOf
 returns-5 c = simp (c .before .enum-told .given .1, ← c .blank .ensures)
 
--- src/lib.rt:163:1
 returns-6 : tie.Need-returns-6
 unfolding actedOf
 returns-6 c = simp (c .before .enum-told2 .given .1, ← c .second .ensures)
 
--- src/lib.rt:163:1
 returns-7 : tie.Need-returns-7
 unfolding actedOf
 returns-7 c = simp (c .before .before .item5 .given .1, ← c .set-line .ensures)
 
--- src/lib.rt:163:1
 returns-8 : tie.Need-returns-8
 unfolding actedOf
 returns-8 c = simp (c .before .before .item6 .given .1, ← c .set-sense .ensures)
 
--- src/lib.rt:163:1
 returns-9 : tie.Need-returns-9
 unfolding actedOf
 returns-9 c = simp (c .before .enum-told3 .given .1, ← c .reset .ensures)
 
--- src/lib.rt:163:1
 returns-10 : tie.Need-returns-10
 unfolding actedOf
 returns-10 c = simp (c .before .before .item7 .given .1, ← c .power-cut .ensures)
 
--- src/lib.rt:163:1
 returns-11 : tie.Need-returns-11
 unfolding actedOf
 returns-11 c = simp (c .before .before .item8 .given .1, ← c .place-disk .ensures)

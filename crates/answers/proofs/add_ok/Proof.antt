@@ -9,43 +9,33 @@ use Rattle.answers.proofs.add_ok.Lts as lts
 use Rattle.text.proofs.add_decimal.Reads as add-decimal-reads
 use Rattle.text.proofs.add_hex.Reads as add-hex-reads
 
--- src/lib.rt:110:28
 slice-aggregate-add-hex : tie.Need-slice-aggregate-add-hex
 slice-aggregate-add-hex c = search needs
 
--- src/lib.rt:110:9
 add-hex-requires : tie.Need-add-hex-requires
 add-hex-requires c κs = search needs
 
--- src/lib.rt:111:31
 slice-aggregate-add-decimal : tie.Need-slice-aggregate-add-decimal
 slice-aggregate-add-decimal c = search needs
 
--- src/lib.rt:111:9
 add-decimal-requires : tie.Need-add-decimal-requires
 add-decimal-requires c κs = search needs
 
--- src/lib.rt:112:27
 slice-aggregate-add-hex-2 : tie.Need-slice-aggregate-add-hex-2
 slice-aggregate-add-hex-2 c = search needs
 
--- src/lib.rt:112:9
 add-hex-requires-2 : tie.Need-add-hex-requires-2
 add-hex-requires-2 c κs = search needs
 
--- src/lib.rt:113:23
 slice-aggregate-add-decimal-2 : tie.Need-slice-aggregate-add-decimal-2
 slice-aggregate-add-decimal-2 c = search needs
 
--- src/lib.rt:113:5
 add-decimal-requires-2 : tie.Need-add-decimal-requires-2
 add-decimal-requires-2 c κs = search needs
 
--- src/lib.rt:105:1
 same-length : tie.Need-same-length
 same-length c = search needs
 
--- src/lib.rt:105:1
 returns : tie.Need-returns
 unfolding okOf
 returns c = (put-then (put-then (put-then (c .before .before .before .before .before .before .before .before .before .before .before .before .before .before .before .before .before .add-hex .ensures .0) (c .before .before .before .before .before .before .before .before .before .before .before .before .add-decimal .ensures .0)) (c .before .before .before .before .before .before .before .add-hex2 .ensures .0)) (c .before .before .add-decimal2 .ensures .0), omega (arith, c .before .before .before .before .before .before .before .before .before .before .before .before .before .before .before .before .before .add-hex .ensures .1, c .before .before .before .before .before .before .before .before .before .before .before .before .add-decimal .ensures .1, c .before .before .before .before .before .before .before .add-hex2 .ensures .1, c .before .before .add-decimal2 .ensures .1))

@@ -9,23 +9,18 @@ use Rattle.answers.proofs.add_refused.Lts as lts
 use Rattle.text.proofs.add_decimal.Reads as add-decimal-reads
 use Rattle.answers.proofs.add_words.Reads as add-words-reads
 
--- src/lib.rt:122:32
 slice-aggregate-add-decimal : tie.Need-slice-aggregate-add-decimal
 slice-aggregate-add-decimal c = search needs
 
--- src/lib.rt:122:9
 add-decimal-requires : tie.Need-add-decimal-requires
 add-decimal-requires c κs = search needs
 
--- src/lib.rt:123:5
 add-words-requires : tie.Need-add-words-requires
 add-words-requires c κs = search needs
 
--- src/lib.rt:117:1
 same-length : tie.Need-same-length
 same-length c = search needs
 
--- src/lib.rt:117:1
 returns : tie.Need-returns
 unfolding refusedOf
 returns c = (put-then (c .before .before .before .before .before .before .add-decimal .ensures .0) (c .before .before .add-words .ensures .0), omega (arith, c .before .before .before .before .before .before .add-decimal .ensures .1, c .before .before .add-words .ensures .1))

@@ -9,52 +9,40 @@ use Rattle.answers.proofs.add_said.Lts as lts
 use Rattle.answers.proofs.add_ok.Reads as add-ok-reads
 use Rattle.answers.proofs.add_refused.Reads as add-refused-reads
 
--- src/lib.rt:133:8
 shared-slice-read-if1 : tie.Need-shared-slice-read-if1
 shared-slice-read-if1 c = search needs
 
--- src/lib.rt:134:30
 shared-slice-read-add-ok : tie.Need-shared-slice-read-add-ok
 shared-slice-read-add-ok c = search needs
 
--- src/lib.rt:134:41
 shared-slice-read-add-ok-2 : tie.Need-shared-slice-read-add-ok-2
 shared-slice-read-add-ok-2 c = search needs
 
--- src/lib.rt:134:52
 shared-slice-read-add-ok-3 : tie.Need-shared-slice-read-add-ok-3
 shared-slice-read-add-ok-3 c = search needs
 
--- src/lib.rt:134:63
 shared-slice-read-add-ok-4 : tie.Need-shared-slice-read-add-ok-4
 shared-slice-read-add-ok-4 c = search needs
 
--- src/lib.rt:134:9
 add-ok-requires : tie.Need-add-ok-requires
 add-ok-requires c κs = search needs
 
--- src/lib.rt:134:9
 same-length : tie.Need-same-length
 same-length c = search needs
 
--- src/lib.rt:134:9
 returns : tie.Need-returns
 unfolding saidOf
 returns c = (simp (eq-eqb _ _ (c .before .before .before .before .before .before .before .before .if1 .taken)) (c .before .before .add-ok .ensures .0), c .before .before .add-ok .ensures .1)
 
--- src/lib.rt:136:24
 shared-slice-read-add-refused : tie.Need-shared-slice-read-add-refused
 shared-slice-read-add-refused c = search needs
 
--- src/lib.rt:136:5
 add-refused-requires : tie.Need-add-refused-requires
 add-refused-requires c κs = search needs
 
--- src/lib.rt:127:1
 same-length-2 : tie.Need-same-length-2
 same-length-2 c = search needs
 
--- src/lib.rt:127:1
 returns-2 : tie.Need-returns-2
 unfolding saidOf
 returns-2 c = (simp (ne-eqb _ _ (c .before .before .before .before .before .if1 .left)) (c .before .before .add-refused .ensures .0), omega (arith, c .before .before .add-refused .ensures .1))

@@ -6,15 +6,12 @@ use Rattle.clockbytes.proofs.clock.Lts as lts
 use Rattle.clockbytes.proofs.phase.Reads as phase-reads
 use Rattle.clockbytes.proofs.store.Reads as store-reads
 
--- src/lib.rt:126:16
 phase-requires : tie.Need-phase-requires
 phase-requires c κs = search needs
 
--- src/lib.rt:127:16
 store-requires : tie.Need-store-requires
 store-requires c κs = search needs
 
--- src/lib.rt:121:1
 returns : tie.Need-returns
 returns c = simp (c .before .phase .ensures, c .store .ensures)
 

@@ -11,47 +11,36 @@ use Rattle.clockbytes.proofs.phase.Lts as lts
 use Rattle.clockbytes.proofs.phase_of.Reads as phase-of-reads
 use Rattle.record.proofs.copy.Reads as copy-reads
 
--- src/lib.rt:108:18
 slice-aggregate-copy : tie.Need-slice-aggregate-copy
 slice-aggregate-copy c = search needs
 
--- src/lib.rt:108:29
 sub-copy : tie.Need-sub-copy
 sub-copy c = search needs
 
--- src/lib.rt:108:29
 part-copy-start : tie.Need-part-copy-start
 part-copy-start c = search needs
 
--- src/lib.rt:108:29
 part-copy-end : tie.Need-part-copy-end
 part-copy-end c = search needs
 
--- src/lib.rt:108:5
 copy-requires : tie.Need-copy-requires
 copy-requires c κs = search needs
 
--- src/lib.rt:109:14
 array-read-phase-of : tie.Need-array-read-phase-of
 array-read-phase-of c = search needs
 
--- src/lib.rt:109:20
 array-read-phase-of-2 : tie.Need-array-read-phase-of-2
 array-read-phase-of-2 c = search needs
 
--- src/lib.rt:109:26
 array-read-phase-of-3 : tie.Need-array-read-phase-of-3
 array-read-phase-of-3 c = search needs
 
--- src/lib.rt:109:32
 array-read-phase-of-4 : tie.Need-array-read-phase-of-4
 array-read-phase-of-4 c = search needs
 
--- src/lib.rt:109:5
 phase-of-requires : tie.Need-phase-of-requires
 phase-of-requires c κs = search needs
 
--- src/lib.rt:103:1
 returns : tie.Need-returns
 returns c =
     let b : c .before .before .copy .last .0 ≡ part phaseAt phaseLength (now (c .before .before .before .before .before .before .args .image)) = c .before .before .copy .ensures ∙ whole _ _ (search needs) in

@@ -6,47 +6,37 @@ use Rattle.clockbytes.proofs.phase_bytes.Tie as tie
 use Rattle.clockbytes.proofs.phase_bytes.Reads as reads
 use Rattle.clockbytes.proofs.phase_bytes.Lts as lts
 
--- src/lib.rt:90:24
 enum-told : tie.Need-enum-told
 enum-told c = search needs
 
--- src/lib.rt:91:28
 enum-known-p : tie.Need-enum-known-p
 enum-known-p c = search needs
 
--- src/lib.rt:93:13
 enum-known-p-2 : tie.Need-enum-known-p-2
 enum-known-p-2 c = search needs
 
--- src/lib.rt:97:26
 enum-known-p-3 : tie.Need-enum-known-p-3
 enum-known-p-3 c = search needs
 
--- src/lib.rt:98:28
 enum-told-2 : tie.Need-enum-told-2
 enum-told-2 c = search needs
 
--- src/lib.rt:86:1
 returns : tie.Need-returns
 unfolding phaseBytes
 returns c = simp (c .enum-told .given .1)
 
--- src/lib.rt:86:1
 returns-2 : tie.Need-returns-2
 unfolding phaseBytes
 returns-2 c = simp (c .before .p .given .1)
 
--- src/lib.rt:86:1
 returns-3 : tie.Need-returns-3
 unfolding phaseBytes
 returns-3 c = simp (c .before .p2 .given .1)
 
--- src/lib.rt:86:1
 returns-4 : tie.Need-returns-4
 unfolding phaseBytes
 returns-4 c = simp (c .before .p3 .given .1)
 
--- src/lib.rt:86:1
 returns-5 : tie.Need-returns-5
 unfolding phaseBytes
 returns-5 c = simp (c .enum-told2 .given .1)

@@ -5,27 +5,22 @@ use Rattle.clockbytes.proofs.phase_of.Tie as tie
 use Rattle.clockbytes.proofs.phase_of.Reads as reads
 use Rattle.clockbytes.proofs.phase_of.Lts as lts
 
--- src/lib.rt:214:9
 returns : tie.Need-returns
 unfolding phaseBy
 returns c = simp (eq-eqb _ _ (c .if1 .taken))
 
--- src/lib.rt:217:9
 returns-2 : tie.Need-returns-2
 unfolding phaseBy
 returns-2 c = simp (ne-eqb _ _ (c .before .if1 .left), eq-eqb _ _ (c .if2 .taken))
 
--- src/lib.rt:220:9
 returns-3 : tie.Need-returns-3
 unfolding phaseBy
 returns-3 c = simp (ne-eqb _ _ (c .before .before .if1 .left), ne-eqb _ _ (c .before .if2 .left), eq-eqb _ _ (c .if3 .taken))
 
--- src/lib.rt:227:9
 returns-4 : tie.Need-returns-4
 unfolding phaseBy
 returns-4 c = simp (ne-eqb _ _ (c .before .before .before .if1 .left), ne-eqb _ _ (c .before .before .if2 .left), ne-eqb _ _ (c .before .if3 .left), eq-eqb _ _ (c .if4 .taken))
 
--- src/lib.rt:210:1
 returns-5 : tie.Need-returns-5
 unfolding phaseBy
 returns-5 c = simp (ne-eqb _ _ (c .before .before .before .if1 .left), ne-eqb _ _ (c .before .before .if2 .left), ne-eqb _ _ (c .before .if3 .left), ne-eqb _ _ (c .if4 .left))

@@ -17,43 +17,33 @@ use Rattle.record.proofs.copy.Reads as copy-reads
 typed : (c : tie.Start) → StoreTyped (c .args .c .store)
 typed c = search needs
 
--- src/lib.rt:94:17
 phase-bytes-requires : tie.Need-phase-bytes-requires
 phase-bytes-requires c κs = search needs
 
--- src/lib.rt:95:21
 register-bytes-requires : tie.Need-register-bytes-requires
 register-bytes-requires c κs = search needs
 
--- src/lib.rt:96:40
 slice-aggregate-copy : tie.Need-slice-aggregate-copy
 slice-aggregate-copy c = search needs
 
--- src/lib.rt:96:5
 copy-requires : tie.Need-copy-requires
 copy-requires c κs = search needs
 
--- src/lib.rt:97:44
 slice-aggregate-copy-2 : tie.Need-slice-aggregate-copy-2
 slice-aggregate-copy-2 c = search needs
 
--- src/lib.rt:97:5
 copy-requires-2 : tie.Need-copy-requires-2
 copy-requires-2 c κs = search needs
 
--- src/lib.rt:98:40
 slice-aggregate-copy-3 : tie.Need-slice-aggregate-copy-3
 slice-aggregate-copy-3 c = search needs
 
--- src/lib.rt:98:5
 copy-requires-3 : tie.Need-copy-requires-3
 copy-requires-3 c κs = omega (arith, typed (c .before .before .before .before .before .before .before .before .before .before .before .before .before .before .before .before .before) .1)
 
--- src/lib.rt:86:1
 same-length : tie.Need-same-length
 same-length c = search needs
 
--- src/lib.rt:86:1
 returns : tie.Need-returns
 unfolding registerBytes
 returns c =

@@ -11,51 +11,39 @@ use Rattle.clockbytes.proofs.store.Lts as lts
 use Rattle.clockbytes.proofs.store_of.Reads as store-of-reads
 use Rattle.record.proofs.copy.Reads as copy-reads
 
--- src/lib.rt:116:18
 slice-aggregate-copy : tie.Need-slice-aggregate-copy
 slice-aggregate-copy c = search needs
 
--- src/lib.rt:116:29
 sub-copy : tie.Need-sub-copy
 sub-copy c = search needs
 
--- src/lib.rt:116:29
 part-copy-start : tie.Need-part-copy-start
 part-copy-start c = search needs
 
--- src/lib.rt:116:29
 part-copy-end : tie.Need-part-copy-end
 part-copy-end c = search needs
 
--- src/lib.rt:116:5
 copy-requires : tie.Need-copy-requires
 copy-requires c κs = search needs
 
--- src/lib.rt:117:18
 slice-aggregate-copy-2 : tie.Need-slice-aggregate-copy-2
 slice-aggregate-copy-2 c = search needs
 
--- src/lib.rt:117:33
 sub-copy-2 : tie.Need-sub-copy-2
 sub-copy-2 c = search needs
 
--- src/lib.rt:117:33
 part-copy-start-2 : tie.Need-part-copy-start-2
 part-copy-start-2 c = search needs
 
--- src/lib.rt:117:33
 part-copy-end-2 : tie.Need-part-copy-end-2
 part-copy-end-2 c = search needs
 
--- src/lib.rt:117:5
 copy-requires-2 : tie.Need-copy-requires-2
 copy-requires-2 c κs = search needs
 
--- src/lib.rt:118:5
 store-of-requires : tie.Need-store-of-requires
 store-of-requires c κs = search needs
 
--- src/lib.rt:110:1
 returns : tie.Need-returns
 unfolding storeOf
 returns c =

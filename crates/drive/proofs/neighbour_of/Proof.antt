@@ -6,30 +6,24 @@ use Rattle.drive.proofs.neighbour_of.Tie as tie
 use Rattle.drive.proofs.neighbour_of.Reads as reads
 use Rattle.drive.proofs.neighbour_of.Lts as lts
 
--- src/lib.rt:31:13
 returns : tie.Need-returns
 unfolding neighbour
 returns c = simp (c .before .if1 .taken, eq-eqb _ _ (c .if2 .taken))
 
--- src/lib.rt:33:16
 sub-result : tie.Need-sub-result
 sub-result c = search needs
 
--- src/lib.rt:33:9
 returns-2 : tie.Need-returns-2
 unfolding neighbour
 returns-2 c = simp (c .before .if1 .taken, ne-eqb _ _ (c .if2 .left))
 
--- src/lib.rt:36:16
 add-result : tie.Need-add-result
 add-result c = search needs
 
--- src/lib.rt:36:9
 returns-3 : tie.Need-returns-3
 unfolding neighbour
 returns-3 c = simp (c .before .if1 .left, lt-ltb _ _ (c .if3 .taken))
 
--- src/lib.rt:26:1
 returns-4 : tie.Need-returns-4
 unfolding neighbour
 returns-4 c = simp (c .before .if1 .left, le-ltb _ _ (c .if3 .left))

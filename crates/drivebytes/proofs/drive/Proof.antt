@@ -10,19 +10,15 @@ use Rattle.drivebytes.proofs.drive.Lts as lts
 use Rattle.drivebytes.proofs.drive_of.Reads as drive-of-reads
 use Rattle.record.proofs.copy.Reads as copy-reads
 
--- src/lib.rt:88:18
 slice-aggregate-copy : tie.Need-slice-aggregate-copy
 slice-aggregate-copy c = search needs
 
--- src/lib.rt:88:5
 copy-requires : tie.Need-copy-requires
 copy-requires c κs = search needs
 
--- src/lib.rt:89:5
 drive-of-requires : tie.Need-drive-of-requires
 drive-of-requires c κs = search needs
 
--- src/lib.rt:83:1
 returns : tie.Need-returns
 unfolding driveOf
 returns c =

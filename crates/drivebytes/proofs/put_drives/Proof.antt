@@ -15,47 +15,36 @@ use Rattle.record.proofs.copy.Reads as copy-reads
 typed : (c : tie.Start) → DrivesTyped (c .args .d)
 typed c = search needs
 
--- src/lib.rt:75:20
 drive-bytes-requires : tie.Need-drive-bytes-requires
 drive-bytes-requires c κs = search needs
 
--- src/lib.rt:76:20
 drive-bytes-requires-2 : tie.Need-drive-bytes-requires-2
 drive-bytes-requires-2 c κs = search needs
 
--- src/lib.rt:77:18
 strobe-bytes-requires : tie.Need-strobe-bytes-requires
 strobe-bytes-requires c κs = search needs
 
--- src/lib.rt:78:43
 slice-aggregate-copy : tie.Need-slice-aggregate-copy
 slice-aggregate-copy c = search needs
 
--- src/lib.rt:78:5
 copy-requires : tie.Need-copy-requires
 copy-requires c κs = search needs
 
--- src/lib.rt:79:43
 slice-aggregate-copy-2 : tie.Need-slice-aggregate-copy-2
 slice-aggregate-copy-2 c = search needs
 
--- src/lib.rt:79:5
 copy-requires-2 : tie.Need-copy-requires-2
 copy-requires-2 c κs = search needs
 
--- src/lib.rt:80:41
 slice-aggregate-copy-3 : tie.Need-slice-aggregate-copy-3
 slice-aggregate-copy-3 c = search needs
 
--- src/lib.rt:80:5
 copy-requires-3 : tie.Need-copy-requires-3
 copy-requires-3 c κs = search needs
 
--- src/lib.rt:70:1
 same-length : tie.Need-same-length
 same-length c = search needs
 
--- src/lib.rt:70:1
 returns : tie.Need-returns
 unfolding driveBytes strobeBytes
 returns c =

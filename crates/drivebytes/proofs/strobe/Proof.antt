@@ -10,19 +10,15 @@ use Rattle.drivebytes.proofs.strobe.Lts as lts
 use Rattle.drivebytes.proofs.strobe_of.Reads as strobe-of-reads
 use Rattle.record.proofs.copy.Reads as copy-reads
 
--- src/lib.rt:97:18
 slice-aggregate-copy : tie.Need-slice-aggregate-copy
 slice-aggregate-copy c = search needs
 
--- src/lib.rt:97:5
 copy-requires : tie.Need-copy-requires
 copy-requires c κs = search needs
 
--- src/lib.rt:98:5
 strobe-of-requires : tie.Need-strobe-of-requires
 strobe-of-requires c κs = search needs
 
--- src/lib.rt:92:1
 returns : tie.Need-returns
 unfolding strobeOf
 returns c =

@@ -6,11 +6,9 @@ use Rattle.events.proofs.blank.Reads as reads
 use Rattle.events.proofs.blank.Lts as lts
 use Rattle.via.proofs.Via.raise.Reads as raise-reads
 
--- src/lib.rt:92:5
 raise-requires : tie.Need-raise-requires
 raise-requires c κs = search needs
 
--- src/lib.rt:89:1
 returns : tie.Need-returns
 returns c = simp (← c .raise .ensures)
 

@@ -6,11 +6,9 @@ use Rattle.events.proofs.place_disk.Reads as reads
 use Rattle.events.proofs.place_disk.Lts as lts
 use Rattle.drives.proofs.Drives.place.Reads as place-reads
 
--- src/lib.rt:159:5
 place-requires : tie.Need-place-requires
 place-requires c κs = search needs
 
--- src/lib.rt:156:1
 returns : tie.Need-returns
 returns c = simp (← c .place .ensures)
 

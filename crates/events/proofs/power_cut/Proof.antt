@@ -9,23 +9,18 @@ use Rattle.drives.proofs.Drives.power_cut.Reads as power-cut-reads
 use Rattle.iwm.proofs.off.Reads as off-reads
 use Rattle.via.proofs.fresh.Reads as fresh-reads
 
--- src/lib.rt:148:5
 fresh-requires : tie.Need-fresh-requires
 fresh-requires c κs = search needs
 
--- src/lib.rt:149:5
 off-requires : tie.Need-off-requires
 off-requires c κs = search needs
 
--- src/lib.rt:150:5
 time-off-requires : tie.Need-time-off-requires
 time-off-requires c κs = search needs
 
--- src/lib.rt:151:5
 power-cut-requires : tie.Need-power-cut-requires
 power-cut-requires c κs = search needs
 
--- src/lib.rt:145:1
 returns : tie.Need-returns
 returns c = simp (← c .before .before .before .fresh .ensures, ← c .before .before .off .ensures, ← c .before .time-off .ensures, ← c .power-cut .ensures)
 

@@ -7,15 +7,12 @@ use Rattle.events.proofs.reset.Lts as lts
 use Rattle.iwm.proofs.off.Reads as off-reads
 use Rattle.via.proofs.Via.reset.Reads as reset-reads
 
--- src/lib.rt:139:5
 reset-requires : tie.Need-reset-requires
 reset-requires c κs = search needs
 
--- src/lib.rt:140:5
 off-requires : tie.Need-off-requires
 off-requires c κs = search needs
 
--- src/lib.rt:136:1
 returns : tie.Need-returns
 returns c = simp (← c .before .reset .ensures, ← c .off .ensures)
 

@@ -7,15 +7,12 @@ use Rattle.events.proofs.second.Lts as lts
 use Rattle.clock.proofs.Clock.second.Reads as second-reads
 use Rattle.via.proofs.Via.raise.Reads as raise-reads
 
--- src/lib.rt:100:5
 raise-requires : tie.Need-raise-requires
 raise-requires c κs = search needs
 
--- src/lib.rt:101:5
 second-requires : tie.Need-second-requires
 second-requires c κs = search needs
 
--- src/lib.rt:97:1
 returns : tie.Need-returns
 returns c = simp (← c .before .raise .ensures, ← c .second .ensures)
 

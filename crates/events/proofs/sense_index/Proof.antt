@@ -4,19 +4,15 @@ use Rattle.events.proofs.sense_index.Tie as tie
 use Rattle.events.proofs.sense_index.Reads as reads
 use Rattle.events.proofs.sense_index.Lts as lts
 
--- src/lib.rt:55:6
 mul-result : tie.Need-mul-result
 mul-result c = search needs
 
--- src/lib.rt:55:6
 add-result : tie.Need-add-result
 add-result c = search needs
 
--- src/lib.rt:55:5
 cast-result : tie.Need-cast-result
 cast-result c = search needs
 
--- src/lib.rt:51:1
 returns : tie.Need-returns
 returns c = search needs
 

@@ -6,15 +6,12 @@ use Rattle.events.proofs.set_sense.Reads as reads
 use Rattle.events.proofs.set_sense.Lts as lts
 use Rattle.events.proofs.sense_index.Reads as sense-index-reads
 
--- src/lib.rt:128:9
 sense-index-requires : tie.Need-sense-index-requires
 sense-index-requires c κs = search needs
 
--- src/lib.rt:130:5
 array-write-levels : tie.Need-array-write-levels
 array-write-levels c = search needs
 
--- src/lib.rt:124:1
 returns : tie.Need-returns
 returns c = simp (← c .before .sense-index .ensures .0)
 

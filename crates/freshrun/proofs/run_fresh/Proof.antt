@@ -15,19 +15,15 @@ use Rattle.freshrun.proofs.run_fresh.Lts as lts
 use Rattle.machine.proofs.fresh.Reads as fresh-reads
 use Rattle.run.proofs.run.Reads as run-reads
 
--- src/lib.rt:17:14
 fresh-requires : tie.Need-fresh-requires
 fresh-requires c κs = search needs
 
--- src/lib.rt:17:5
 run-requires : tie.Need-run-requires
 run-requires c κs = search needs
 
--- src/lib.rt:11:1
 same-length : tie.Need-same-length
 same-length c = search needs
 
--- src/lib.rt:11:1
 returns : tie.Need-returns
 returns c =
     let args = c .before .before .before .before .before .before .before .args in

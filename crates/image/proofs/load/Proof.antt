@@ -11,31 +11,24 @@ use Rattle.layout.proofs.lines.Reads as lines-reads
 use Rattle.layout.proofs.sense.Reads as sense-reads
 use Rattle.viabytes.proofs.via.Reads as via-reads
 
--- src/lib.rt:50:14
 via-requires : tie.Need-via-requires
 via-requires c κs = search needs
 
--- src/lib.rt:51:16
 clock-requires : tie.Need-clock-requires
 clock-requires c κs = search needs
 
--- src/lib.rt:53:20
 lines-requires : tie.Need-lines-requires
 lines-requires c κs = search needs
 
--- src/lib.rt:55:17
 inputs-requires : tie.Need-inputs-requires
 inputs-requires c κs = search needs
 
--- src/lib.rt:56:16
 sense-requires : tie.Need-sense-requires
 sense-requires c κs = search needs
 
--- src/lib.rt:57:17
 drives-requires : tie.Need-drives-requires
 drives-requires c κs = search needs
 
--- src/lib.rt:45:1
 returns : tie.Need-returns
 unfolding machineOf
 returns c = simp (c .before .before .before .before .before .via .ensures, c .before .before .before .before .clock .ensures, c .before .before .before .lines .ensures, c .before .before .inputs .ensures, c .before .sense .ensures, c .drives .ensures)

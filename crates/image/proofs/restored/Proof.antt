@@ -7,19 +7,15 @@ use Rattle.image.proofs.restored.Lts as lts
 use Rattle.image.proofs.load.Reads as load-reads
 use Rattle.image.proofs.save.Reads as save-reads
 
--- src/lib.rt:306:5
 save-requires : tie.Need-save-requires
 save-requires c κs = search needs
 
--- src/lib.rt:307:5
 load-requires : tie.Need-load-requires
 load-requires c κs = search needs
 
--- src/lib.rt:301:1
 same-length : tie.Need-same-length
 same-length c = search needs
 
--- src/lib.rt:301:1
 returns : tie.Need-returns
 returns c = (c .load .ensures ∙ c .before .before .before .before .save .ensures .1 .0, c .before .before .before .before .save .ensures .0)
 

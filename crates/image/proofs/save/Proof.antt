@@ -19,31 +19,24 @@ use Rattle.viabytes.proofs.put_via.Reads as put-via-reads
 levels : (c : tie.Start) → (length (c .args .m .disk .lines) ≡ linesLength) × (length (c .args .m .inputs) ≡ inputsLength) × (length (c .args .m .sense) ≡ senseLength)
 levels c = (search needs, search needs, search needs)
 
--- src/lib.rt:37:5
 put-head-requires : tie.Need-put-head-requires
 put-head-requires c κs = search needs
 
--- src/lib.rt:38:5
 put-via-requires : tie.Need-put-via-requires
 put-via-requires c κs = search needs
 
--- src/lib.rt:39:5
 put-clock-requires : tie.Need-put-clock-requires
 put-clock-requires c κs = search needs
 
--- src/lib.rt:40:5
 put-levels-requires : tie.Need-put-levels-requires
 put-levels-requires c κs = search needs
 
--- src/lib.rt:41:5
 put-drives-requires : tie.Need-put-drives-requires
 put-drives-requires c κs = search needs
 
--- src/lib.rt:28:1
 same-length : tie.Need-same-length
 same-length c = search needs
 
--- src/lib.rt:28:1
 returns : tie.Need-returns
 returns c =
     let d = c .before .before in

@@ -17,36 +17,28 @@ use Rattle.layout.proofs.same.Reads as same-reads
 use Rattle.image.proofs.save.Reads as save-reads
 use Rattle.machine.proofs.Machine.accepted.Reads as accepted-reads
 
--- src/lib.rt:341:9
 returns : tie.Need-returns
 unfolding validImage
 returns c = simp (ne-eqb _ _ (c .if1 .taken))
 
--- src/lib.rt:343:9
 load-requires : tie.Need-load-requires
 load-requires c κs = search needs
 
--- src/lib.rt:345:10
 slice-aggregate-save : tie.Need-slice-aggregate-save
 slice-aggregate-save c = search needs
 
--- src/lib.rt:345:5
 save-requires : tie.Need-save-requires
 save-requires c κs = search needs
 
--- src/lib.rt:346:24
 slice-aggregate-same : tie.Need-slice-aggregate-same
 slice-aggregate-same c = search needs
 
--- src/lib.rt:346:9
 same-requires : tie.Need-same-requires
 same-requires c κs = search needs
 
--- src/lib.rt:347:9
 accepted-requires : tie.Need-accepted-requires
 accepted-requires c κs = search needs
 
--- src/lib.rt:337:1
 returns-2 : tie.Need-returns-2
 unfolding validImage
 returns-2 c =

@@ -7,27 +7,21 @@ use Rattle.layout.proofs.sense.Reads as reads
 use Rattle.layout.proofs.sense.Lts as lts
 use Rattle.record.proofs.copy.Reads as copy-reads
 
--- src/lib.rt:89:18
 slice-aggregate-copy : tie.Need-slice-aggregate-copy
 slice-aggregate-copy c = search needs
 
--- src/lib.rt:89:31
 sub-copy : tie.Need-sub-copy
 sub-copy c = search needs
 
--- src/lib.rt:89:31
 part-copy-start : tie.Need-part-copy-start
 part-copy-start c = search needs
 
--- src/lib.rt:89:31
 part-copy-end : tie.Need-part-copy-end
 part-copy-end c = search needs
 
--- src/lib.rt:89:5
 copy-requires : tie.Need-copy-requires
 copy-requires c κs = search needs
 
--- src/lib.rt:84:1
 returns : tie.Need-returns
 returns c = c .before .copy .ensures ∙ whole _ _ (search needs)
 

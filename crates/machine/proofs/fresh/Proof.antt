@@ -8,23 +8,18 @@ use Rattle.iwm.proofs.off.Reads as off-reads
 use Rattle.via.proofs.fresh.Reads as fresh-reads′
 use Rattle.drives.proofs.Drives.fresh.Reads as Drives-fresh-reads
 
--- src/lib.rt:41:14
 fresh-requires : tie.Need-fresh-requires
 fresh-requires c κs = search needs
 
--- src/lib.rt:42:16
 fresh-requires-2 : tie.Need-fresh-requires-2
 fresh-requires-2 c κs = search needs
 
--- src/lib.rt:43:15
 off-requires : tie.Need-off-requires
 off-requires c κs = search needs
 
--- src/lib.rt:46:17
 fresh-requires-3 : tie.Need-fresh-requires-3
 fresh-requires-3 c κs = search needs
 
--- src/lib.rt:37:1
 returns : tie.Need-returns
 returns c = simp (c .fresh3 .ensures, c .before .off .ensures, c .before .before .fresh2 .ensures, c .before .before .before .fresh .ensures)
 

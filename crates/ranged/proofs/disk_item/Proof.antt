@@ -8,37 +8,29 @@ use Rattle.ranged.proofs.disk_item.Reads as reads
 use Rattle.ranged.proofs.disk_item.Lts as lts
 use Rattle.record.proofs.le16.Reads as le16-reads
 
--- src/lib.rt:212:9
 returns : tie.Need-returns
 unfolding diskOf
 returns c = simp (ne-eqb _ _ (c .if1 .taken))
 
--- src/lib.rt:214:20
 shared-slice-read-external : tie.Need-shared-slice-read-external
 shared-slice-read-external c = search needs
 
--- src/lib.rt:215:18
 shared-slice-read-insert : tie.Need-shared-slice-read-insert
 shared-slice-read-insert c = search needs
 
--- src/lib.rt:216:18
 shared-slice-read-locked : tie.Need-shared-slice-read-locked
 shared-slice-read-locked c = search needs
 
--- src/lib.rt:217:17
 shared-slice-read-sides : tie.Need-shared-slice-read-sides
 shared-slice-read-sides c = search needs
 
--- src/lib.rt:219:9
 returns-2 : tie.Need-returns-2
 unfolding diskOf
 returns-2 c = simp (eq-eqb _ _ (c .before .before .before .before .before .if1 .left), any4, c .if2 .taken)
 
--- src/lib.rt:222:15
 le16-requires : tie.Need-le16-requires
 le16-requires c κs = search needs
 
--- src/lib.rt:207:1
 returns-3 : tie.Need-returns-3
 unfolding diskOf
 returns-3 c = simp (eq-eqb _ _ (c .before .before .before .before .before .before .if1 .left), any4, c .before .if2 .left, ← c .le16 .ensures)

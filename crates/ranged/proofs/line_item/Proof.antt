@@ -8,29 +8,23 @@ use Rattle.ranged.proofs.line_item.Reads as reads
 use Rattle.ranged.proofs.line_item.Lts as lts
 use Rattle.record.proofs.le16.Reads as le16-reads
 
--- src/lib.rt:156:9
 returns : tie.Need-returns
 unfolding lineOf
 returns c = simp (ne-eqb _ _ (c .if1 .taken))
 
--- src/lib.rt:158:16
 shared-slice-read-line : tie.Need-shared-slice-read-line
 shared-slice-read-line c = search needs
 
--- src/lib.rt:159:17
 shared-slice-read-level : tie.Need-shared-slice-read-level
 shared-slice-read-level c = search needs
 
--- src/lib.rt:161:9
 returns-2 : tie.Need-returns-2
 unfolding lineOf
 returns-2 c = simp (eq-eqb _ _ (c .before .before .before .if1 .left), any2, c .if2 .taken)
 
--- src/lib.rt:164:15
 le16-requires : tie.Need-le16-requires
 le16-requires c κs = search needs
 
--- src/lib.rt:151:1
 returns-3 : tie.Need-returns-3
 unfolding lineOf
 returns-3 c = simp (eq-eqb _ _ (c .before .before .before .before .if1 .left), any2, c .before .if2 .left, ← c .le16 .ensures)

@@ -8,33 +8,26 @@ use Rattle.ranged.proofs.sense_item.Reads as reads
 use Rattle.ranged.proofs.sense_item.Lts as lts
 use Rattle.record.proofs.le16.Reads as le16-reads
 
--- src/lib.rt:176:9
 returns : tie.Need-returns
 unfolding senseOf
 returns c = simp (ne-eqb _ _ (c .if1 .taken))
 
--- src/lib.rt:178:17
 shared-slice-read-drive : tie.Need-shared-slice-read-drive
 shared-slice-read-drive c = search needs
 
--- src/lib.rt:179:20
 shared-slice-read-register : tie.Need-shared-slice-read-register
 shared-slice-read-register c = search needs
 
--- src/lib.rt:180:17
 shared-slice-read-level : tie.Need-shared-slice-read-level
 shared-slice-read-level c = search needs
 
--- src/lib.rt:182:9
 returns-2 : tie.Need-returns-2
 unfolding senseOf
 returns-2 c = simp (eq-eqb _ _ (c .before .before .before .before .if1 .left), any3, c .if2 .taken)
 
--- src/lib.rt:185:15
 le16-requires : tie.Need-le16-requires
 le16-requires c κs = search needs
 
--- src/lib.rt:171:1
 returns-3 : tie.Need-returns-3
 unfolding senseOf
 returns-3 c = simp (eq-eqb _ _ (c .before .before .before .before .before .if1 .left), any3, c .before .if2 .left, ← c .le16 .ensures)

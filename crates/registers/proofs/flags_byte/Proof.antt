@@ -8,19 +8,15 @@ use Rattle.registers.proofs.flags_byte.Lts as lts
 use Rattle.viabits.proofs.pick.Reads as pick-reads
 use Rattle.via.proofs.Via.asks.Reads as asks-reads
 
--- src/lib.rt:136:10
 asks-requires : tie.Need-asks-requires
 asks-requires c κs = search needs
 
--- src/lib.rt:136:22
 add-pick : tie.Need-add-pick
 add-pick c = search needs
 
--- src/lib.rt:136:5
 pick-requires : tie.Need-pick-requires
 pick-requires c κs = search needs
 
--- src/lib.rt:133:1
 returns : tie.Need-returns
 unfolding flagsByte
 returns c = simp (← c .before .before .before .asks .ensures, ← c .pick .ensures)

@@ -8,23 +8,18 @@ use Rattle.registers.proofs.flags_read.Lts as lts
 use Rattle.viabits.proofs.pick.Reads as pick-reads
 use Rattle.viabits.proofs.port_a_flags.Reads as port-a-flags-reads
 
--- src/lib.rt:169:9
 pick-requires : tie.Need-pick-requires
 pick-requires c κs = search needs
 
--- src/lib.rt:170:9
 pick-requires-2 : tie.Need-pick-requires-2
 pick-requires-2 c κs = search needs
 
--- src/lib.rt:171:30
 port-a-flags-requires : tie.Need-port-a-flags-requires
 port-a-flags-requires c κs = search needs
 
--- src/lib.rt:171:5
 pick-requires-3 : tie.Need-pick-requires-3
 pick-requires-3 c κs = search needs
 
--- src/lib.rt:165:1
 returns : tie.Need-returns
 unfolding flagsRead
 returns c = simp (← c .before .before .before .pick .ensures, ← c .before .before .pick2 .ensures, ← c .before .port-a-flags .ensures, ← c .pick3 .ensures)

@@ -5,7 +5,6 @@ use Rattle.registers.proofs.port.Tie as tie
 use Rattle.registers.proofs.port.Reads as reads
 use Rattle.registers.proofs.port.Lts as lts
 
--- src/lib.rt:90:1
 returns : tie.Need-returns
 unfolding portLevel
 returns c = refl

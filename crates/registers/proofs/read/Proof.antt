@@ -7,15 +7,12 @@ use Rattle.registers.proofs.read.Lts as lts
 use Rattle.registers.proofs.flags_read.Reads as flags-read-reads
 use Rattle.registers.proofs.value_read.Reads as value-read-reads
 
--- src/lib.rt:431:9
 flags-read-requires : tie.Need-flags-read-requires
 flags-read-requires c κs = search needs
 
--- src/lib.rt:434:20
 value-read-requires : tie.Need-value-read-requires
 value-read-requires c κs = search needs
 
--- src/lib.rt:426:5
 returns : tie.Need-returns
 unfolding readOf
 returns c = simp (← c .before .flags-read .ensures, ← c .value-read .ensures)

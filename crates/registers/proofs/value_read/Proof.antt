@@ -10,118 +10,93 @@ use Rattle.registers.proofs.high_byte.Reads as high-byte-reads
 use Rattle.registers.proofs.low_byte.Reads as low-byte-reads
 use Rattle.registers.proofs.port.Reads as port-reads
 
--- src/lib.rt:390:18
 port-requires : tie.Need-port-requires
 port-requires c κs = search needs
 
--- src/lib.rt:391:18
 port-requires-2 : tie.Need-port-requires-2
 port-requires-2 c κs = search needs
 
--- src/lib.rt:394:18
 low-byte-requires : tie.Need-low-byte-requires
 low-byte-requires c κs = search needs
 
--- src/lib.rt:395:18
 high-byte-requires : tie.Need-high-byte-requires
 high-byte-requires c κs = search needs
 
--- src/lib.rt:398:18
 low-byte-requires-2 : tie.Need-low-byte-requires-2
 low-byte-requires-2 c κs = search needs
 
--- src/lib.rt:399:18
 high-byte-requires-2 : tie.Need-high-byte-requires-2
 high-byte-requires-2 c κs = search needs
 
--- src/lib.rt:403:19
 flags-byte-requires : tie.Need-flags-byte-requires
 flags-byte-requires c κs = search needs
 
--- src/lib.rt:404:19
 add-result : tie.Need-add-result
 add-result c = search needs
 
--- src/lib.rt:405:18
 port-requires-3 : tie.Need-port-requires-3
 port-requires-3 c κs = search needs
 
--- src/lib.rt:385:5
 returns : tie.Need-returns
 unfolding valueRead
 returns c = simp (c .before .match .keys1, ← c .port .ensures)
 
--- src/lib.rt:385:5
 returns-2 : tie.Need-returns-2
 unfolding valueRead
 returns-2 c = simp (c .before .match .keys2, ← c .port2 .ensures)
 
--- src/lib.rt:385:5
 returns-3 : tie.Need-returns-3
 unfolding valueRead
 returns-3 c = simp (c .match .keys3)
 
--- src/lib.rt:385:5
 returns-4 : tie.Need-returns-4
 unfolding valueRead
 returns-4 c = simp (c .match .keys4)
 
--- src/lib.rt:385:5
 returns-5 : tie.Need-returns-5
 unfolding valueRead
 returns-5 c = simp (c .before .match .keys5, ← c .low-byte .ensures)
 
--- src/lib.rt:385:5
 returns-6 : tie.Need-returns-6
 unfolding valueRead
 returns-6 c = simp (c .before .match .keys6, ← c .high-byte .ensures)
 
--- src/lib.rt:385:5
 returns-7 : tie.Need-returns-7
 unfolding valueRead
 returns-7 c = simp (c .match .keys7)
 
--- src/lib.rt:385:5
 returns-8 : tie.Need-returns-8
 unfolding valueRead
 returns-8 c = simp (c .match .keys8)
 
--- src/lib.rt:385:5
 returns-9 : tie.Need-returns-9
 unfolding valueRead
 returns-9 c = simp (c .before .match .keys9, ← c .low-byte2 .ensures)
 
--- src/lib.rt:385:5
 returns-10 : tie.Need-returns-10
 unfolding valueRead
 returns-10 c = simp (c .before .match .keys10, ← c .high-byte2 .ensures)
 
--- src/lib.rt:385:5
 returns-11 : tie.Need-returns-11
 unfolding valueRead
 returns-11 c = simp (c .match .keys11)
 
--- src/lib.rt:385:5
 returns-12 : tie.Need-returns-12
 unfolding valueRead
 returns-12 c = simp (c .match .keys12)
 
--- src/lib.rt:385:5
 returns-13 : tie.Need-returns-13
 unfolding valueRead
 returns-13 c = simp (c .match .keys13)
 
--- src/lib.rt:385:5
 returns-14 : tie.Need-returns-14
 unfolding valueRead
 returns-14 c = simp (c .before .match .keys14, ← c .flags-byte .ensures)
 
--- src/lib.rt:385:5
 returns-15 : tie.Need-returns-15
 unfolding valueRead
 returns-15 c = simp (c .before .match .keys15)
 
--- src/lib.rt:385:5
 returns-16 : tie.Need-returns-16
 unfolding valueRead
 returns-16 c =

@@ -11,35 +11,27 @@ use Rattle.replay.proofs.show_all.Reads as show-all-reads
 use Rattle.replay.proofs.show_end.Reads as show-end-reads
 use Rattle.run.proofs.run.Reads as run-reads
 
--- src/main.rt:44:22
 fresh-requires : tie.Need-fresh-requires
 fresh-requires c κs = search needs
 
--- src/main.rt:44:46
 slice-aggregate-run : tie.Need-slice-aggregate-run
 slice-aggregate-run c = search needs
 
--- src/main.rt:44:9
 run-requires : tie.Need-run-requires
 run-requires c κs = search needs
 
--- src/main.rt:46:20
 array-share-prefix-answers : tie.Need-array-share-prefix-answers
 array-share-prefix-answers c = search needs
 
--- src/main.rt:46:20
 slice-aggregate-show-all : tie.Need-slice-aggregate-show-all
 slice-aggregate-show-all c = sym (length-take-le _ _ (omega arith))
 
--- src/main.rt:46:5
 show-all-requires : tie.Need-show-all-requires
 show-all-requires c κs = search needs
 
--- src/main.rt:47:5
 show-end-requires : tie.Need-show-end-requires
 show-end-requires c κs = search needs
 
--- src/main.rt:43:1
 returns : tie.Need-returns
 returns c = search needs
 

@@ -11,43 +11,33 @@ use Rattle.io.proofs.write_all.Reads as write-all-reads
 use Rattle.record.proofs.frame.Reads as frame-reads
 use Rattle.report.proofs.line.Reads as line-reads
 
--- src/main.rt:16:26
 slice-aggregate-line : tie.Need-slice-aggregate-line
 slice-aggregate-line c = search needs
 
--- src/main.rt:16:9
 line-requires : tie.Need-line-requires
 line-requires c κs = search needs
 
--- src/main.rt:17:34
 array-share-prefix-text : tie.Need-array-share-prefix-text
 array-share-prefix-text c = search needs
 
--- src/main.rt:17:34
 slice-aggregate-write-all : tie.Need-slice-aggregate-write-all
 slice-aggregate-write-all c = sym (length-take-le _ _ (omega (arith, c .before .before .line .ensures .fits, c .before .before .line .ensures .same)))
 
--- src/main.rt:17:5
 write-all-requires : tie.Need-write-all-requires
 write-all-requires c κs = search needs
 
--- src/main.rt:18:11
 frame-requires : tie.Need-frame-requires
 frame-requires c κs = search needs
 
--- src/main.rt:19:23
 enum-known-size : tie.Need-enum-known-size
 enum-known-size c = search needs
 
--- src/main.rt:20:24
 enum-told : tie.Need-enum-told
 enum-told c = search needs
 
--- src/main.rt:11:1
 returns : tie.Need-returns
 returns c = whole-fits _ _ (sym (c .before .before .before .frame .ensures) ∙ c .before .size .given .1) .1
 
--- src/main.rt:11:1
 returns-2 : tie.Need-returns-2
 returns-2 c = search needs
 

@@ -14,59 +14,45 @@ Inv-loop list answers at₀ out₀ at out = (at ≤ length list) × (out ≤ len
 abbrev μ-loop : tie.MeasureT-loop
 μ-loop list answers at₀ out₀ at out = length answers - out
 
--- src/main.rt:28:5
 loop-holds : tie.Need-loop-holds Inv-loop μ-loop
 loop-holds c = search needs
 
--- src/main.rt:28:16
 sub-loop : tie.Need-sub-loop Inv-loop μ-loop
 sub-loop c = search needs
 
--- src/main.rt:29:22
 sub-show : tie.Need-sub-show Inv-loop μ-loop
 sub-show c = search needs
 
--- src/main.rt:29:22
 part-show-start : tie.Need-part-show-start Inv-loop μ-loop
 part-show-start c = search needs
 
--- src/main.rt:29:22
 part-show-end : tie.Need-part-show-end Inv-loop μ-loop
 part-show-end c = search needs
 
--- src/main.rt:29:39
 sub-show-2 : tie.Need-sub-show-2 Inv-loop μ-loop
 sub-show-2 c = search needs
 
--- src/main.rt:29:39
 part-show-start-2 : tie.Need-part-show-start-2 Inv-loop μ-loop
 part-show-start-2 c = search needs
 
--- src/main.rt:29:39
 part-show-end-2 : tie.Need-part-show-end-2 Inv-loop μ-loop
 part-show-end-2 c = search needs
 
--- src/main.rt:29:13
 show-requires : tie.Need-show-requires Inv-loop μ-loop
 show-requires c κs = simp (length-take, length-drop) (omega arith)
 
--- src/main.rt:30:9
 add-at : tie.Need-add-at Inv-loop μ-loop
 add-at c = record { fits = omega (arith, simp (length-take, length-drop) at (c .show .ensures)) }
 
--- src/main.rt:31:9
 add-out : tie.Need-add-out Inv-loop μ-loop
 add-out c = search needs
 
--- src/main.rt:28:5
 loop-less : tie.Need-loop-less Inv-loop μ-loop
 loop-less c = search needs
 
--- src/main.rt:28:5
 loop-again : tie.Need-loop-again Inv-loop μ-loop
 loop-again c = (omega (arith, simp (length-take, length-drop) at (c .show .ensures)), omega arith)
 
--- src/main.rt:25:1
 returns : tie.Need-returns Inv-loop μ-loop
 returns c = search needs
 

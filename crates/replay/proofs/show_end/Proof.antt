@@ -9,27 +9,21 @@ use Rattle.replay.proofs.show_end.Lts as lts
 use Rattle.io.proofs.write_all.Reads as write-all-reads
 use Rattle.report.proofs.end.Reads as end-reads
 
--- src/main.rt:38:25
 slice-aggregate-end : tie.Need-slice-aggregate-end
 slice-aggregate-end c = search needs
 
--- src/main.rt:38:9
 end-requires : tie.Need-end-requires
 end-requires c κs = search needs
 
--- src/main.rt:39:34
 array-share-prefix-text : tie.Need-array-share-prefix-text
 array-share-prefix-text c = search needs
 
--- src/main.rt:39:34
 slice-aggregate-write-all : tie.Need-slice-aggregate-write-all
 slice-aggregate-write-all c = sym (length-take-le _ _ (omega (arith, c .before .before .end .ensures .fits, c .before .before .end .ensures .same)))
 
--- src/main.rt:39:5
 write-all-requires : tie.Need-write-all-requires
 write-all-requires c κs = search needs
 
--- src/main.rt:36:1
 returns : tie.Need-returns
 returns c = search needs
 

@@ -13,54 +13,42 @@ use Rattle.kinds.proofs.decode.Reads as decode-reads
 use Rattle.items.proofs.refusal.Reads as refusal-reads
 use Rattle.record.proofs.le16.Reads as le16-reads
 
--- src/lib.rt:65:9
 returns : tie.Need-returns
 unfolding kindOf
 returns c = simp (lt-ltb _ _ (c .before .before .if1 .taken))
 
--- src/lib.rt:67:8
 le16-requires : tie.Need-le16-requires
 le16-requires c κs = search needs
 
--- src/lib.rt:68:9
 returns-2 : tie.Need-returns-2
 unfolding kindOf
 returns-2 c = simp (le-ltb _ _ (c .before .before .before .before .if1 .left), ← c .before .before .before .le16 .ensures, lt-ltb _ _ (c .before .before .if2 .taken))
 
--- src/lib.rt:70:37
 sub-decode : tie.Need-sub-decode
 sub-decode c = search needs
 
--- src/lib.rt:70:37
 part-decode-start : tie.Need-part-decode-start
 part-decode-start c = search needs
 
--- src/lib.rt:70:37
 part-decode-end : tie.Need-part-decode-end
 part-decode-end c = search needs
 
--- src/lib.rt:70:23
 decode-requires : tie.Need-decode-requires
 decode-requires c κs = search needs
 
--- src/lib.rt:70:8
 refusal-requires : tie.Need-refusal-requires
 refusal-requires c κs = search needs
 
--- src/lib.rt:71:9
 returns-3 : tie.Need-returns-3
 unfolding kindOf
 returns-3 c = simp (le-ltb _ _ (c .before .before .before .before .before .before .before .before .if1 .left), ← c .before .before .before .before .before .before .before .le16 .ensures, le-ltb _ _ (c .before .before .before .before .before .before .if2 .left), ← (c .before .before .before .before .decode .ensures ∙ ap decodedOf (rest-all (now (c .before .before .before .before .before .before .before .before .before .before .args .rest)))), ← c .before .before .before .refusal .ensures, eq-eqb _ _ (c .before .before .if3 .taken))
 
--- src/lib.rt:73:10
 shared-slice-read-t10 : tie.Need-shared-slice-read-t10
 shared-slice-read-t10 c = search needs
 
--- src/lib.rt:73:19
 shared-slice-read-t18 : tie.Need-shared-slice-read-t18
 shared-slice-read-t18 c = search needs
 
--- src/lib.rt:61:1
 returns-4 : tie.Need-returns-4
 unfolding kindOf
 returns-4 c = simp (le-ltb _ _ (c .before .before .before .before .before .before .before .before .if1 .left), ← c .before .before .before .before .before .before .before .le16 .ensures, le-ltb _ _ (c .before .before .before .before .before .before .if2 .left), ← (c .before .before .before .before .decode .ensures ∙ ap decodedOf (rest-all (now (c .before .before .before .before .before .before .before .before .before .before .args .rest)))), ← c .before .before .before .refusal .ensures, ne-eqb _ _ (c .before .before .if3 .left))

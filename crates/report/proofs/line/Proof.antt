@@ -10,39 +10,30 @@ use Rattle.text.proofs.add_number.Reads as add-number-reads
 use Rattle.answers.proofs.add_said.Reads as add-said-reads
 use Rattle.report.proofs.kind_of.Reads as kind-of-reads
 
--- src/lib.rt:145:9
 add-number-requires : tie.Need-add-number-requires
 add-number-requires c κs = search needs
 
--- src/lib.rt:146:16
 kind-of-requires : tie.Need-kind-of-requires
 kind-of-requires c κs = search needs
 
--- src/lib.rt:147:23
 slice-aggregate-add : tie.Need-slice-aggregate-add
 slice-aggregate-add c = search needs
 
--- src/lib.rt:147:9
 add-requires : tie.Need-add-requires
 add-requires c κs = search needs
 
--- src/lib.rt:148:9
 add-said-requires : tie.Need-add-said-requires
 add-said-requires c κs = search needs
 
--- src/lib.rt:149:15
 slice-aggregate-add-2 : tie.Need-slice-aggregate-add-2
 slice-aggregate-add-2 c = search needs
 
--- src/lib.rt:149:5
 add-requires-2 : tie.Need-add-requires-2
 add-requires-2 c κs = search needs
 
--- src/lib.rt:140:1
 same-length : tie.Need-same-length
 same-length c = search needs
 
--- src/lib.rt:140:1
 returns : tie.Need-returns
 unfolding lineOf
 returns c = rw (← c .before .before .before .before .before .before .before .before .before .before .before .before .before .before .kind-of .ensures) (put-then (put-then (put-then (c .before .before .before .before .before .before .before .before .before .before .before .before .before .before .before .before .before .add-number .ensures .0) (c .before .before .before .before .before .before .before .before .before .before .before .add .ensures)) (c .before .before .before .before .before .before .before .add-said .ensures .0)) (c .before .before .add2 .ensures))

@@ -5,7 +5,6 @@ use Rattle.sense.proofs.accepted.Tie as tie
 use Rattle.sense.proofs.accepted.Reads as reads
 use Rattle.sense.proofs.accepted.Lts as lts
 
--- src/lib.rt:226:5
 returns : tie.Need-returns
 unfolding acceptedDrive
 returns c = refl

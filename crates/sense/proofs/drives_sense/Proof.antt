@@ -5,7 +5,6 @@ use Rattle.sense.proofs.drives_sense.Tie as tie
 use Rattle.sense.proofs.drives_sense.Reads as reads
 use Rattle.sense.proofs.drives_sense.Lts as lts
 
--- src/lib.rt:49:1
 returns : tie.Need-returns
 unfolding drivesSense
 returns c = refl

@@ -7,20 +7,16 @@ use Rattle.sense.proofs.shown.Lts as lts
 use Rattle.sense.proofs.sense.Reads as sense-reads
 use Rattle.sense.proofs.drives_sense.Reads as drives-sense-reads
 
--- src/lib.rt:219:12
 drives-sense-requires : tie.Need-drives-sense-requires
 drives-sense-requires c κs = search needs
 
--- src/lib.rt:220:13
 sense-requires : tie.Need-sense-requires
 sense-requires c κs = search needs
 
--- src/lib.rt:220:13
 returns : tie.Need-returns
 unfolding shownOf
 returns c = simp (← c .before .before .drives-sense .ensures, c .before .if1 .taken, ← c .sense .ensures)
 
--- src/lib.rt:216:5
 returns-2 : tie.Need-returns-2
 unfolding shownOf
 returns-2 c = simp (← c .before .drives-sense .ensures, c .if1 .left)

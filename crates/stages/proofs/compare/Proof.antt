@@ -9,23 +9,18 @@ use Rattle.drives.proofs.Drives.after.Reads as after-reads
 use Rattle.machine.proofs.Machine.watched.Reads as watched-reads
 use Rattle.machine.proofs.Machine.wires.Reads as wires-reads
 
--- src/lib.rt:70:36
 wires-requires : tie.Need-wires-requires
 wires-requires c κs = search needs
 
--- src/lib.rt:70:5
 step-requires : tie.Need-step-requires
 step-requires c κs = search needs
 
--- src/lib.rt:71:39
 watched-requires : tie.Need-watched-requires
 watched-requires c κs = search needs
 
--- src/lib.rt:71:5
 after-requires : tie.Need-after-requires
 after-requires c κs = search needs
 
--- src/lib.rt:66:1
 returns : tie.Need-returns
 returns c = simp (← c .before .before .before .wires .ensures, ← c .before .before .step .ensures, ← c .before .watched .ensures, ← c .after .ensures)
 

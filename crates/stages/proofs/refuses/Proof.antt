@@ -7,15 +7,12 @@ use Rattle.stages.proofs.refuses.Reads as reads
 use Rattle.stages.proofs.refuses.Lts as lts
 use Rattle.drives.proofs.Drives.refuses_place.Reads as refuses-place-reads
 
--- src/lib.rt:98:22
 enum-known-item : tie.Need-enum-known-item
 enum-known-item c = search needs
 
--- src/lib.rt:100:13
 refuses-place-requires : tie.Need-refuses-place-requires
 refuses-place-requires c κs = search needs
 
--- src/lib.rt:93:17
 returns : tie.Need-returns
 unfolding refusesOf
 returns c = simp (c .before .before .before .item .given .1, ← c .before .refuses-place .ensures, c .if1 .taken)

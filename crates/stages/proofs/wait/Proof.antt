@@ -7,15 +7,12 @@ use Rattle.stages.proofs.wait.Lts as lts
 use Rattle.drives.proofs.Drives.wait.Reads as Drives-wait-reads
 use Rattle.via.proofs.Via.wait.Reads as Via-wait-reads
 
--- src/lib.rt:41:5
 wait-requires : tie.Need-wait-requires
 wait-requires c κs = search needs
 
--- src/lib.rt:42:5
 wait-requires-2 : tie.Need-wait-requires-2
 wait-requires-2 c κs = search needs
 
--- src/lib.rt:38:1
 returns : tie.Need-returns
 returns c = simp (← c .before .wait .ensures, ← c .wait2 .ensures)
 

@@ -11,31 +11,24 @@ use Rattle.via.proofs.Via.level.Reads as level-reads
 use Rattle.wiring.proofs.interrupt_level.Reads as interrupt-level-reads
 use Rattle.wiring.proofs.sel_of.Reads as sel-of-reads
 
--- src/lib.rt:130:40
 level-requires : tie.Need-level-requires
 level-requires c κs = search needs
 
--- src/lib.rt:130:55
 array-read-interrupt-level : tie.Need-array-read-interrupt-level
 array-read-interrupt-level c = search needs
 
--- src/lib.rt:130:66
 array-read-interrupt-level-2 : tie.Need-array-read-interrupt-level-2
 array-read-interrupt-level-2 c = search needs
 
--- src/lib.rt:130:16
 interrupt-level-requires : tie.Need-interrupt-level-requires
 interrupt-level-requires c κs = let l = c .before .before .before .pre .1 in (rw (c .level .ensures) (via-level _), level-at _ 5 l, level-at _ 6 l)
 
--- src/lib.rt:131:16
 byte-requires : tie.Need-byte-requires
 byte-requires c κs = search needs
 
--- src/lib.rt:132:14
 sel-of-requires : tie.Need-sel-of-requires
 sel-of-requires c κs = search needs
 
--- src/lib.rt:121:1
 returns : tie.Need-returns
 unfolding answerOf
 returns c = simp (c .sel-of .ensures .0, c .before .byte .ensures, c .before .before .interrupt-level .ensures, c .before .before .before .level .ensures)

@@ -7,47 +7,36 @@ use Rattle.step.proofs.moves_lines.Tie as tie
 use Rattle.step.proofs.moves_lines.Reads as reads
 use Rattle.step.proofs.moves_lines.Lts as lts
 
--- src/lib.rt:51:33
 enum-told : tie.Need-enum-told
 enum-told c = search needs
 
--- src/lib.rt:52:34
 enum-told-2 : tie.Need-enum-told-2
 enum-told-2 c = search needs
 
--- src/lib.rt:53:34
 enum-told-3 : tie.Need-enum-told-3
 enum-told-3 c = search needs
 
--- src/lib.rt:54:31
 enum-told-4 : tie.Need-enum-told-4
 enum-told-4 c = search needs
 
--- src/lib.rt:55:31
 enum-told-5 : tie.Need-enum-told-5
 enum-told-5 c = search needs
 
--- src/lib.rt:47:1
 returns : tie.Need-returns
 returns c = λ e. no (sym e)
 
--- src/lib.rt:47:1
 returns-2 : tie.Need-returns-2
 returns-2 c = λ e. no (sym e)
 
--- src/lib.rt:47:1
 returns-3 : tie.Need-returns-3
 returns-3 c = λ e. no (sym e)
 
--- src/lib.rt:47:1
 returns-4 : tie.Need-returns-4
 returns-4 c = λ e. no (sym e)
 
--- src/lib.rt:47:1
 returns-5 : tie.Need-returns-5
 returns-5 c = λ e. no (sym e)
 
--- src/lib.rt:47:1
 returns-6 : tie.Need-returns-6
 returns-6 c = λ _. kinds-quiet (c .before .args .item) (c .match .keys6)
 

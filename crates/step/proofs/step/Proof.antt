@@ -20,33 +20,26 @@ use Rattle.step.proofs.moves_lines.Reads as moves-lines-reads
 use Rattle.stages.proofs.wait.Reads as wait-reads
 use Rattle.stages.proofs.wait_of.Reads as wait-of-reads
 
--- src/lib.rt:81:33
 wait-of-requires : tie.Need-wait-of-requires
 wait-of-requires c κs = search needs
 
--- src/lib.rt:81:25
 wait-requires : tie.Need-wait-requires
 wait-requires c κs = search needs
 
--- src/lib.rt:81:9
 act-requires : tie.Need-act-requires
 act-requires c κs =
     let s = c .before .before in
     (s .pre .1, subst (λ (x : Machine). Levels x) (sym (c .wait .ensures)) (parts (s .args .m) (s .pre .0) .levels))
 
--- src/lib.rt:82:8
 moves-lines-requires : tie.Need-moves-lines-requires
 moves-lines-requires c κs = search needs
 
--- src/lib.rt:85:36
 wires-requires : tie.Need-wires-requires
 wires-requires c κs = search needs
 
--- src/lib.rt:85:47
 watched-requires : tie.Need-watched-requires
 watched-requires c κs = search needs
 
--- src/lib.rt:85:22
 compare-requires : tie.Need-compare-requires
 compare-requires c κs =
     let a = c .before .before .before .before .before in
@@ -54,14 +47,12 @@ compare-requires c κs =
     met (s .args .m) (a .before .wait .result) (s .args .item) (a .act .result) (c .before .wires .result)
     (a .act .ensures) (ap (λ (x : Machine). x .clock) (a .before .wait .ensures)) (c .before .wires .ensures) (s .pre .0)
 
--- src/lib.rt:84:9
 returns : tie.Need-returns
 unfolding stepOf
 returns c =
     let a = c .before .before .before .before .before .before in
     simp (c .compare .ensures, c .before .watched .ensures, c .before .before .wires .ensures, a .act .ensures, a .before .wait .ensures, a .before .before .wait-of .ensures)
 
--- src/lib.rt:76:1
 returns-2 : tie.Need-returns-2
 returns-2 c =
     let a = c .before .before in

@@ -5,7 +5,6 @@ use Rattle.strobe.proofs.held_still.Tie as tie
 use Rattle.strobe.proofs.held_still.Reads as reads
 use Rattle.strobe.proofs.held_still.Lts as lts
 
--- src/lib.rt:25:1
 returns : tie.Need-returns
 unfolding heldStill
 returns c = refl

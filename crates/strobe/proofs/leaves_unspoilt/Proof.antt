@@ -6,11 +6,9 @@ use Rattle.strobe.proofs.leaves_unspoilt.Reads as reads
 use Rattle.strobe.proofs.leaves_unspoilt.Lts as lts
 use Rattle.strobe.proofs.held_still.Reads as held-still-reads
 
--- src/lib.rt:37:20
 held-still-requires : tie.Need-held-still-requires
 held-still-requires c κs = search needs
 
--- src/lib.rt:34:1
 returns : tie.Need-returns
 unfolding unspoilt
 returns c = simp (← c .before .held-still .ensures)

@@ -5,12 +5,10 @@ use Rattle.strobe.proofs.long_enough.Tie as tie
 use Rattle.strobe.proofs.long_enough.Reads as reads
 use Rattle.strobe.proofs.long_enough.Lts as lts
 
--- src/lib.rt:45:9
 returns : tie.Need-returns
 unfolding longEnough
 returns c = simp (eq-eqb _ _ (c .if1 .taken))
 
--- src/lib.rt:41:1
 returns-2 : tie.Need-returns-2
 unfolding longEnough
 returns-2 c = simp (ne-eqb _ _ (c .if1 .left))

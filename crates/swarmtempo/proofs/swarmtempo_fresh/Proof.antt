@@ -24,33 +24,26 @@ in-front d x y l e =
     let n : 0 + length y ≡ 123 = zero-add (length y) ∙ ap length (sym e) ∙ l in
     ap (λ (z : List ℕ). z ++ drop 123 d) e ∙ ap (λ (k : ℕ). y ++ drop k d) (sym n)
 
--- src/lib.rt:26:9
 returns : tie.Need-returns
 unfolding freshStop freshImage
 returns c = simp (lt-ltb _ _ (c .if1 .taken)) (refl, refl)
 
--- src/lib.rt:28:17
 slice-relend-prefix-save : tie.Need-slice-relend-prefix-save
 slice-relend-prefix-save c = search needs
 
--- src/lib.rt:28:17
 slice-aggregate-save : tie.Need-slice-aggregate-save
 slice-aggregate-save c = sym (length-take-le 123 (now (c .before .before .before .args .image)) (c .before .if1 .left))
 
--- src/lib.rt:28:46
 fresh-requires : tie.Need-fresh-requires
 fresh-requires c κs = search needs
 
--- src/lib.rt:28:5
 save-requires : tie.Need-save-requires
 save-requires c κs =
     length-take-le 123 (now (c .before .before .before .before .args .image)) (c .before .before .if1 .left)
 
--- src/lib.rt:20:1
 same-length : tie.Need-same-length
 same-length c = search needs
 
--- src/lib.rt:20:1
 returns-2 : tie.Need-returns-2
 unfolding freshStop freshImage
 returns-2 c =

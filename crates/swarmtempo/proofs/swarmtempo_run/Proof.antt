@@ -23,41 +23,32 @@ good c = sym (c .before .valid .ensures) ∙ not-false _ (c .if1 .left)
 whole : (c : tie.Else1) → length (now (c .before .before .before .before .before .before .args .image)) ≡ imageLength
 whole c = valid-is _ (good c) .long
 
--- src/lib.rt:48:9
 valid-requires : tie.Need-valid-requires
 valid-requires c κs = search needs
 
--- src/lib.rt:49:9
 same-length : tie.Need-same-length
 same-length c = search needs
 
--- src/lib.rt:49:9
 returns : tie.Need-returns
 returns c =
     let a = c .before .before .before .before .before .before .args in
     call.refused (now (a .image)) (now (a .list)) (now (a .answers)) (sym (c .before .valid .ensures) ∙ not-true _ (c .if1 .taken))
 
--- src/lib.rt:51:22
 load-requires : tie.Need-load-requires
 load-requires c κs = whole (c .before)
 
--- src/lib.rt:51:9
 run-requires : tie.Need-run-requires
 run-requires c κs = search needs
 
--- src/lib.rt:54:5
 save-requires : tie.Need-save-requires
 save-requires c κs = whole (c .before .before .before .before .before .before .before)
 
--- src/lib.rt:32:1
 same-length-2 : tie.Need-same-length-2
 same-length-2 c = search needs
 
--- src/lib.rt:32:1
 same-length-3 : tie.Need-same-length-3
 same-length-3 c = search needs
 
--- src/lib.rt:32:1
 returns-2 : tie.Need-returns-2
 returns-2 c =
     let a = c .before .before .before .before .before .before .before .before .before .before .before .before .before .before .before .before .args in

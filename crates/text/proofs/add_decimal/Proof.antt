@@ -8,19 +8,15 @@ use Rattle.text.proofs.add_decimal.Lts as lts
 use Rattle.text.proofs.add.Reads as add-reads
 use Rattle.text.proofs.add_number.Reads as add-number-reads
 
--- src/lib.rt:56:9
 add-requires : tie.Need-add-requires
 add-requires c κs = search needs
 
--- src/lib.rt:57:5
 add-number-requires : tie.Need-add-number-requires
 add-number-requires c κs = search needs
 
--- src/lib.rt:51:1
 same-length : tie.Need-same-length
 same-length c = search needs
 
--- src/lib.rt:51:1
 returns : tie.Need-returns
 returns c = (put-then (c .before .before .before .before .before .before .add .ensures) (c .before .before .add-number .ensures .0), omega (arith, c .before .before .before .before .before .before .add .ensures .place, c .before .before .add-number .ensures .1))
 

@@ -9,31 +9,24 @@ use Rattle.text.proofs.add_hex.Lts as lts
 use Rattle.text.proofs.add.Reads as add-reads
 use Rattle.text.proofs.glyph.Reads as glyph-reads
 
--- src/lib.rt:34:9
 add-requires : tie.Need-add-requires
 add-requires c κs = search needs
 
--- src/lib.rt:35:17
 glyph-requires : tie.Need-glyph-requires
 glyph-requires c κs = search needs
 
--- src/lib.rt:35:32
 glyph-requires-2 : tie.Need-glyph-requires-2
 glyph-requires-2 c κs = search needs
 
--- src/lib.rt:36:15
 slice-aggregate-add : tie.Need-slice-aggregate-add
 slice-aggregate-add c = search needs
 
--- src/lib.rt:36:5
 add-requires-2 : tie.Need-add-requires-2
 add-requires-2 c κs = search needs
 
--- src/lib.rt:30:1
 same-length : tie.Need-same-length
 same-length c = search needs
 
--- src/lib.rt:30:1
 returns : tie.Need-returns
 unfolding hexOf
 returns c = (rw (← c .before .before .before .before .before .before .glyph .ensures, ← c .before .before .before .before .before .glyph2 .ensures) (put-then (c .before .before .before .before .before .before .before .before .before .add .ensures) (c .before .before .add2 .ensures)), omega (arith, c .before .before .before .before .before .before .before .before .before .add .ensures .place, c .before .before .add2 .ensures .place))

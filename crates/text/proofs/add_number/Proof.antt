@@ -10,27 +10,21 @@ use Rattle.text.proofs.add_number.Lts as lts
 use Rattle.io.proofs.decimal.Reads as decimal-reads
 use Rattle.text.proofs.add.Reads as add-reads
 
--- src/lib.rt:46:9
 decimal-requires : tie.Need-decimal-requires
 decimal-requires c κs = search needs
 
--- src/lib.rt:47:16
 array-share-prefix-text : tie.Need-array-share-prefix-text
 array-share-prefix-text c = search needs
 
--- src/lib.rt:47:16
 slice-aggregate-add : tie.Need-slice-aggregate-add
 slice-aggregate-add c = search needs
 
--- src/lib.rt:47:5
 add-requires : tie.Need-add-requires
 add-requires c κs = let l : c .before .before .decimal .result ≤ 20 = twenty _ _ (c .before .before .before .before .before .fits .n .fits) (c .before .before .decimal .ensures .1 .0) in omega (arith, c .before .before .decimal .ensures .0 .0, c .before .before .decimal .ensures .0 .1)
 
--- src/lib.rt:40:1
 same-length : tie.Need-same-length
 same-length c = search needs
 
--- src/lib.rt:40:1
 returns : tie.Need-returns
 returns c = let l : c .before .before .before .before .before .decimal .result ≤ 20 = twenty _ _ (c .before .before .before .before .before .before .before .before .fits .n .fits) (c .before .before .before .before .before .decimal .ensures .1 .0) in (rw (← (c .before .before .before .before .before .decimal .ensures .1 .1 ∙ spelled _ _ l (c .before .before .before .before .before .decimal .ensures .1 .0))) (c .before .before .add .ensures), omega (arith, c .before .before .add .ensures .place, c .before .before .before .before .before .decimal .ensures .0 .0, c .before .before .before .before .before .decimal .ensures .0 .1))
 

@@ -6,20 +6,16 @@ use Rattle.text.proofs.glyph.Tie as tie
 use Rattle.text.proofs.glyph.Reads as reads
 use Rattle.text.proofs.glyph.Lts as lts
 
--- src/lib.rt:26:17
 add-result : tie.Need-add-result
 add-result c = search needs
 
--- src/lib.rt:26:33
 add-result-2 : tie.Need-add-result-2
 add-result-2 c = search needs
 
--- src/lib.rt:22:1
 returns : tie.Need-returns
 unfolding glyphOf
 returns c = simp (lt-ltb _ _ (c .if1 .taken))
 
--- src/lib.rt:22:1
 returns-2 : tie.Need-returns-2
 unfolding glyphOf
 returns-2 c = simp (le-ltb _ _ (c .if1 .left))

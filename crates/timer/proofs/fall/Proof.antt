@@ -11,11 +11,9 @@ use Rattle.timer.proofs.fall.Lts as lts
 use Rattle.std.proofs.num.wrapping_sub_u16.Reads as wrapping-sub-u16-reads
 use Rattle.timer.proofs.turned.Reads as turned-reads
 
--- src/lib.rt:42:9
 wrapping-sub-u16-requires : tie.Need-wrapping-sub-u16-requires
 wrapping-sub-u16-requires c κs = search needs
 
--- src/lib.rt:44:9
 returns : tie.Need-returns
 returns c =
     let b = c .before in
@@ -23,40 +21,32 @@ returns c =
     let fell : b .wrapping-sub-u16 .result ≡ a .value - a .n = omega arith in
     rw fell (sym (early (a .free) (a .latch) (a .value) (a .n) (a .armed) (a .fired) (c .if1 .taken)))
 
--- src/lib.rt:52:21
 sub-since : tie.Need-sub-since
 sub-since c = search needs
 
--- src/lib.rt:52:21
 sub-since-2 : tie.Need-sub-since-2
 sub-since-2 c = search needs
 
--- src/lib.rt:53:21
 cast-turn : tie.Need-cast-turn
 cast-turn c = search needs
 
--- src/lib.rt:53:38
 add-turn : tie.Need-add-turn
 add-turn c = search needs
 
--- src/lib.rt:53:20
 rem-turn : tie.Need-rem-turn
 rem-turn c = search needs
 
--- src/lib.rt:54:9
 turned-requires : tie.Need-turned-requires
 turned-requires c κs =
     let a = c .before .before .before .args in
     mod-lt (a .n - a .value - 1) {m = a .latch + 2} (omega arith)
 
--- src/lib.rt:54:9
 returns-2 : tie.Need-returns-2
 returns-2 c =
     let a = c .before .before .before .before .args in
     rw (c .before .if2 .taken)
     (c .turned .ensures ∙ sym (since (a .latch) (a .armed) (a .fired) (a .value) (a .n) (c .before .before .if1 .left)))
 
--- src/lib.rt:39:1
 returns-3 : tie.Need-returns-3
 returns-3 c =
     let b = c .before .before in

@@ -10,24 +10,19 @@ use Rattle.timer.proofs.turned.Reads as reads
 use Rattle.timer.proofs.turned.Lts as lts
 use Rattle.std.proofs.num.wrapping_sub_u16.Reads as wrapping-sub-u16-reads
 
--- src/lib.rt:21:9
 returns : tie.Need-returns
 unfolding steps
 returns c = rw (c .if1 .taken) refl
 
--- src/lib.rt:28:20
 sub-counted : tie.Need-sub-counted
 sub-counted c = search needs
 
--- src/lib.rt:28:19
 cast-counted : tie.Need-cast-counted
 cast-counted c = search needs
 
--- src/lib.rt:30:16
 wrapping-sub-u16-requires : tie.Need-wrapping-sub-u16-requires
 wrapping-sub-u16-requires c κs = search needs
 
--- src/lib.rt:16:1
 returns-2 : tie.Need-returns-2
 returns-2 c =
     let a = c .before .before .args in

@@ -23,41 +23,32 @@ use Rattle.record.proofs.no.Reads as no-reads
 decode-requires : tie.Need-decode-requires
 decode-requires c κs = c .before .pre .1
 
--- src/lib.rt:37:23
 enum-known-d : tie.Need-enum-known-d
 enum-known-d c = search needs
 
--- src/lib.rt:38:46
 enum-told : tie.Need-enum-told
 enum-told c = search needs
 
--- src/lib.rt:38:46
 refusal-requires : tie.Need-refusal-requires
 refusal-requires c κs = search needs
 
--- src/lib.rt:38:43
 no-requires : tie.Need-no-requires
 no-requires c κs = search needs
 
--- src/lib.rt:38:9
 returns : tie.Need-returns
 unfolding turnOf
 returns c = simp (c .no .ensures, c .before .refusal .ensures, ← c .before .before .before .before .decode .ensures, c .before .before .enum-told .given .1)
 
--- src/lib.rt:40:9
 refuses-requires : tie.Need-refuses-requires
 refuses-requires c κs = search needs
 
--- src/lib.rt:42:43
 no-requires-2 : tie.Need-no-requires-2
 no-requires-2 c κs = search needs
 
--- src/lib.rt:42:9
 returns-2 : tie.Need-returns-2
 unfolding turnOf
 returns-2 c = simp (← c .before .before .before .before .before .before .decode .ensures, c .before .before .before .before .d .given .1, ← c .before .before .refuses .ensures, ne-eqb _ _ (c .before .if1 .taken), ← c .no2 .ensures)
 
--- src/lib.rt:44:9
 -- the item that the decoder let through is in range
 range : (c : tie.Else1) → InRange (c .before .before .before .d .given .0 .0)
 range c = decoded-range _ _ (sym (c .before .before .before .before .before .decode .ensures) ∙ c .before .before .before .d .given .1)
@@ -65,7 +56,6 @@ range c = decoded-range _ _ (sym (c .before .before .before .before .before .dec
 step-requires : tie.Need-step-requires
 step-requires c κs = (c .before .before .before .before .before .before .before .pre .0, range c)
 
--- src/lib.rt:46:35
 answer-requires : tie.Need-answer-requires
 answer-requires c κs =
     let e = c .before .before in
@@ -76,7 +66,6 @@ answer-requires c κs =
       ap (λ (d : Did). allLevels (d .machine .sense)) s ∙ l .2,
     )
 
--- src/lib.rt:32:1
 returns-3 : tie.Need-returns-3
 unfolding turnOf
 returns-3 c = simp (← c .before .before .before .before .before .before .before .before .decode .ensures, c .before .before .before .before .before .before .d .given .1, ← c .before .before .before .before .refuses .ensures, eq-eqb _ _ (c .before .before .before .if1 .left), ← c .before .before .step .ensures, ← c .answer .ensures)

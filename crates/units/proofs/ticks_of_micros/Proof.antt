@@ -6,28 +6,22 @@ use Rattle.units.proofs.ticks_of_micros.Tie as tie
 use Rattle.units.proofs.ticks_of_micros.Reads as reads
 use Rattle.units.proofs.ticks_of_micros.Lts as lts
 
--- src/lib.rt:15:18
 cast-whole : tie.Need-cast-whole
 cast-whole c = search needs
 
--- src/lib.rt:15:17
 mul-whole : tie.Need-mul-whole
 mul-whole c = search needs
 
--- src/lib.rt:16:20
 cast-quotient : tie.Need-cast-quotient
 cast-quotient c = search needs
 
--- src/lib.rt:18:9
 returns : tie.Need-returns
 unfolding ticksOf
 returns c = simp (eq-eqb _ _ (c .if1 .taken))
 
--- src/lib.rt:20:14
 add-t6 : tie.Need-add-t6
 add-t6 c = search needs
 
--- src/lib.rt:12:1
 returns-2 : tie.Need-returns-2
 unfolding ticksOf
 returns-2 c = simp (ne-eqb _ _ (c .if1 .left))

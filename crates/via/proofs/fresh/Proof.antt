@@ -5,7 +5,6 @@ use Rattle.via.proofs.fresh.Tie as tie
 use Rattle.via.proofs.fresh.Reads as reads
 use Rattle.via.proofs.fresh.Lts as lts
 
--- src/lib.rt:59:1
 returns : tie.Need-returns
 unfolding freshVia
 returns c = refl

@@ -9,11 +9,9 @@ use Rattle.timer.proofs.Counter.run.Reads as run-reads
 word-requires : tie.Need-word-requires
 word-requires c κs = search needs
 
--- src/lib.rt:108:5
 run-requires : tie.Need-run-requires
 run-requires c κs = search needs
 
--- src/lib.rt:98:1
 returns : tie.Need-returns
 unfolding latchOf
 returns c = simp (c .run .ensures, c .before .word .ensures)

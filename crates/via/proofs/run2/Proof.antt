@@ -5,15 +5,12 @@ use Rattle.via.proofs.run2.Reads as reads
 use Rattle.via.proofs.run2.Lts as lts
 use Rattle.timer.proofs.Counter.run.Reads as run-reads
 
--- src/lib.rt:124:9
 run-requires : tie.Need-run-requires
 run-requires c κs = search needs
 
--- src/lib.rt:112:1
 returns : tie.Need-returns
 returns c = simp (c .if1 .taken)
 
--- src/lib.rt:112:1
 returns-2 : tie.Need-returns-2
 returns-2 c = simp (c .before .if1 .left, ← c .run .ensures)
 

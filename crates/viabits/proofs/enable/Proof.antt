@@ -6,11 +6,9 @@ use Rattle.viabits.proofs.enable.Reads as reads
 use Rattle.viabits.proofs.enable.Lts as lts
 use Rattle.viabits.proofs.pick.Reads as pick-reads
 
--- src/lib.rt:99:5
 pick-requires : tie.Need-pick-requires
 pick-requires c κs = search needs
 
--- src/lib.rt:96:1
 returns : tie.Need-returns
 unfolding enabledBy
 returns c = c .pick .ensures

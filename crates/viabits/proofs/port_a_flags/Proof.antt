@@ -6,11 +6,9 @@ use Rattle.viabits.proofs.port_a_flags.Reads as reads
 use Rattle.viabits.proofs.port_a_flags.Lts as lts
 use Rattle.viabits.proofs.pick.Reads as pick-reads
 
--- src/lib.rt:82:5
 pick-requires : tie.Need-pick-requires
 pick-requires c κs = search needs
 
--- src/lib.rt:78:1
 returns : tie.Need-returns
 unfolding portAFlags
 returns c = c .pick .ensures

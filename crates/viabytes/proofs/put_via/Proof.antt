@@ -15,23 +15,18 @@ use Rattle.viabytes.proofs.via_bytes.Reads as via-bytes-reads
 typed : (c : tie.Start) → ViaTyped (c .args .v)
 typed c = search needs
 
--- src/lib.rt:75:13
 via-bytes-requires : tie.Need-via-bytes-requires
 via-bytes-requires c κs = search needs
 
--- src/lib.rt:76:38
 slice-aggregate-copy : tie.Need-slice-aggregate-copy
 slice-aggregate-copy c = search needs
 
--- src/lib.rt:76:5
 copy-requires : tie.Need-copy-requires
 copy-requires c κs = search needs
 
--- src/lib.rt:70:1
 same-length : tie.Need-same-length
 same-length c = search needs
 
--- src/lib.rt:70:1
 returns : tie.Need-returns
 unfolding viaBytes
 returns c =

@@ -11,31 +11,24 @@ use Rattle.viabytes.proofs.via.Lts as lts
 use Rattle.record.proofs.copy.Reads as copy-reads
 use Rattle.viabytes.proofs.via_of.Reads as via-of-reads
 
--- src/lib.rt:84:18
 slice-aggregate-copy : tie.Need-slice-aggregate-copy
 slice-aggregate-copy c = search needs
 
--- src/lib.rt:84:29
 sub-copy : tie.Need-sub-copy
 sub-copy c = search needs
 
--- src/lib.rt:84:29
 part-copy-start : tie.Need-part-copy-start
 part-copy-start c = search needs
 
--- src/lib.rt:84:29
 part-copy-end : tie.Need-part-copy-end
 part-copy-end c = search needs
 
--- src/lib.rt:84:5
 copy-requires : tie.Need-copy-requires
 copy-requires c κs = search needs
 
--- src/lib.rt:85:5
 via-of-requires : tie.Need-via-of-requires
 via-of-requires c κs = search needs
 
--- src/lib.rt:79:1
 returns : tie.Need-returns
 unfolding viaOf
 returns c =

@@ -6,20 +6,16 @@ use Rattle.wiring.proofs.pin_level.Tie as tie
 use Rattle.wiring.proofs.pin_level.Reads as reads
 use Rattle.wiring.proofs.pin_level.Lts as lts
 
--- src/lib.rt:53:8
 div-if1 : tie.Need-div-if1
 div-if1 c = search needs
 
--- src/lib.rt:54:9
 div-result : tie.Need-div-result
 div-result c = search needs
 
--- src/lib.rt:49:1
 returns : tie.Need-returns
 unfolding pin
 returns c = simp (eq-eqb _ _ (c .if1 .taken))
 
--- src/lib.rt:49:1
 returns-2 : tie.Need-returns-2
 unfolding pin
 returns-2 c = simp (ne-eqb _ _ (c .if1 .left))

@@ -10,15 +10,12 @@ use Rattle.wiring.proofs.sel_of.Lts as lts
 use Rattle.wiring.proofs.level_of.Reads as level-of-reads
 use Rattle.wiring.proofs.pin_level.Reads as pin-level-reads
 
--- src/lib.rt:75:14
 pin-level-requires : tie.Need-pin-level-requires
 pin-level-requires c κs = search needs
 
--- src/lib.rt:75:5
 level-of-requires : tie.Need-level-of-requires
 level-of-requires c κs = search needs
 
--- src/lib.rt:72:1
 returns : tie.Need-returns
 unfolding selOf
 returns c = (c .level-of .ensures .0 ∙ ap bit (c .before .pin-level .ensures), c .level-of .ensures .1)

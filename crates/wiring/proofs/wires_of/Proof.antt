@@ -7,19 +7,15 @@ use Rattle.wiring.proofs.wires_of.Reads as reads
 use Rattle.wiring.proofs.wires_of.Lts as lts
 use Rattle.wiring.proofs.pin_level.Reads as pin-level-reads
 
--- src/lib.rt:65:17
 pin-level-requires : tie.Need-pin-level-requires
 pin-level-requires c κs = search needs
 
--- src/lib.rt:66:20
 pin-level-requires-2 : tie.Need-pin-level-requires-2
 pin-level-requires-2 c κs = search needs
 
--- src/lib.rt:67:19
 pin-level-requires-3 : tie.Need-pin-level-requires-3
 pin-level-requires-3 c κs = search needs
 
--- src/lib.rt:61:1
 returns : tie.Need-returns
 unfolding wiresOf
 returns c = simp (← c .before .before .pin-level .ensures, ← c .before .pin-level2 .ensures, ← c .pin-level3 .ensures)

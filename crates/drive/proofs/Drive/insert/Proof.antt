@@ -4,7 +4,6 @@ use Rattle.drive.proofs.Drive.insert.Tie as tie
 use Rattle.drive.proofs.Drive.insert.Reads as reads
 use Rattle.drive.proofs.Drive.insert.Lts as lts
 
--- src/lib.rt:58:5
 returns : tie.Need-returns
 returns c = refl
 

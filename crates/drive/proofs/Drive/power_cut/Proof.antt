@@ -4,7 +4,6 @@ use Rattle.drive.proofs.Drive.power_cut.Tie as tie
 use Rattle.drive.proofs.Drive.power_cut.Reads as reads
 use Rattle.drive.proofs.Drive.power_cut.Lts as lts
 
--- src/lib.rt:106:5
 returns : tie.Need-returns
 returns c = refl
 

@@ -4,7 +4,6 @@ use Rattle.drive.proofs.Drive.remove.Tie as tie
 use Rattle.drive.proofs.Drive.remove.Reads as reads
 use Rattle.drive.proofs.Drive.remove.Lts as lts
 
--- src/lib.rt:70:5
 returns : tie.Need-returns
 returns c = refl
 

@@ -7,19 +7,15 @@ use Rattle.drives.proofs.Drives.accepted.Lts as lts
 use Rattle.sense.proofs.accepted.Reads as sense-accepted-reads
 use Rattle.strobe.proofs.Strobe.accepted.Reads as Strobe-accepted-reads
 
--- src/lib.rt:129:9
 accepted-requires : tie.Need-accepted-requires
 accepted-requires c κs = search needs
 
--- src/lib.rt:129:37
 accepted-requires-2 : tie.Need-accepted-requires-2
 accepted-requires-2 c κs = search needs
 
--- src/lib.rt:129:64
 accepted-requires-3 : tie.Need-accepted-requires-3
 accepted-requires-3 c κs = search needs
 
--- src/lib.rt:126:5
 returns : tie.Need-returns
 unfolding acceptedDrives
 returns c = simp (← c .before .before .accepted .ensures, ← c .before .accepted2 .ensures, ← c .accepted3 .ensures)

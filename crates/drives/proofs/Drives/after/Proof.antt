@@ -20,7 +20,6 @@ use Rattle.strobe.proofs.Strobe.writes.Reads as writes-reads
 use Rattle.strobe.proofs.Watched.register.Reads as register-reads
 use Rattle.strobe.proofs.Strobe.off.Reads as off-reads
 
--- src/lib.rt:81:13
 off-requires : tie.Need-off-requires
 off-requires c κs = search needs
 
@@ -47,27 +46,21 @@ written b v w d {g} {x} {s} acts on named put strobed =
     ∙ ap (whole b) named
     ∙ sym (ap (λ (t : Bool). withStrobe (writtenBy t w d) z) acts ∙ ap (λ (e : Bool). whole e (registerOf w)) on)
 
--- src/lib.rt:82:13
 returns : tie.Need-returns
 returns c = let a = c .before .before .before .before .args in unstrobed (a .before) (a .after) (a .self) (c .before .if1 .taken) (c .off .ensures)
 
--- src/lib.rt:84:9
 after-requires : tie.Need-after-requires
 after-requires c κs = search needs
 
--- src/lib.rt:85:12
 writes-requires : tie.Need-writes-requires
 writes-requires c κs = search needs
 
--- src/lib.rt:87:63
 register-requires : tie.Need-register-requires
 register-requires c κs = search needs
 
--- src/lib.rt:87:17
 write-register-requires : tie.Need-write-register-requires
 write-register-requires c κs = search needs
 
--- src/lib.rt:88:17
 returns-2 : tie.Need-returns-2
 unfolding drivesAfter
 returns-2 c =
@@ -76,15 +69,12 @@ returns-2 c =
     written true (a .before) (a .after) (a .self) (sym (u .writes .ensures) ∙ c .before .before .before .if2 .taken)
     (c .before .before .if3 .taken) (c .before .register .ensures) (c .write-register .ensures) (u .before .after .ensures)
 
--- src/lib.rt:90:59
 register-requires-2 : tie.Need-register-requires-2
 register-requires-2 c κs = search needs
 
--- src/lib.rt:90:13
 write-register-requires-2 : tie.Need-write-register-requires-2
 write-register-requires-2 c κs = search needs
 
--- src/lib.rt:76:5
 returns-3 : tie.Need-returns-3
 unfolding drivesAfter
 returns-3 c =
@@ -93,7 +83,6 @@ returns-3 c =
     written false (a .before) (a .after) (a .self) (sym (u .writes .ensures) ∙ c .before .before .before .if2 .taken)
     (c .before .before .if3 .left) (c .before .register2 .ensures) (c .write-register2 .ensures) (u .before .after .ensures)
 
--- src/lib.rt:76:5
 returns-4 : tie.Need-returns-4
 unfolding drivesAfter
 returns-4 c = simp (← c .before .writes .ensures, c .if2 .left, ← c .before .before .after .ensures)

@@ -6,19 +6,15 @@ use Rattle.drives.proofs.Drives.fresh.Lts as lts
 use Rattle.drive.proofs.Drive.fresh.Reads as fresh-reads
 use Rattle.strobe.proofs.Strobe.off.Reads as off-reads
 
--- src/lib.rt:29:23
 fresh-requires : tie.Need-fresh-requires
 fresh-requires c κs = search needs
 
--- src/lib.rt:30:23
 fresh-requires-2 : tie.Need-fresh-requires-2
 fresh-requires-2 c κs = search needs
 
--- src/lib.rt:31:21
 off-requires : tie.Need-off-requires
 off-requires c κs = search needs
 
--- src/lib.rt:25:5
 returns : tie.Need-returns
 returns c = simp (c .before .before .fresh .ensures, c .before .fresh2 .ensures, c .off .ensures)
 

@@ -6,15 +6,12 @@ use Rattle.drives.proofs.Drives.power_cut.Reads as reads
 use Rattle.drives.proofs.Drives.power_cut.Lts as lts
 use Rattle.drive.proofs.Drive.power_cut.Reads as power-cut-reads
 
--- src/lib.rt:94:23
 power-cut-requires : tie.Need-power-cut-requires
 power-cut-requires c κs = search needs
 
--- src/lib.rt:95:23
 power-cut-requires-2 : tie.Need-power-cut-requires-2
 power-cut-requires-2 c κs = search needs
 
--- src/lib.rt:89:5
 returns : tie.Need-returns
 unfolding drivesPowered
 returns c = simp (← c .before .power-cut .ensures, ← c .power-cut2 .ensures)

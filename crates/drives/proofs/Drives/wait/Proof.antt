@@ -7,19 +7,15 @@ use Rattle.drives.proofs.Drives.wait.Lts as lts
 use Rattle.drive.proofs.Drive.wait.Reads as Drive-wait-reads
 use Rattle.strobe.proofs.Strobe.wait.Reads as Strobe-wait-reads
 
--- src/lib.rt:64:23
 wait-requires : tie.Need-wait-requires
 wait-requires c κs = search needs
 
--- src/lib.rt:65:23
 wait-requires-2 : tie.Need-wait-requires-2
 wait-requires-2 c κs = search needs
 
--- src/lib.rt:66:21
 wait-requires-3 : tie.Need-wait-requires-3
 wait-requires-3 c κs = search needs
 
--- src/lib.rt:60:5
 returns : tie.Need-returns
 unfolding drivesTicks
 returns c = simp (← c .before .before .wait .ensures, ← c .before .wait2 .ensures, ← c .wait3 .ensures)

@@ -11,51 +11,39 @@ use Rattle.machine.proofs.Machine.watched.Reads as watched-reads
 use Rattle.machine.proofs.Machine.wires.Reads as wires-reads
 use Rattle.via.proofs.Via.accepted.Reads as Via-accepted-reads
 
--- src/lib.rt:132:13
 wires-requires : tie.Need-wires-requires
 wires-requires c κs = search needs
 
--- src/lib.rt:133:36
 slice-aggregate-all-levels : tie.Need-slice-aggregate-all-levels
 slice-aggregate-all-levels c = search needs
 
--- src/lib.rt:133:13
 all-levels-requires : tie.Need-all-levels-requires
 all-levels-requires c κs = search needs
 
--- src/lib.rt:134:36
 slice-aggregate-all-levels-2 : tie.Need-slice-aggregate-all-levels-2
 slice-aggregate-all-levels-2 c = search needs
 
--- src/lib.rt:134:13
 all-levels-requires-2 : tie.Need-all-levels-requires-2
 all-levels-requires-2 c κs = search needs
 
--- src/lib.rt:135:36
 slice-aggregate-all-levels-3 : tie.Need-slice-aggregate-all-levels-3
 slice-aggregate-all-levels-3 c = search needs
 
--- src/lib.rt:135:13
 all-levels-requires-3 : tie.Need-all-levels-requires-3
 all-levels-requires-3 c κs = search needs
 
--- src/lib.rt:136:13
 accepted-requires : tie.Need-accepted-requires
 accepted-requires c κs = search needs
 
--- src/lib.rt:137:13
 accepted-phase-requires : tie.Need-accepted-phase-requires
 accepted-phase-requires c κs = search needs
 
--- src/lib.rt:138:38
 watched-requires : tie.Need-watched-requires
 watched-requires c κs = search needs
 
--- src/lib.rt:138:13
 accepted-requires-2 : tie.Need-accepted-requires-2
 accepted-requires-2 c κs = search needs
 
--- src/lib.rt:124:5
 returns : tie.Need-returns
 unfolding acceptedOf
 returns c =

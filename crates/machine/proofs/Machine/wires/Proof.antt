@@ -6,15 +6,12 @@ use Rattle.machine.proofs.Machine.wires.Lts as lts
 use Rattle.phase.proofs.shown_line.Reads as shown-line-reads
 use Rattle.wiring.proofs.wires_of.Reads as wires-of-reads
 
--- src/lib.rt:43:42
 shown-line-requires : tie.Need-shown-line-requires
 shown-line-requires c κs = search needs
 
--- src/lib.rt:43:9
 wires-of-requires : tie.Need-wires-of-requires
 wires-of-requires c κs = search needs
 
--- src/lib.rt:38:5
 returns : tie.Need-returns
 returns c = simp (c .wires-of .ensures, c .before .shown-line .ensures)
 

@@ -5,7 +5,6 @@ use Rattle.strobe.proofs.Strobe.accepted.Tie as tie
 use Rattle.strobe.proofs.Strobe.accepted.Reads as reads
 use Rattle.strobe.proofs.Strobe.accepted.Lts as lts
 
--- src/lib.rt:127:5
 returns : tie.Need-returns
 unfolding acceptedStrobe
 returns c = refl

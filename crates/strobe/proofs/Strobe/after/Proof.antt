@@ -7,34 +7,27 @@ use Rattle.strobe.proofs.Strobe.after.Lts as lts
 use Rattle.strobe.proofs.Strobe.off.Reads as off-reads
 use Rattle.strobe.proofs.leaves_unspoilt.Reads as leaves-unspoilt-reads
 
--- src/lib.rt:105:20
 leaves-unspoilt-requires : tie.Need-leaves-unspoilt-requires
 leaves-unspoilt-requires c κs = search needs
 
--- src/lib.rt:106:21
 returns : tie.Need-returns
 unfolding strobeAfter
 returns c = simp (c .before .before .before .if1 .taken, c .before .before .if2 .taken, ← c .before .leaves-unspoilt .ensures, c .if3 .taken)
 
--- src/lib.rt:108:17
 off-requires : tie.Need-off-requires
 off-requires c κs = search needs
 
--- src/lib.rt:108:17
 returns-2 : tie.Need-returns-2
 unfolding strobeAfter
 returns-2 c = simp (c .before .before .before .before .if1 .taken, c .before .before .before .if2 .taken, ← c .before .before .leaves-unspoilt .ensures, c .before .if3 .left, ← c .off .ensures)
 
--- src/lib.rt:110:13
 returns-3 : tie.Need-returns-3
 unfolding strobeAfter
 returns-3 c = simp (c .before .if1 .taken, c .if2 .left)
 
--- src/lib.rt:115:9
 off-requires-2 : tie.Need-off-requires-2
 off-requires-2 c κs = search needs
 
--- src/lib.rt:100:5
 returns-4 : tie.Need-returns-4
 unfolding strobeAfter
 returns-4 c = simp (c .before .if1 .left, ← c .off2 .ensures)

@@ -9,19 +9,15 @@ use Rattle.strobe.proofs.Strobe.wait.Reads as reads
 use Rattle.strobe.proofs.Strobe.wait.Lts as lts
 use Rattle.strobe.proofs.Strobe.with_ticks.Reads as with-ticks-reads
 
--- src/lib.rt:88:17
 returns : tie.Need-returns
 returns c = let a = c .before .before .before .args in sym (full (a .ticks) (a .self) (c .if2 .taken))
 
--- src/lib.rt:90:23
 add-sum : tie.Need-add-sum
 add-sum c = search needs
 
--- src/lib.rt:92:17
 with-ticks-requires : tie.Need-with-ticks-requires
 with-ticks-requires c κs = search needs
 
--- src/lib.rt:92:17
 returns-2 : tie.Need-returns-2
 returns-2 c =
     let b = c .before .before .before .before .before in
@@ -29,11 +25,9 @@ returns-2 c =
     let h : a .self .ticks + a .ticks ≤ 391680 = omega (arith, c .before .if3 .taken) in
     c .with-ticks .ensures ∙ sym (counts (a .ticks) (a .self) (b .if1 .taken) h)
 
--- src/lib.rt:94:13
 with-ticks-requires-2 : tie.Need-with-ticks-requires-2
 with-ticks-requires-2 c κs = search needs
 
--- src/lib.rt:94:13
 returns-3 : tie.Need-returns-3
 returns-3 c =
     let b = c .before .before .before .before .before in
@@ -41,7 +35,6 @@ returns-3 c =
     c .with-ticks2 .ensures
     ∙ sym (stops (a .ticks) (a .self) (b .if1 .taken) (c .before .before .before .if2 .left) (c .before .if3 .left))
 
--- src/lib.rt:83:5
 returns-4 : tie.Need-returns-4
 returns-4 c = let a = c .before .args in sym (unsteady (a .ticks) (a .self) (c .if1 .left))
 

@@ -8,19 +8,15 @@ use Rattle.strobe.proofs.Watched.register.Reads as register-reads
 use Rattle.strobe.proofs.leaves_unspoilt.Reads as leaves-unspoilt-reads
 use Rattle.strobe.proofs.long_enough.Reads as long-enough-reads
 
--- src/lib.rt:123:31
 leaves-unspoilt-requires : tie.Need-leaves-unspoilt-requires
 leaves-unspoilt-requires c κs = search needs
 
--- src/lib.rt:123:91
 register-requires : tie.Need-register-requires
 register-requires c κs = search needs
 
--- src/lib.rt:123:79
 long-enough-requires : tie.Need-long-enough-requires
 long-enough-requires c κs = search needs
 
--- src/lib.rt:119:5
 returns : tie.Need-returns
 unfolding strobeWrites
 returns c = simp (← c .before .before .before .before .leaves-unspoilt .ensures, ← c .before .register .ensures, ← c .long-enough .ensures)

@@ -4,22 +4,18 @@ use Rattle.strobe.proofs.Watched.register.Tie as tie
 use Rattle.strobe.proofs.Watched.register.Reads as reads
 use Rattle.strobe.proofs.Watched.register.Lts as lts
 
--- src/lib.rt:57:17
 returns : tie.Need-returns
 unfolding registerOf
 returns c = simp (c .before .if1 .taken, c .if2 .taken)
 
--- src/lib.rt:59:13
 returns-2 : tie.Need-returns-2
 unfolding registerOf
 returns-2 c = simp (c .before .if1 .taken, c .if2 .left)
 
--- src/lib.rt:62:13
 returns-3 : tie.Need-returns-3
 unfolding registerOf
 returns-3 c = simp (c .before .if1 .left, c .if3 .taken)
 
--- src/lib.rt:52:5
 returns-4 : tie.Need-returns-4
 unfolding registerOf
 returns-4 c = simp (c .before .if1 .left, c .if3 .left)

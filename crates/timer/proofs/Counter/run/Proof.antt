@@ -8,31 +8,25 @@ use Rattle.timer.proofs.Counter.run.Reads as reads
 use Rattle.timer.proofs.Counter.run.Lts as lts
 use Rattle.timer.proofs.fall.Reads as fall-reads
 
--- src/lib.rt:70:13
 returns : tie.Need-returns
 unfolding steps
 returns c = rw (c .if1 .taken) refl
 
--- src/lib.rt:73:62
 sub-fall : tie.Need-sub-fall
 sub-fall c = search needs
 
--- src/lib.rt:73:13
 fall-requires : tie.Need-fall-requires
 fall-requires c κs = search needs
 
--- src/lib.rt:75:13
 fall-requires-2 : tie.Need-fall-requires-2
 fall-requires-2 c κs = search needs
 
--- src/lib.rt:66:5
 returns-2 : tie.Need-returns-2
 returns-2 c =
     let a = c .before .before .before .args in
     c .fall .ensures
     ∙ sym (load (a .free) (a .latch) (a .self) (a .n) (c .before .if2 .taken) (c .before .before .if1 .left))
 
--- src/lib.rt:66:5
 returns-3 : tie.Need-returns-3
 returns-3 c =
     let a = c .before .before .before .args in

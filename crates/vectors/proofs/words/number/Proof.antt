@@ -3,15 +3,23 @@ use Prim.Native.Nat.{_-_}
 use lib.ListN.{length}
 use Rattle.vectors.proofs.words.number.Statement.{statement}
 use Rattle.vectors.proofs.words.number.Tie as tie
+use Rattle.vectors.proofs.words.number.Reads as reads
+use Rattle.vectors.proofs.words.number.Lts as lts
+use Rattle.std.proofs.num.wrapping_add_usize.Reads as wrapping-add-usize-reads
+use Rattle.vectors.proofs.words.grown.Reads as grown-reads
+use Rattle.vectors.proofs.words.spaced.Reads as spaced-reads
 
 abbrev Inv-loop : tie.InvT-loop
-Inv-loop text at end₀ value₀ hex₀ end value hex = Unit {0}
+Inv-loop text at end₀ value₀ hex₀ first₀ end value hex first = Unit {0}
 
 abbrev μ-loop : tie.MeasureT-loop
-μ-loop text at end₀ value₀ hex₀ end value hex = length text - end
+μ-loop text at end₀ value₀ hex₀ first₀ end value hex first = length text - end
 
 wrapping-add-usize-requires : tie.Need-wrapping-add-usize-requires Inv-loop μ-loop
 wrapping-add-usize-requires c κs = search needs
+
+spaced-requires : tie.Need-spaced-requires Inv-loop μ-loop
+spaced-requires c κs = search needs
 
 loop-holds : tie.Need-loop-holds Inv-loop μ-loop
 loop-holds c = search needs
@@ -44,6 +52,7 @@ number-spec =
     Inv-loop
     μ-loop
     wrapping-add-usize-requires
+    spaced-requires
     loop-holds
     shared-slice-read-c
     returns

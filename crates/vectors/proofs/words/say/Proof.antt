@@ -3,12 +3,22 @@ use Prim.Native.Nat.{_-_}
 use lib.ListN.{length}
 use Rattle.vectors.proofs.words.say.Statement.{statement}
 use Rattle.vectors.proofs.words.say.Tie as tie
+use Rattle.vectors.proofs.words.say.Reads as reads
+use Rattle.vectors.proofs.words.say.Lts as lts
+use Rattle.vectors.proofs.words.place.Reads as place-reads
+use Rattle.vectors.proofs.words.spaced.Reads as spaced-reads
 
 abbrev Inv-loop : tie.InvT-loop
 Inv-loop text value at₀ at = Unit {0}
 
 abbrev μ-loop : tie.MeasureT-loop
 μ-loop text value at₀ at = length text - at
+
+spaced-requires : tie.Need-spaced-requires Inv-loop μ-loop
+spaced-requires c κs = search needs
+
+returns : tie.Need-returns Inv-loop μ-loop
+returns c = search needs
 
 loop-holds : tie.Need-loop-holds Inv-loop μ-loop
 loop-holds c = search needs
@@ -28,14 +38,14 @@ loop-less c = search needs
 loop-again : tie.Need-loop-again Inv-loop μ-loop
 loop-again c = search needs
 
-shared-slice-read-if1 : tie.Need-shared-slice-read-if1 Inv-loop μ-loop
-shared-slice-read-if1 c = search needs
+shared-slice-read-if2 : tie.Need-shared-slice-read-if2 Inv-loop μ-loop
+shared-slice-read-if2 c = search needs
 
 place-requires-2 : tie.Need-place-requires-2 Inv-loop μ-loop
 place-requires-2 c κs = search needs
 
-returns : tie.Need-returns Inv-loop μ-loop
-returns c = search needs
+returns-2 : tie.Need-returns-2 Inv-loop μ-loop
+returns-2 c = search needs
 
 pub say-spec : {M : Type 1} → statement M
 say-spec =
@@ -43,12 +53,14 @@ say-spec =
     (tie.spec
     Inv-loop
     μ-loop
+    spaced-requires
+    returns
     loop-holds
     shared-slice-read-place
     place-requires
     add-at
     loop-less
     loop-again
-    shared-slice-read-if1
+    shared-slice-read-if2
     place-requires-2
-    returns)
+    returns-2)

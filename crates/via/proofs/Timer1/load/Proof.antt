@@ -6,11 +6,9 @@ use Rattle.via.proofs.Timer1.load.Reads as reads
 use Rattle.via.proofs.Timer1.load.Lts as lts
 use Rattle.viabits.proofs.word.Reads as word-reads
 
--- src/lib.rt:88:9
 word-requires : tie.Need-word-requires
 word-requires c κs = search needs
 
--- src/lib.rt:85:5
 returns : tie.Need-returns
 unfolding timer1Written
 returns c = simp (c .word .ensures)

@@ -5,7 +5,6 @@ use Rattle.via.proofs.Via.accepted.Tie as tie
 use Rattle.via.proofs.Via.accepted.Reads as reads
 use Rattle.via.proofs.Via.accepted.Lts as lts
 
--- src/lib.rt:197:5
 returns : tie.Need-returns
 unfolding acceptedVia
 returns c = refl

@@ -5,7 +5,6 @@ use Rattle.via.proofs.Via.asks.Tie as tie
 use Rattle.via.proofs.Via.asks.Reads as reads
 use Rattle.via.proofs.Via.asks.Lts as lts
 
--- src/lib.rt:169:5
 returns : tie.Need-returns
 unfolding asking
 returns c = refl

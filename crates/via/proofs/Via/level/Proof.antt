@@ -7,15 +7,12 @@ use Rattle.via.proofs.Via.level.Lts as lts
 use Rattle.via.proofs.Via.asks.Reads as asks-reads
 use Rattle.viabits.proofs.pick.Reads as pick-reads
 
--- src/lib.rt:179:14
 asks-requires : tie.Need-asks-requires
 asks-requires c κs = search needs
 
--- src/lib.rt:179:9
 pick-requires : tie.Need-pick-requires
 pick-requires c κs = search needs
 
--- src/lib.rt:176:5
 returns : tie.Need-returns
 unfolding levelOf
 returns c = simp (c .pick .ensures, c .before .asks .ensures)

@@ -5,7 +5,6 @@ use Rattle.via.proofs.Via.raise.Tie as tie
 use Rattle.via.proofs.Via.raise.Reads as reads
 use Rattle.via.proofs.Via.raise.Lts as lts
 
--- src/lib.rt:161:5
 returns : tie.Need-returns
 unfolding raisedOf
 returns c = refl

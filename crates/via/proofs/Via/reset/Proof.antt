@@ -6,11 +6,9 @@ use Rattle.via.proofs.Via.reset.Reads as reads
 use Rattle.via.proofs.Via.reset.Lts as lts
 use Rattle.via.proofs.fresh.Reads as fresh-reads
 
--- src/lib.rt:186:13
 fresh-requires : tie.Need-fresh-requires
 fresh-requires c κs = search needs
 
--- src/lib.rt:183:5
 returns : tie.Need-returns
 unfolding resetOf
 returns c = simp (c .before .before .before .before .before .fresh .ensures)

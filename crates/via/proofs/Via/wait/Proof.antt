@@ -13,23 +13,18 @@ use Rattle.via.proofs.run1.Reads as run1-reads
 use Rattle.via.proofs.run2.Reads as run2-reads
 use Rattle.viabits.proofs.pick.Reads as pick-reads
 
--- src/lib.rt:132:13
 run1-requires : tie.Need-run1-requires
 run1-requires c κs = search needs
 
--- src/lib.rt:133:13
 run2-requires : tie.Need-run2-requires
 run2-requires c κs = search needs
 
--- src/lib.rt:140:34
 pick-requires : tie.Need-pick-requires
 pick-requires c κs = search needs
 
--- src/lib.rt:140:66
 pick-requires-2 : tie.Need-pick-requires-2
 pick-requires-2 c κs = search needs
 
--- src/lib.rt:129:5
 returns : tie.Need-returns
 returns c =
     let second = c .before .before .before .before .before .before .before .before in

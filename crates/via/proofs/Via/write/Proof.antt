@@ -11,98 +11,78 @@ use Rattle.viabits.proofs.word.Reads as word-reads
 use Rattle.viabits.proofs.port_a_flags.Reads as port-a-flags-reads
 use Rattle.via.proofs.Timer1.load.Reads as load-reads
 
--- src/lib.rt:203:44
 port-a-flags-requires : tie.Need-port-a-flags-requires
 port-a-flags-requires c κs = search needs
 
--- src/lib.rt:209:17
 load-requires : tie.Need-load-requires
 load-requires c κs = search needs
 
--- src/lib.rt:219:21
 word-requires : tie.Need-word-requires
 word-requires c κs = search needs
 
--- src/lib.rt:228:19
 enable-requires : tie.Need-enable-requires
 enable-requires c κs = search needs
 
--- src/lib.rt:195:5
 returns : tie.Need-returns
 unfolding written
 returns c = simp (c .before .match .keys1)
 
--- src/lib.rt:195:5
 returns-2 : tie.Need-returns-2
 unfolding written
 returns-2 c = simp (c .before .before .before .match .keys2, ← c .before .port-a-flags .ensures)
 
--- src/lib.rt:195:5
 returns-3 : tie.Need-returns-3
 unfolding written
 returns-3 c = simp (c .before .match .keys3)
 
--- src/lib.rt:195:5
 returns-4 : tie.Need-returns-4
 unfolding written
 returns-4 c = simp (c .before .match .keys4)
 
--- src/lib.rt:195:5
 returns-5 : tie.Need-returns-5
 unfolding written
 returns-5 c = simp (c .before .match .keys5)
 
--- src/lib.rt:195:5
 returns-6 : tie.Need-returns-6
 unfolding written timer1Written
 returns-6 c = simp (c .before .before .match .keys6, c .before .load .ensures)
 
--- src/lib.rt:195:5
 returns-7 : tie.Need-returns-7
 unfolding written
 returns-7 c = simp (c .before .match .keys7)
 
--- src/lib.rt:195:5
 returns-8 : tie.Need-returns-8
 unfolding written
 returns-8 c = simp (c .before .before .match .keys8)
 
--- src/lib.rt:195:5
 returns-9 : tie.Need-returns-9
 unfolding written
 returns-9 c = simp (c .before .match .keys9)
 
--- src/lib.rt:195:5
 returns-10 : tie.Need-returns-10
 unfolding written
 returns-10 c = simp (c .before .before .before .before .match .keys10, ← c .before .before .before .word .ensures)
 
--- src/lib.rt:195:5
 returns-11 : tie.Need-returns-11
 unfolding written
 returns-11 c = simp (c .match .keys11)
 
--- src/lib.rt:195:5
 returns-12 : tie.Need-returns-12
 unfolding written
 returns-12 c = simp (c .match .keys12)
 
--- src/lib.rt:195:5
 returns-13 : tie.Need-returns-13
 unfolding written
 returns-13 c = simp (c .match .keys13)
 
--- src/lib.rt:195:5
 returns-14 : tie.Need-returns-14
 unfolding written
 returns-14 c = simp (c .before .match .keys14)
 
--- src/lib.rt:195:5
 returns-15 : tie.Need-returns-15
 unfolding written
 returns-15 c = simp (c .before .match .keys15, ← c .enable .ensures)
 
--- src/lib.rt:195:5
 -- tried: search needs
 returns-16 : tie.Need-returns-16
 unfolding written
