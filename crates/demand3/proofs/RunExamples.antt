@@ -26,7 +26,7 @@ use Rattle.machine.specs.Machine.{acceptedOf, freshMachine}
 use Rattle.action.specs.Action.{eventOf, actedOf}
 use Rattle.stages.specs.Stages.{waitOf, refusesOf}
 use Rattle.step.specs.Step.{stepOf}
-use Rattle.turn.specs.Turn.{turnOf}
+use Rattle.outcome.specs.Turn.{turnOf}
 use Rattle.outcome.specs.Outcome.{cut, piecesFrom, onto, onPiece, runPieces, runOf}
 use Rattle.history.specs.History.{History, wiresAt, rises, ended, protectAt, endedClear, last, secondsAt}
 use Rattle.history.specs.Start.{freshStart}

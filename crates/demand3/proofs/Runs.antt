@@ -34,7 +34,7 @@ use Rattle.stages.specs.Stages.{waitOf, waited, refusesOf}
 use Rattle.step.specs.Step.{stepOf}
 use Rattle.machine.proofs.Laws.{parts}
 use Rattle.step.proofs.Drives.{disk-wires}
-use Rattle.turn.specs.Turn.{refused, carriedOut, turnBy, turnOf}
+use Rattle.outcome.specs.Turn.{refused, carriedOut, turnBy, turnOf}
 use Rattle.outcome.specs.Outcome.{Piece, whole, broken, pieces, halt, onto, onPiece, runPieces, runOf}
 use Rattle.history.specs.History.{wiresAt}
 use Rattle.history.specs.Start.{Accepted, freshStart}

@@ -14,7 +14,7 @@ use Rattle.machine.specs.declared.Machine.{Machine}
 use Rattle.machine.specs.Machine.{cellCount, wires}
 use Rattle.action.specs.Action.{eventOf}
 use Rattle.stages.specs.Stages.{refusesOf}
-use Rattle.turn.specs.Turn.{turnOf}
+use Rattle.outcome.specs.Turn.{turnOf}
 use Rattle.outcome.specs.Outcome.{Piece, whole, broken, pieces}
 use Rattle.history.specs.History.{Start, Entry, History, cellAt, testAt, protectAt, secondsAt, gained, Kept}
 use Rattle.history.specs.Start.{startOf}

@@ -9,9 +9,9 @@ use Rattle.record.specs.declared.Answer.{Answer}
 use Rattle.record.specs.Record.{answerBytes, noOf}
 use Rattle.machine.specs.declared.Machine.{Machine}
 use Rattle.machine.specs.Machine.{acceptedOf}
-use Rattle.turn.specs.Turn.{turnOf}
-use Rattle.turn.proofs.Keeps.{turn-keeps}
-use Rattle.turn.proofs.Ordinary.{Ordinary, no-ordinary, turn-ordinary}
+use Rattle.outcome.specs.Turn.{turnOf}
+use Rattle.outcome.proofs.Keeps.{turn-keeps}
+use Rattle.outcome.proofs.Ordinary.{Ordinary, no-ordinary, turn-ordinary}
 use Rattle.outcome.specs.Outcome.{Piece, whole, broken, pieces, Out, halt, runPieces, runOf}
 use Rattle.outcome.proofs.Users.{answers-join, no-room, no-record}
 

@@ -15,8 +15,8 @@ use Rattle.record.specs.declared.Framed.the-variants.{Whole, Cut}
 use Rattle.record.proofs.Laws.{answer-long, whole-fits, whole-append}
 use Rattle.machine.specs.declared.Machine.{Machine}
 use Rattle.machine.specs.Machine.{acceptedOf}
-use Rattle.turn.proofs.Keeps.{turn-keeps}
-use Rattle.turn.specs.Turn.{turnOf}
+use Rattle.outcome.proofs.Keeps.{turn-keeps}
+use Rattle.outcome.specs.Turn.{turnOf}
 use Rattle.outcome.specs.Outcome.{Piece, whole, broken, cut, piecesFrom, pieces, Out, halt, onto, onPiece, runPieces, runOf}
 use Rattle.outcome.proofs.Users.{run-keeps}
 use Rattle.outcome.proofs.Pieces.{onto-none, onto-onto}

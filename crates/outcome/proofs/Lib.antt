@@ -1,3 +1,6 @@
+pub mod Keeps
+pub mod Turns
+pub mod Ordinary
 pub mod Users
 pub mod Pieces
 pub mod Joined

@@ -11,8 +11,8 @@ use Rattle.record.specs.Record.{answerBytes, noOf}
 use Rattle.record.proofs.Laws.{answer-long}
 use Rattle.machine.specs.declared.Machine.{Machine}
 use Rattle.machine.specs.Machine.{acceptedOf}
-use Rattle.turn.specs.Turn.{turnOf}
-use Rattle.turn.proofs.Keeps.{turn-keeps}
+use Rattle.outcome.specs.Turn.{turnOf}
+use Rattle.outcome.proofs.Keeps.{turn-keeps}
 use Rattle.outcome.specs.Outcome.{Piece, whole, broken, pieces, Out, halt, onto, onPiece, runPieces, runOf, ranOf}
 
 -- Item after item: where there is room for its answer, a whole record is answered from the state before it, and the run goes on from the state after it.

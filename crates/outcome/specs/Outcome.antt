@@ -9,7 +9,7 @@ use Rattle.record.specs.declared.Framed.{Framed}
 use Rattle.record.specs.declared.Framed.the-variants.{Whole, Cut}
 use Rattle.machine.specs.declared.Machine.{Machine}
 use Rattle.machine.specs.Machine.{acceptedOf}
-use Rattle.turn.specs.Turn.{turnOf}
+use Rattle.outcome.specs.Turn.{turnOf}
 use Rattle.outcome.specs.declared.Ran.{Ran}
 
 -- ---- the pieces of a list

@@ -1,5 +1,13 @@
-// What a run over a list of items comes to: defined in specs/Outcome.antt, with the laws that its users rely on in proofs/. The code is in the crate run.
+// What a record and a run over a list come to: defined in specs/Turn.antt and specs/Outcome.antt, with the laws that users rely on in proofs/. The code is in
+// the crates turn and run.
 use machine::Machine;
+use record::Answer;
+
+// What one record leaves: the next machine and its answer.
+pub struct Turn {
+    pub machine: Machine,
+    pub answer: Answer,
+}
 
 // What a run gives back: the machine, the stop number, the bytes consumed and the bytes written.
 pub struct Ran {

@@ -13,10 +13,10 @@ use Rattle.record.specs.declared.Framed.the-variants.{Whole, Cut}
 use Rattle.record.proofs.Laws.{answer-long, whole-fits}
 use Rattle.machine.specs.declared.Machine.{Machine}
 use Rattle.machine.specs.Machine.{acceptedOf}
-use Rattle.turn.proofs.Keeps.{turn-keeps}
+use Rattle.outcome.proofs.Keeps.{turn-keeps}
 use Rattle.outcome.specs.declared.Ran.{Ran}
-use Rattle.turn.specs.declared.Turn.{Turn}
-use Rattle.turn.specs.Turn.{turnOf}
+use Rattle.outcome.specs.declared.Turn.{Turn}
+use Rattle.outcome.specs.Turn.{turnOf}
 use Rattle.outcome.specs.Outcome.{Piece, piecesFrom, pieces, Out, halt, onto, runPieces, runOf, ranOf, over}
 use Rattle.outcome.proofs.Users.{item-after-item, no-record, written-fits}
 use Rattle.outcome.proofs.Pieces.{pieces-broken, pieces-whole, bytes-left, onto-none, onto-onto}

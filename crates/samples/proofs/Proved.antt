@@ -28,7 +28,7 @@ use Rattle.accesses.specs.Accesses.{viaRead, iwmRead}
 use Rattle.action.specs.Action.{actedOf}
 use Rattle.stages.specs.Stages.{waitOf, refusesOf}
 use Rattle.step.specs.Step.{stepOf, answerOf}
-use Rattle.turn.specs.Turn.{turnOf}
+use Rattle.outcome.specs.Turn.{turnOf}
 use Rattle.outcome.specs.Outcome.{cut, piecesFrom, onto, onPiece, runPieces, runOf}
 use Rattle.samples.specs.Lists.{sent}
 use Rattle.samples.specs.Samples.{Samples, values}

@@ -9,7 +9,7 @@ use lib.Dec.{ltb}
 use Rattle.levels.proofs.Laws.{no}
 use Rattle.machine.specs.declared.Machine.{Machine}
 use Rattle.machine.specs.Machine.{acceptedOf}
-use Rattle.turn.specs.Turn.{turnOf}
+use Rattle.outcome.specs.Turn.{turnOf}
 use Rattle.outcome.specs.declared.Ran.{Ran}
 use Rattle.outcome.specs.Outcome.{Piece, whole, broken, pieces, Out, halt, onto, onPiece, runPieces, runOf, ranOf, over}
 use Rattle.outcome.proofs.Users.{accepted-kept}

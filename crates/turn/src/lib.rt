@@ -4,16 +4,10 @@ ghost use mathlib.Core.Bool.{true};
 ghost use Prim.Native.Nat.{_≤_};
 ghost use lib.ListN.{length};
 ghost use Rattle.machine.specs.Machine.{acceptedOf};
-ghost use Rattle.turn.specs.Turn.{turnOf};
+ghost use Rattle.outcome.specs.Turn.{turnOf};
 use items::Decoded;
 use machine::Machine;
-use record::Answer;
-
-// What one record leaves: the next machine and its answer.
-pub struct Turn {
-    pub machine: Machine,
-    pub answer: Answer,
-}
+use outcome::Turn;
 
 // One whole record, its bytes after the length.
 pub fn turn_of(m: Machine, s: &[u8]) -> Turn

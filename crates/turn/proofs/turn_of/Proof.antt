@@ -5,7 +5,7 @@ use Rattle.machine.specs.declared.Did.{Did}
 use Rattle.machine.proofs.Laws.{parts}
 use Rattle.step.proofs.Keeps.{step-keeps}
 use borrow.Author.Needs.{needs}
-use Rattle.turn.specs.Turn.{turnOf}
+use Rattle.outcome.specs.Turn.{turnOf}
 use native.Mathlib.Omega.{arith}
 use mathlib.Core.Path.{_≡_, sym, ap, _∙_}
 use borrow.Author.Tests.{lt-ltb, le-ltb, le-leb, lt-leb, eq-eqb, ne-eqb}

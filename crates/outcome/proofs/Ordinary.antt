@@ -24,7 +24,7 @@ use Rattle.stages.specs.Stages.{refusesOf}
 use Rattle.step.specs.Step.{stepOf, answerOf}
 use Rattle.step.proofs.Laws.{via-level}
 use Rattle.step.proofs.Keeps.{step-keeps}
-use Rattle.turn.specs.Turn.{refused, carriedOut, turnBy, turnOf}
+use Rattle.outcome.specs.Turn.{refused, carriedOut, turnBy, turnOf}
 
 -- Neither level 3 nor level 7.
 abbrev pub Ordinary : Answer → Type 0

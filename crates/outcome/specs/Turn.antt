@@ -13,7 +13,7 @@ use Rattle.machine.specs.declared.Machine.{Machine}
 use Rattle.machine.specs.declared.Did.{Did}
 use Rattle.stages.specs.Stages.{refusesOf}
 use Rattle.step.specs.Step.{stepOf, answerOf}
-use Rattle.turn.specs.declared.Turn.{Turn}
+use Rattle.outcome.specs.declared.Turn.{Turn}
 
 -- The next state and the answer.
 

@@ -14,12 +14,17 @@ use Rattle.machine.specs.declared.Machine.{Machine}
 use Rattle.stages.specs.Stages.{refusesOf}
 use Rattle.step.specs.Step.{stepOf, answerOf}
 use Rattle.stages.proofs.Laws.{clash}
-use Rattle.turn.specs.Turn.{refused, carriedOut, turnBy, turnOf}
+use Rattle.outcome.specs.Turn.{refused, carriedOut, turnBy, turnOf}
 
 -- An item that is carried out leaves the state and the answer of one step.
 pub carried-out : (m : Machine) (s : List ℕ) (x : Item) → decodedOf s ≡ Done x → refusesOf m x ≡ 0 → turnOf m s ≡ carriedOut (stepOf m x)
 unfolding turnOf
 carried-out m s x e r = simp (e, r)
+
+-- Refusals 2 to 5 look at the bytes alone, and come before 8: no state changes the number.
+pub refused-by-bytes : (m : Machine) (s : List ℕ) (n : ℕ) → decodedOf s ≡ Refused n → turnOf m s ≡ refused m n
+unfolding turnOf
+refused-by-bytes m s n e = simp e
 
 -- A refused item passes no time and changes no state: an answer that is no OK leaves the machine as it was.
 pub refused-unchanged : (m : Machine) (s : List ℕ) → turnOf m s .answer .ok ≡ false → turnOf m s .machine ≡ m

@@ -13,7 +13,7 @@ use Rattle.machine.specs.Machine.{acceptedOf}
 use Rattle.stages.specs.Stages.{refusesOf}
 use Rattle.step.specs.Step.{stepOf}
 use Rattle.step.proofs.Keeps.{step-keeps}
-use Rattle.turn.specs.Turn.{carriedOut, refused, turnBy, turnOf}
+use Rattle.outcome.specs.Turn.{carriedOut, refused, turnBy, turnOf}
 
 pub turn-keeps : (m : Machine) (s : List ℕ) → acceptedOf m ≡ true → acceptedOf (turnOf m s .machine) ≡ true
 unfolding turnOf
