@@ -6,7 +6,7 @@ use Prim.Native.Nat.{ℕ, _/_}
 use lib.ListN.{getD}
 use Rattle.command.specs.Command.{decode, named}
 use Rattle.command.specs.Patterns.{bitsOf}
-use Rattle.store.specs.Shared.{replace}
+use Rattle.octets.specs.Octets.{replace}
 use Rattle.store.specs.Store.{fetch, put, act}
 use Rattle.phase.specs.Phase.{between}
 use Rattle.clock.specs.Step.{freshClock, next, acts, stepWires}

@@ -1,7 +1,7 @@
 // The clock in an image: the bytes of the half-made command and of the registers, and the cells, written in their places and read back.
 ghost use mathlib.Core.Path.{_≡_};
 ghost use lib.ListN.{length};
-ghost use Rattle.record.specs.Record.{putAt};
+ghost use Rattle.octets.specs.Octets.{putAt};
 ghost use Rattle.layout.specs.Layout.{imageLength, phaseAt, phaseLength, registersAt, registersLength, cellsAt, cellsLength, part};
 ghost use Rattle.clockbytes.specs.Layout.{phaseBytes, phaseBy, phaseOf, registerLayout, registerBytes, storeFields, storeOf, clockOf, StoreTyped};
 use clock::Clock;
@@ -95,9 +95,9 @@ pub fn put_clock(image: &mut [u8], c: Clock)
     let cells = s.cells;
     let phase = phase_bytes(p);
     let registers = register_bytes(s);
-    record::copy(image, PHASE, &phase);
-    record::copy(image, REGISTERS, &registers);
-    record::copy(image, CELLS, &cells);
+    octets::copy(image, PHASE, &phase);
+    octets::copy(image, REGISTERS, &registers);
+    octets::copy(image, CELLS, &cells);
 }
 
 fn phase(image: &[u8]) -> Phase
@@ -105,7 +105,7 @@ fn phase(image: &[u8]) -> Phase
     ensures { λ r. ⌜ r ≡ phaseOf (part phaseAt phaseLength (now (image .entry))) ⌝ }
 {
     let mut b = [0; PHASE_LENGTH];
-    record::copy(&mut b, 0, &image[PHASE..REGISTERS]);
+    octets::copy(&mut b, 0, &image[PHASE..REGISTERS]);
     phase_of(b[0], b[1], b[2], b[3])
 }
 
@@ -115,8 +115,8 @@ fn store(image: &[u8]) -> Store
 {
     let mut b = [0; REGISTERS_LENGTH];
     let mut cells = [0; CELLS_LENGTH];
-    record::copy(&mut b, 0, &image[REGISTERS..CELLS]);
-    record::copy(&mut cells, 0, &image[CELLS..LINES]);
+    octets::copy(&mut b, 0, &image[REGISTERS..CELLS]);
+    octets::copy(&mut cells, 0, &image[CELLS..LINES]);
     store_of(b, cells)
 }
 

@@ -2,6 +2,7 @@
 ghost use mathlib.Core.Path.{_≡_};
 ghost use Prim.Native.Nat.{_<_};
 ghost use Rattle.command.specs.Command.{either, writeOnly, cellOf, named, decode, isWrite};
+ghost use Rattle.command.specs.Writable.{writable};
 
 // What a command names.
 pub enum Target {
@@ -91,5 +92,17 @@ pub fn is_write(c: Command) -> bool
         Command::Write(_) => true,
         Command::Read(_) => false,
         Command::Illegal => false,
+    }
+}
+
+// Whether a write to the target may act while protect is so.
+pub fn may_write(t: Target, protect: bool) -> bool
+    ensures { λ r. ⌜ r ≡ writable t protect ⌝ }
+{
+    match t {
+        Target::Seconds(_) => !protect,
+        Target::Test => !protect,
+        Target::Protect => true,
+        Target::Cell(_) => !protect,
     }
 }

@@ -4,11 +4,12 @@ use mathlib.Core.List.{List, [], _∷_, _++_}
 use Prim.Native.Nat.{ℕ, zero, suc, _+_, _-_, _*_, _/_, _%_, _^_}
 use lib.ListN.{getD}
 use Rattle.levels.specs.Levels.{allLevels}
-use Rattle.record.specs.Record.{le16Of, le32Of, frameOf}
+use Rattle.octets.specs.Octets.{le16Of, le32Of}
+use Rattle.record.specs.Record.{frameOf}
 use Rattle.via.specs.Via.{freshVia, ticks, acceptedVia}
 use Rattle.via.specs.Writes.{written, portsWritten}
 use Rattle.command.specs.Command.{named, decode}
-use Rattle.store.specs.Shared.{replace}
+use Rattle.octets.specs.Octets.{replace}
 use Rattle.store.specs.Store.{fetch, put, act}
 use Rattle.phase.specs.Phase.{between, shown, acceptedPhase}
 use Rattle.clock.specs.Step.{next, acts, stepWires}

@@ -1,7 +1,7 @@
 // The drives in an image: the bytes of each drive and of the strobe, written in their places and read back.
 ghost use mathlib.Core.Path.{_≡_};
 ghost use lib.ListN.{length};
-ghost use Rattle.record.specs.Record.{putAt};
+ghost use Rattle.octets.specs.Octets.{putAt};
 ghost use Rattle.layout.specs.Layout.{imageLength, internalAt, externalAt, strobeAt, driveLength, strobeLength, part};
 ghost use Rattle.drivebytes.specs.Layout.{driveLayout, driveBytes, driveFields, driveOf, strobeLayout, strobeBytes, strobeFields, strobeOf, drivesOf, DrivesTyped};
 use drive::Drive;
@@ -78,9 +78,9 @@ pub fn put_drives(image: &mut [u8], d: Drives)
     let internal = drive_bytes(d.internal);
     let external = drive_bytes(d.external);
     let strobe = strobe_bytes(d.strobe);
-    record::copy(image, INTERNAL, &internal);
-    record::copy(image, EXTERNAL, &external);
-    record::copy(image, STROBE, &strobe);
+    octets::copy(image, INTERNAL, &internal);
+    octets::copy(image, EXTERNAL, &external);
+    octets::copy(image, STROBE, &strobe);
 }
 
 fn drive(s: &[u8]) -> Drive
@@ -88,7 +88,7 @@ fn drive(s: &[u8]) -> Drive
     ensures { λ r. ⌜ r ≡ driveOf (now (s .entry)) ⌝ }
 {
     let mut b = [0; DRIVE_LENGTH];
-    record::copy(&mut b, 0, s);
+    octets::copy(&mut b, 0, s);
     drive_of(b)
 }
 
@@ -97,7 +97,7 @@ fn strobe(s: &[u8]) -> Strobe
     ensures { λ r. ⌜ r ≡ strobeOf (now (s .entry)) ⌝ }
 {
     let mut b = [0; STROBE_LENGTH];
-    record::copy(&mut b, 0, s);
+    octets::copy(&mut b, 0, s);
     strobe_of(b)
 }
 

@@ -7,7 +7,8 @@ use Prim.Native.Nat.{ℕ, zero, suc, _-_, _/_, _%_, _^_}
 use lib.Dec.{eqb}
 use lib.ListN.{getD}
 use Rattle.command.specs.Command.{named, decode}
-use Rattle.store.specs.Shared.{Event, quiet, second, off, replace}
+use Rattle.octets.specs.Octets.{replace}
+use Rattle.store.specs.Shared.{Event, quiet, second, off}
 use Rattle.store.specs.Store.{fetch, put, act}
 use Rattle.phase.specs.Phase.{between}
 use Rattle.clock.specs.Step.{freshClock, next, acts, stepWires}

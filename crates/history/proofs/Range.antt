@@ -14,7 +14,7 @@ use Rattle.command.specs.declared.Target.the-variants.{Seconds, Test, Protect, 
 use Rattle.command.specs.declared.Command.{Command}
 use Rattle.command.specs.declared.Command.the-variants.{Write, Read, Illegal}
 use Rattle.history.specs.History.{Start, History, rose, complete, completeIn, met, testAt, replaced, wiresAt, rises, ended, protectAt, endedClear, secondsAt}
-use Rattle.store.proofs.Places.{replace-small}
+use Rattle.octets.proofs.Laws.{replace-small}
 use Rattle.command.proofs.Range.{cond-case, decode-legal}
 use Rattle.history.proofs.Bits.{num-bound}
 

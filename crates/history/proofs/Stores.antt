@@ -8,8 +8,9 @@ use lib.Dec.{eqb}
 use lib.ListN.{length, getD, set, length-set}
 use lib.Seq.{getD-set-same, getD-set-other}
 use borrow.Author.Tests.{eqb-true, eqb-false, not-false}
+use Rattle.command.specs.Writable.{writable}
 use Rattle.store.specs.Shared.{Written, bit7}
-use Rattle.store.specs.Store.{put, writable, act}
+use Rattle.store.specs.Store.{put, act}
 use Rattle.command.specs.declared.Target.{Target}
 use Rattle.command.specs.declared.Target.the-variants.{Seconds, Test, Protect, Cell}
 use Rattle.store.specs.declared.Store.{Store}

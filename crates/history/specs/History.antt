@@ -8,7 +8,8 @@ use Prim.Native.Nat.{ℕ, _+_}
 use lib.Dec.{eqb}
 use lib.ListN.{length, take, drop, getD}
 use Rattle.command.specs.Command.{decode, num}
-use Rattle.store.specs.Shared.{Event, quiet, second, off, stops, wrap, Written, writeBy, bit7, replace}
+use Rattle.octets.specs.Octets.{replace}
+use Rattle.store.specs.Shared.{Event, quiet, second, off, stops, wrap, Written, writeBy, bit7}
 use Rattle.command.specs.declared.Target.{Target}
 use Rattle.command.specs.declared.Target.the-variants.{Seconds, Test, Protect, Cell}
 use Rattle.phase.specs.declared.Wires.{Wires}

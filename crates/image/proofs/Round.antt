@@ -8,7 +8,7 @@ use lib.ListN.{length}
 use lib.Dec.{eqb}
 use borrow.Author.Tests.{eq-eqb, eqb-true}
 use Rattle.levels.proofs.Laws.{no, both}
-use Rattle.record.specs.Record.{putAt}
+use Rattle.octets.specs.Octets.{putAt}
 use Rattle.layout.specs.Layout.{viaLength, phaseLength, registersLength, cellsLength, linesLength, inputsLength, senseLength, driveLength, strobeLength}
 use Rattle.layout.specs.Layout.{viaAt, phaseAt, registersAt, cellsAt, linesAt, inputsAt, senseAt, internalAt, externalAt, strobeAt, imageLength, part, headBytes, sameBytes}
 use Rattle.layout.proofs.Parts.{sizes, total, joined-long, laid, whole, cut, pick, parted, part-long}

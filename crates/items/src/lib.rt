@@ -98,7 +98,7 @@ pub fn plain_item(s: &[u8], what: Plain) -> Decoded
     if s.len() != 4 {
         return Decoded::Refused(3);
     }
-    let wait = record::le16(s, 2);
+    let wait = octets::le16(s, 2);
     match what {
         Plain::Blank => Decoded::Done(Item::Blank { wait }),
         Plain::Second => Decoded::Done(Item::Second { wait }),
@@ -114,8 +114,8 @@ pub fn read_item(s: &[u8]) -> Decoded
     if s.len() != 8 {
         return Decoded::Refused(3);
     }
-    let wait = record::le16(s, 2);
-    match addresses::find(record::le32(s, 4)) {
+    let wait = octets::le16(s, 2);
+    match addresses::find(octets::le32(s, 4)) {
         Found::Via(register) => Decoded::Done(Item::ReadVia { wait, register }),
         Found::Iwm(location) => Decoded::Done(Item::ReadIwm { wait, location }),
         Found::Nowhere => Decoded::Refused(4),
@@ -130,9 +130,9 @@ pub fn write_item(s: &[u8]) -> Decoded
     if s.len() != 9 {
         return Decoded::Refused(3);
     }
-    let wait = record::le16(s, 2);
+    let wait = octets::le16(s, 2);
     let value = s[8];
-    match addresses::find(record::le32(s, 4)) {
+    match addresses::find(octets::le32(s, 4)) {
         Found::Via(register) => Decoded::Done(Item::WriteVia {
             wait,
             register,
@@ -156,7 +156,7 @@ pub fn power_item(s: &[u8]) -> Decoded
         return Decoded::Refused(3);
     }
     Decoded::Done(Item::Power {
-        wait: record::le16(s, 2),
-        seconds: record::le32(s, 4),
+        wait: octets::le16(s, 2),
+        seconds: octets::le32(s, 4),
     })
 }

@@ -7,8 +7,8 @@ use native.Mathlib.Omega.{arith}
 use lib.ListN.{length, getD}
 use lib.Dec.{ltb, eqb}
 use borrow.Author.Tests.{ltb-false}
-use Rattle.record.specs.Record.{le32Of, Bytes}
-use Rattle.record.proofs.Laws.{le16-width, le32-width}
+use Rattle.octets.specs.Octets.{le32Of, Bytes}
+use Rattle.octets.proofs.Laws.{le16-width, le32-width}
 use Rattle.addresses.specs.Addresses.{foundOf}
 use Rattle.items.specs.Items.{sized, placed, waitOf, readOf, writeOf, powerOf, plainItem, plainOf, InRange, InWidth}
 use Rattle.ranged.specs.Ranged.{upTo, lineOf, senseOf, diskOf}

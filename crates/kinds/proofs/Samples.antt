@@ -1,7 +1,7 @@
 -- Document 01's samples of records and request W-203's DI, computed by the definition: a record's bytes after its length.
 use mathlib.Core.Path.{_≡_, refl}
 use mathlib.Core.List.{[], _∷_}
-use Rattle.record.specs.Record.{le16Of, le32Of}
+use Rattle.octets.specs.Octets.{le16Of, le32Of}
 use Rattle.addresses.specs.Addresses.{placeFrom, foundOf}
 use Rattle.items.specs.Items.{plainOf, readOf, writeOf, powerOf}
 use Rattle.ranged.specs.Ranged.{lineOf, senseOf, diskOf}

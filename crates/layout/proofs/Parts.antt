@@ -6,8 +6,8 @@ use native.Mathlib.Omega.{arith}
 use native.Mathlib.Nat.{le-of-eq}
 use lib.ListN.{length, take, drop, length-append, length-drop, drop-of-length-le}
 use lib.Seq.{take-at, drop-at, drop-drop, take-all, length-take-le}
-use Rattle.record.specs.Record.{putAt}
-use Rattle.record.proofs.Laws.{put-take, put-drop}
+use Rattle.octets.specs.Octets.{putAt}
+use Rattle.octets.proofs.Laws.{put-take, put-drop}
 use Rattle.layout.specs.Layout.{part}
 
 -- parts joined to what is there, and their lengths

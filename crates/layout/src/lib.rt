@@ -1,7 +1,7 @@
 // The layout of a state's image: how long each part is and where it stands; the head, and the parts that are levels, put there and taken out.
 ghost use mathlib.Core.Path.{_≡_};
 ghost use lib.ListN.{length};
-ghost use Rattle.record.specs.Record.{putAt};
+ghost use Rattle.octets.specs.Octets.{putAt};
 ghost use Rattle.layout.specs.Layout.{linesLength, inputsLength, senseLength, linesAt, inputsAt, senseAt, imageLength, part, headBytes, sameBytes};
 
 const KIND: [u8; 2] = *b"ST";
@@ -59,7 +59,7 @@ pub fn put_head(image: &mut [u8])
     ensures { λ _. ⌜ now (image .exit) ≡ putAt (now (image .entry)) 0 headBytes ⌝ }
 {
     let head = [(AFTER % 256) as u8, (AFTER / 256) as u8, KIND[0], KIND[1]];
-    record::copy(image, 0, &head);
+    octets::copy(image, 0, &head);
 }
 
 // The eight disk lines, the IN lines and the sense levels, written in their places.
@@ -72,9 +72,9 @@ pub fn put_levels(
     requires { ⌜ length (now image) ≡ imageLength ⌝ }
     ensures { λ _. ⌜ now (image .exit) ≡ putAt (putAt (putAt (now (image .entry)) linesAt lines) inputsAt inputs) senseAt sense ⌝ }
 {
-    record::copy(image, LINES, &lines);
-    record::copy(image, INPUTS, &inputs);
-    record::copy(image, SENSE, &sense);
+    octets::copy(image, LINES, &lines);
+    octets::copy(image, INPUTS, &inputs);
+    octets::copy(image, SENSE, &sense);
 }
 
 pub fn lines(image: &[u8]) -> [u8; LINES_LENGTH]
@@ -82,7 +82,7 @@ pub fn lines(image: &[u8]) -> [u8; LINES_LENGTH]
     ensures { λ r. ⌜ r ≡ part linesAt linesLength (now (image .entry)) ⌝ }
 {
     let mut own = [0; LINES_LENGTH];
-    record::copy(&mut own, 0, &image[LINES..INPUTS]);
+    octets::copy(&mut own, 0, &image[LINES..INPUTS]);
     own
 }
 
@@ -91,7 +91,7 @@ pub fn inputs(image: &[u8]) -> [u8; INPUTS_LENGTH]
     ensures { λ r. ⌜ r ≡ part inputsAt inputsLength (now (image .entry)) ⌝ }
 {
     let mut own = [0; INPUTS_LENGTH];
-    record::copy(&mut own, 0, &image[INPUTS..SENSE]);
+    octets::copy(&mut own, 0, &image[INPUTS..SENSE]);
     own
 }
 
@@ -100,7 +100,7 @@ pub fn sense(image: &[u8]) -> [u8; SENSE_LENGTH]
     ensures { λ r. ⌜ r ≡ part senseAt senseLength (now (image .entry)) ⌝ }
 {
     let mut own = [0; SENSE_LENGTH];
-    record::copy(&mut own, 0, &image[SENSE..INTERNAL]);
+    octets::copy(&mut own, 0, &image[SENSE..INTERNAL]);
     own
 }
 

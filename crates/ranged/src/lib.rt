@@ -20,7 +20,7 @@ pub fn line_item(s: &[u8]) -> Decoded
         return Decoded::Refused(5);
     }
     Decoded::Done(Item::Line {
-        wait: record::le16(s, 2),
+        wait: octets::le16(s, 2),
         line,
         level,
     })
@@ -41,7 +41,7 @@ pub fn sense_item(s: &[u8]) -> Decoded
         return Decoded::Refused(5);
     }
     Decoded::Done(Item::Sense {
-        wait: record::le16(s, 2),
+        wait: octets::le16(s, 2),
         drive,
         register,
         level,
@@ -64,7 +64,7 @@ pub fn disk_item(s: &[u8]) -> Decoded
         return Decoded::Refused(5);
     }
     Decoded::Done(Item::Disk {
-        wait: record::le16(s, 2),
+        wait: octets::le16(s, 2),
         drive: external,
         insert,
         locked,

@@ -1,20 +1,13 @@
 -- Records and answers as bytes: document 01, "Items and answers as bytes".
-use Prim.Native.Nat.{ℕ, _+_, _-_, _*_, _<_}
+use Prim.Native.Nat.{ℕ, _+_, _-_}
 use mathlib.Core.Bool.{false, cond}
-use mathlib.Core.List.{List, [], _∷_, _++_}
-use lib.ListN.{length, getD, take, drop}
+use mathlib.Core.List.{List, [], _∷_}
+use lib.ListN.{length}
 use lib.Dec.{ltb}
+use Rattle.octets.specs.Octets.{le16Of}
 use Rattle.record.specs.declared.Framed.{Framed}
 use Rattle.record.specs.declared.Framed.the-variants.{Whole, Cut}
 use Rattle.record.specs.declared.Answer.{Answer}
-
--- "Numbers are little-endian": two bytes from `at` on.
-unfoldable pub le16Of : List ℕ → ℕ → ℕ
-le16Of s at = getD s at 0 + getD s (at + 1) 0 * 256
-
--- Four bytes from `at` on.
-unfoldable pub le32Of : List ℕ → ℕ → ℕ
-le32Of s at = getD s at 0 + getD s (at + 1) 0 * 256 + getD s (at + 2) 0 * 65536 + getD s (at + 3) 0 * 16777216
 
 -- "A record is a length (2 bytes, counting what follows it), a kind (2 bytes), a body." Refusal 1: "fewer than 2 bytes left,
 -- length below 2, or fewer bytes after the length than it says".
@@ -36,11 +29,3 @@ answerBytes x =
 -- The answer to a refused record.
 unfoldable pub noOf : ℕ → Answer
 noOf n = record { ok = false; value = n; level = 0; lines = 0; sel = 0 }
-
--- The list with the bytes of `x` in place of those from `at` on.
-abbrev pub putAt : List ℕ → ℕ → List ℕ → List ℕ
-putAt d at x = take at d ++ x ++ drop (at + length x) d
-
--- Every number of the list is a byte.
-abbrev pub Bytes : List ℕ → Type 0
-Bytes s = (i : ℕ) → getD s i 0 < 256

@@ -1,42 +1,11 @@
-// Records as bytes: little-endian numbers, where a record ends, the eight bytes of an answer, and copying into lent memory.
+// Records as bytes: where a record ends, and the eight bytes of an answer.
 ghost use mathlib.Core.Path.{_≡_};
-ghost use Prim.Native.Nat.{_+_, _≤_, _<_};
-ghost use lib.ListN.{length};
-ghost use Rattle.record.specs.Record.{le16Of, le32Of, frameOf, answerBytes, noOf, putAt};
+ghost use Rattle.record.specs.Record.{frameOf, answerBytes, noOf};
 
 // The two kinds of an answer.
 const OK: [u8; 2] = *b"OK";
 
 const NO: [u8; 2] = *b"NO";
-
-// A byte as a wider number.
-fn half(x: u8) -> u16
-    ensures { λ r. ⌜ (r ≡ x) × (r < 256) ⌝ }
-{
-    x as u16
-}
-
-fn word(x: u8) -> u32
-    ensures { λ r. ⌜ (r ≡ x) × (r < 256) ⌝ }
-{
-    x as u32
-}
-
-// The two bytes at `at` as a number, the lower first.
-pub fn le16(s: &[u8], at: usize) -> u16
-    requires { ⌜ at + 2 ≤ length (now s) ⌝ }
-    ensures { λ r. ⌜ r ≡ le16Of (now (s .entry)) at ⌝ }
-{
-    half(s[at]) + half(s[at + 1]) * 256
-}
-
-// The four bytes at `at` as a number, the lowest first.
-pub fn le32(s: &[u8], at: usize) -> u32
-    requires { ⌜ at + 4 ≤ length (now s) ⌝ }
-    ensures { λ r. ⌜ r ≡ le32Of (now (s .entry)) at ⌝ }
-{
-    word(s[at]) + word(s[at + 1]) * 256 + word(s[at + 2]) * 65536 + word(s[at + 3]) * 16777216
-}
 
 // Whether a whole record stands at the front of a list.
 pub enum Framed {
@@ -53,7 +22,7 @@ pub fn frame(s: &[u8]) -> Framed
     if s.len() < 2 {
         return Framed::Cut;
     }
-    let n = le16(s, 0) as usize;
+    let n = octets::le16(s, 0) as usize;
     if n < 2 {
         return Framed::Cut;
     }
@@ -97,17 +66,5 @@ pub fn answer_bytes(x: Answer) -> [u8; 8]
         [6, 0, OK[0], OK[1], x.value, x.level, x.lines, x.sel]
     } else {
         [6, 0, NO[0], NO[1], x.value, 0, 0, 0]
-    }
-}
-
-// Writes the bytes of `x` at `at`.
-pub fn copy(d: &mut [u8], at: usize, x: &[u8])
-    requires { ⌜ at + length (now x) ≤ length (now d) ⌝ }
-    ensures { λ _. ⌜ now (d .exit) ≡ putAt (now (d .entry)) at (now (x .entry)) ⌝ }
-{
-    let mut j: usize = 0;
-    while j < x.len() {
-        d[at + j] = x[j];
-        j += 1;
     }
 }

@@ -4,7 +4,7 @@ use mathlib.Core.Bool.{cond}
 use mathlib.Core.List.{List, [], _∷_, _++_}
 use lib.ListN.{length, getD, drop}
 use lib.Dec.{ltb, eqb}
-use Rattle.record.specs.Record.{le16Of}
+use Rattle.octets.specs.Octets.{le16Of}
 use Rattle.items.specs.Items.{refusalOf}
 use Rattle.kinds.specs.Kinds.{decodedOf}
 use Rattle.text.specs.Text.{decimalOf}

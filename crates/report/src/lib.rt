@@ -15,7 +15,7 @@ fn kind_of(rest: &[u8]) -> [u8; 4]
     if rest.len() < 4 {
         return *b" -- ";
     }
-    if record::le16(rest, 0) < 2 {
+    if octets::le16(rest, 0) < 2 {
         return *b" -- ";
     }
     if items::refusal(kinds::decode(&rest[2..])) == 2 {

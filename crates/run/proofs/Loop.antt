@@ -7,7 +7,8 @@ use native.Mathlib.Omega.{arith}
 use native.Mathlib.Nat.{le-of-eq, add-zero, sub-zero, sub-add-eq}
 use lib.ListN.{length, take, drop, length-append, length-drop, take-append-drop, drop-of-length-le}
 use lib.Seq.{take-all, length-take-le, take-at, drop-at, drop-drop}
-use Rattle.record.specs.Record.{frameOf, answerBytes, noOf, putAt}
+use Rattle.octets.specs.Octets.{putAt}
+use Rattle.record.specs.Record.{frameOf, answerBytes, noOf}
 use Rattle.record.specs.declared.Framed.{Framed}
 use Rattle.record.specs.declared.Framed.the-variants.{Whole, Cut}
 use Rattle.record.proofs.Laws.{answer-long, whole-fits}

@@ -16,7 +16,8 @@ use Rattle.sense.specs.Sense.{drivesSense, shownOf, acceptedDrive}
 use Rattle.strobe.specs.Strobe.{tickStrobe, strobeTicks, heldStill, unspoilt, strobeAfter, registerOf, longEnough, strobeWrites, acceptedStrobe}
 use Rattle.drives.specs.Drives.{drivesTicks, placed, placeRefused, drivesPowered, drivesAfter, drivesShown, acceptedDrives}
 use Rattle.wiring.specs.Wiring.{wiresOf, selOf, inputsOf, interruptLevel, watchedOf}
-use Rattle.record.specs.Record.{le16Of, le32Of, frameOf, answerBytes, noOf}
+use Rattle.octets.specs.Octets.{le16Of, le32Of}
+use Rattle.record.specs.Record.{frameOf, answerBytes, noOf}
 use Rattle.addresses.specs.Addresses.{placeFrom, foundOf}
 use Rattle.items.specs.Items.{writeOf, plainOf, powerOf}
 use Rattle.ranged.specs.Ranged.{diskOf}

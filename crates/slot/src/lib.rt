@@ -2,7 +2,7 @@
 ghost use mathlib.Core.Path.{_≡_};
 ghost use Prim.Native.Nat.{_+_, _≤_};
 ghost use lib.ListN.{length};
-ghost use Rattle.record.specs.Record.{putAt};
+ghost use Rattle.octets.specs.Octets.{putAt};
 
 // Writes eight bytes at `at`.
 pub fn put(d: &mut [u8], at: usize, x: [u8; 8])

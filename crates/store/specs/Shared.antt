@@ -2,7 +2,7 @@
 -- Document 01, "The clock's wires".
 use mathlib.Core.Bool.{Bool, cond}
 use mathlib.Core.Option.{Option, none, some}
-use Prim.Native.Nat.{ℕ, suc, _+_, _*_, _/_, _%_, _^_}
+use Prim.Native.Nat.{ℕ, _+_, _%_, _^_}
 use lib.Dec.{leb}
 use Rattle.command.specs.declared.Target.{Target}
 use Rattle.command.specs.declared.Command.{Command}
@@ -46,7 +46,3 @@ writeBy Illegal b = none
 -- Bit 7 of a byte.
 abbrev pub bit7 : ℕ → Bool
 bit7 b = leb 128 b
-
--- The number s with byte k (0 the lowest) replaced by b.
-unfoldable pub replace : ℕ → ℕ → ℕ → ℕ
-replace k b s = s / 256 ^ suc k * 256 ^ suc k + b * 256 ^ k + s % 256 ^ k

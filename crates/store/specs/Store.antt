@@ -1,12 +1,14 @@
 -- The clock chip's store, and what reads, writes and events do to it, by document 01, "The clock's wires".
-use mathlib.Core.Bool.{Bool, true, cond, not}
+use mathlib.Core.Bool.{Bool, cond}
 use mathlib.Core.List.{List}
 use mathlib.Core.Option.{Option, none, some}
 use Prim.Native.Nat.{ℕ, _/_, _%_, _^_}
 use lib.ListN.{getD, set}
+use Rattle.command.specs.Writable.{writable}
 use Rattle.command.specs.declared.Target.{Target}
 use Rattle.command.specs.declared.Target.the-variants.{Seconds, Test, Protect, Cell}
-use Rattle.store.specs.Shared.{Event, stops, elapse, Written, bit7, replace}
+use Rattle.octets.specs.Octets.{replace}
+use Rattle.store.specs.Shared.{Event, stops, elapse, Written, bit7}
 use Rattle.store.specs.declared.Store.{Store}
 
 -- ---- the state, field by field
@@ -38,13 +40,6 @@ put (Seconds k) b s = withSeconds s (replace k b (s .seconds))
 put Test b s = withTest s b
 put Protect b s = withProtect s (bit7 b)
 put (Cell i) b s = withCells s (set (s .cells) i b)
-
--- "While protect bit 7 is 1, only write-protect can be written."
-abbrev pub writable : Target → Bool → Bool
-writable (Seconds k) p = not p
-writable Test p = not p
-writable Protect p = true
-writable (Cell i) p = not p
 
 -- "Protect is judged as it stands just before."
 unfoldable pub act : Option Written → Store → Store

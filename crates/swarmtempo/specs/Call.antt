@@ -4,7 +4,7 @@ use mathlib.Core.Bool.{cond}
 use mathlib.Core.List.{List}
 use lib.ListN.{length}
 use lib.Dec.{ltb}
-use Rattle.record.specs.Record.{putAt}
+use Rattle.octets.specs.Octets.{putAt}
 use Rattle.machine.specs.Machine.{freshMachine}
 use Rattle.outcome.specs.Outcome.{Out, halt, runOf, over}
 use Rattle.image.specs.Image.{imageLength, imageOf, machineOf, validImage}

@@ -9,8 +9,8 @@ use lib.ListN.{length, take, drop, length-append, take-append-drop}
 use lib.Seq.{drop-drop}
 use lib.Dec.{ltb}
 use borrow.Author.Tests.{lt-ltb, le-ltb, ltb-true, ltb-false}
-use Rattle.record.specs.Record.{putAt}
-use Rattle.record.proofs.Laws.{put-take, put-drop}
+use Rattle.octets.specs.Octets.{putAt}
+use Rattle.octets.proofs.Laws.{put-take, put-drop}
 use Rattle.io.specs.Digits.{digits, Fewest}
 use Rattle.text.specs.Text.{Put, decimalFrom, decimalOf}
 

@@ -5,7 +5,7 @@ use mathlib.Core.Bool.{cond}
 use mathlib.Core.List.{List, [], _∷_, _++_}
 use lib.ListN.{length}
 use lib.Dec.{ltb}
-use Rattle.record.specs.Record.{putAt}
+use Rattle.octets.specs.Octets.{putAt}
 
 -- A digit below 16 in upper-case hexadecimal: 48 is `0`, 65 is `A`.
 unfoldable pub glyphOf : ℕ → ℕ

@@ -10,7 +10,7 @@ pub fn add(d: &mut [u8], at: usize, x: &[u8]) -> usize
     requires { ⌜ at + length (now x) ≤ length (now d) ⌝ }
     ensures { λ r. ⌜ Put (now (d .entry)) (now (d .exit)) at r (now (x .entry)) ⌝ }
 {
-    record::copy(d, at, x);
+    octets::copy(d, at, x);
     at + x.len()
 }
 

@@ -1,7 +1,7 @@
 // The VIA in an image: its bytes, written in their place and read back.
 ghost use mathlib.Core.Path.{_≡_};
 ghost use lib.ListN.{length};
-ghost use Rattle.record.specs.Record.{putAt};
+ghost use Rattle.octets.specs.Octets.{putAt};
 ghost use Rattle.layout.specs.Layout.{imageLength, viaAt, viaLength, part};
 ghost use Rattle.viabytes.specs.Layout.{viaLayout, viaBytes, viaFields, viaOf, ViaTyped};
 use layout::PHASE;
@@ -75,7 +75,7 @@ pub fn put_via(image: &mut [u8], v: Via)
     ensures { λ _. ⌜ ViaTyped v ⌝ }
 {
     let b = via_bytes(v);
-    record::copy(image, VIA, &b);
+    octets::copy(image, VIA, &b);
 }
 
 pub fn via(image: &[u8]) -> Via
@@ -83,6 +83,6 @@ pub fn via(image: &[u8]) -> Via
     ensures { λ r. ⌜ r ≡ viaOf (part viaAt viaLength (now (image .entry))) ⌝ }
 {
     let mut b = [0; VIA_LENGTH];
-    record::copy(&mut b, 0, &image[VIA..PHASE]);
+    octets::copy(&mut b, 0, &image[VIA..PHASE]);
     via_of(b)
 }

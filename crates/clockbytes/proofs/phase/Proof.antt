@@ -9,7 +9,7 @@ use Rattle.clockbytes.proofs.phase.Tie as tie
 use Rattle.clockbytes.proofs.phase.Reads as reads
 use Rattle.clockbytes.proofs.phase.Lts as lts
 use Rattle.clockbytes.proofs.phase_of.Reads as phase-of-reads
-use Rattle.record.proofs.copy.Reads as copy-reads
+use Rattle.octets.proofs.copy.Reads as copy-reads
 
 slice-aggregate-copy : tie.Need-slice-aggregate-copy
 slice-aggregate-copy c = search needs

@@ -11,7 +11,7 @@ use Rattle.clockbytes.proofs.put_clock.Reads as reads
 use Rattle.clockbytes.proofs.put_clock.Lts as lts
 use Rattle.clockbytes.proofs.phase_bytes.Reads as phase-bytes-reads
 use Rattle.clockbytes.proofs.register_bytes.Reads as register-bytes-reads
-use Rattle.record.proofs.copy.Reads as copy-reads
+use Rattle.octets.proofs.copy.Reads as copy-reads
 
 -- what the type of the clock handed in says of it
 typed : (c : tie.Start) → StoreTyped (c .args .c .store)

@@ -9,7 +9,7 @@ use Rattle.clockbytes.proofs.store.Tie as tie
 use Rattle.clockbytes.proofs.store.Reads as reads
 use Rattle.clockbytes.proofs.store.Lts as lts
 use Rattle.clockbytes.proofs.store_of.Reads as store-of-reads
-use Rattle.record.proofs.copy.Reads as copy-reads
+use Rattle.octets.proofs.copy.Reads as copy-reads
 
 slice-aggregate-copy : tie.Need-slice-aggregate-copy
 slice-aggregate-copy c = search needs

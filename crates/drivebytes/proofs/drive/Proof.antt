@@ -8,7 +8,7 @@ use Rattle.drivebytes.proofs.drive.Tie as tie
 use Rattle.drivebytes.proofs.drive.Reads as reads
 use Rattle.drivebytes.proofs.drive.Lts as lts
 use Rattle.drivebytes.proofs.drive_of.Reads as drive-of-reads
-use Rattle.record.proofs.copy.Reads as copy-reads
+use Rattle.octets.proofs.copy.Reads as copy-reads
 
 slice-aggregate-copy : tie.Need-slice-aggregate-copy
 slice-aggregate-copy c = search needs

@@ -9,7 +9,7 @@ use Rattle.drivebytes.proofs.put_drives.Reads as reads
 use Rattle.drivebytes.proofs.put_drives.Lts as lts
 use Rattle.drivebytes.proofs.drive_bytes.Reads as drive-bytes-reads
 use Rattle.drivebytes.proofs.strobe_bytes.Reads as strobe-bytes-reads
-use Rattle.record.proofs.copy.Reads as copy-reads
+use Rattle.octets.proofs.copy.Reads as copy-reads
 
 -- what the type of the drives handed in says of it
 typed : (c : tie.Start) → DrivesTyped (c .args .d)

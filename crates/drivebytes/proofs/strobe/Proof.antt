@@ -8,7 +8,7 @@ use Rattle.drivebytes.proofs.strobe.Tie as tie
 use Rattle.drivebytes.proofs.strobe.Reads as reads
 use Rattle.drivebytes.proofs.strobe.Lts as lts
 use Rattle.drivebytes.proofs.strobe_of.Reads as strobe-of-reads
-use Rattle.record.proofs.copy.Reads as copy-reads
+use Rattle.octets.proofs.copy.Reads as copy-reads
 
 slice-aggregate-copy : tie.Need-slice-aggregate-copy
 slice-aggregate-copy c = search needs

@@ -5,7 +5,7 @@ use Rattle.layout.proofs.lines.Statement.{statement}
 use Rattle.layout.proofs.lines.Tie as tie
 use Rattle.layout.proofs.lines.Reads as reads
 use Rattle.layout.proofs.lines.Lts as lts
-use Rattle.record.proofs.copy.Reads as copy-reads
+use Rattle.octets.proofs.copy.Reads as copy-reads
 
 slice-aggregate-copy : tie.Need-slice-aggregate-copy
 slice-aggregate-copy c = search needs

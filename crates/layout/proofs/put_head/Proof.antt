@@ -4,7 +4,7 @@ use Rattle.layout.proofs.put_head.Statement.{statement}
 use Rattle.layout.proofs.put_head.Tie as tie
 use Rattle.layout.proofs.put_head.Reads as reads
 use Rattle.layout.proofs.put_head.Lts as lts
-use Rattle.record.proofs.copy.Reads as copy-reads
+use Rattle.octets.proofs.copy.Reads as copy-reads
 
 cast-t4 : tie.Need-cast-t4
 cast-t4 c = search needs

@@ -7,7 +7,7 @@ use Rattle.layout.proofs.put_levels.Statement.{statement}
 use Rattle.layout.proofs.put_levels.Tie as tie
 use Rattle.layout.proofs.put_levels.Reads as reads
 use Rattle.layout.proofs.put_levels.Lts as lts
-use Rattle.record.proofs.copy.Reads as copy-reads
+use Rattle.octets.proofs.copy.Reads as copy-reads
 
 slice-aggregate-copy : tie.Need-slice-aggregate-copy
 slice-aggregate-copy c = search needs

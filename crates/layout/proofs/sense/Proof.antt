@@ -5,7 +5,7 @@ use Rattle.layout.proofs.sense.Statement.{statement}
 use Rattle.layout.proofs.sense.Tie as tie
 use Rattle.layout.proofs.sense.Reads as reads
 use Rattle.layout.proofs.sense.Lts as lts
-use Rattle.record.proofs.copy.Reads as copy-reads
+use Rattle.octets.proofs.copy.Reads as copy-reads
 
 slice-aggregate-copy : tie.Need-slice-aggregate-copy
 slice-aggregate-copy c = search needs

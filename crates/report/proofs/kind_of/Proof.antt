@@ -11,7 +11,7 @@ use Rattle.report.proofs.kind_of.Reads as reads
 use Rattle.report.proofs.kind_of.Lts as lts
 use Rattle.kinds.proofs.decode.Reads as decode-reads
 use Rattle.items.proofs.refusal.Reads as refusal-reads
-use Rattle.record.proofs.le16.Reads as le16-reads
+use Rattle.octets.proofs.le16.Reads as le16-reads
 
 returns : tie.Need-returns
 unfolding kindOf

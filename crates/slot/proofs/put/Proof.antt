@@ -6,9 +6,9 @@ use mathlib.Core.Path.{_≡_, ap, _∙_}
 use mathlib.Core.List.{List}
 use lib.ListN.{length, getD, set, length-set}
 use lib.Seq.{sets, sets-eq}
-use Rattle.record.proofs.Laws.{elements}
+use Rattle.octets.proofs.Laws.{elements}
 use denote.Ref.{now}
-use Rattle.record.specs.Record.{putAt}
+use Rattle.octets.specs.Octets.{putAt}
 use Rattle.slot.proofs.put.Statement.{statement}
 use Rattle.slot.proofs.put.Tie as tie
 

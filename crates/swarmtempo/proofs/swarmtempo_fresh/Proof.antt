@@ -7,7 +7,7 @@ use Prim.Native.Nat.{ℕ, _+_}
 use native.Mathlib.Nat.{zero-add}
 use lib.ListN.{length, take, drop}
 use lib.Seq.{length-take-le}
-use Rattle.record.specs.Record.{putAt}
+use Rattle.octets.specs.Octets.{putAt}
 use Rattle.machine.specs.Machine.{freshMachine}
 use Rattle.image.specs.Image.{imageOf}
 use Rattle.swarmtempo.specs.Call.{freshStop, freshImage}

@@ -1,6 +1,6 @@
 use mathlib.Core.Path.{ap, _∙_}
 use denote.Ref.{now}
-use Rattle.record.specs.Record.{putAt}
+use Rattle.octets.specs.Octets.{putAt}
 use Rattle.layout.specs.Layout.{viaAt}
 use Rattle.viabytes.specs.Layout.{viaBytes, ViaTyped}
 use borrow.Author.Needs.{needs}
@@ -8,7 +8,7 @@ use Rattle.viabytes.proofs.put_via.Statement.{statement}
 use Rattle.viabytes.proofs.put_via.Tie as tie
 use Rattle.viabytes.proofs.put_via.Reads as reads
 use Rattle.viabytes.proofs.put_via.Lts as lts
-use Rattle.record.proofs.copy.Reads as copy-reads
+use Rattle.octets.proofs.copy.Reads as copy-reads
 use Rattle.viabytes.proofs.via_bytes.Reads as via-bytes-reads
 
 -- what the type of the VIA handed in says of it

@@ -8,7 +8,7 @@ use Rattle.viabytes.proofs.via.Statement.{statement}
 use Rattle.viabytes.proofs.via.Tie as tie
 use Rattle.viabytes.proofs.via.Reads as reads
 use Rattle.viabytes.proofs.via.Lts as lts
-use Rattle.record.proofs.copy.Reads as copy-reads
+use Rattle.octets.proofs.copy.Reads as copy-reads
 use Rattle.viabytes.proofs.via_of.Reads as via-of-reads
 
 slice-aggregate-copy : tie.Need-slice-aggregate-copy

@@ -8,8 +8,8 @@ use native.Mathlib.Numerals.{add-one}
 use lib.ListN.{length, getD, set, take, drop, length-set}
 use lib.Seq.{paste, paste-zero, paste-suc, take-length}
 use denote.Ref.{now}
-use Rattle.record.proofs.copy.Statement.{statement}
-use Rattle.record.proofs.copy.Tie as tie
+use Rattle.octets.proofs.copy.Statement.{statement}
+use Rattle.octets.proofs.copy.Tie as tie
 
 abbrev Inv-loop : tie.InvT-loop
 Inv-loop d₀ at x j₀ d j = (j ≤ length x) × (length d ≡ length d₀) × (d ≡ paste d₀ at x j)

@@ -1,9 +1,9 @@
 use native.Mathlib.Omega.{arith}
 use mathlib.Core.Path.{_≡_}
-use Rattle.store.specs.Shared.{replace}
+use Rattle.octets.specs.Octets.{replace}
 use borrow.Author.Needs.{needs}
-use Rattle.store.proofs.replaced.Statement.{statement}
-use Rattle.store.proofs.replaced.Tie as tie
+use Rattle.octets.proofs.replaced.Statement.{statement}
+use Rattle.octets.proofs.replaced.Tie as tie
 
 mul-result : tie.Need-mul-result
 mul-result c = search needs

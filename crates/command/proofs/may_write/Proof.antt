@@ -1,6 +1,6 @@
 use borrow.Author.Needs.{needs}
-use Rattle.store.proofs.may_write.Statement.{statement}
-use Rattle.store.proofs.may_write.Tie as tie
+use Rattle.command.proofs.may_write.Statement.{statement}
+use Rattle.command.proofs.may_write.Tie as tie
 
 enum-told : tie.Need-enum-told
 enum-told c = search needs

@@ -2,8 +2,8 @@ use native.Mathlib.Omega.{arith}
 use mathlib.Core.Path.{_≡_}
 use native.Mathlib.Nat.{div-one}
 use borrow.Author.Needs.{needs}
-use Rattle.store.proofs.byte_at.Statement.{statement}
-use Rattle.store.proofs.byte_at.Tie as tie
+use Rattle.octets.proofs.byte_at.Statement.{statement}
+use Rattle.octets.proofs.byte_at.Tie as tie
 
 cast-result : tie.Need-cast-result
 cast-result c = search needs
