@@ -21,7 +21,7 @@ tab-drop (suc n) i x e = ap (λ (r : List ℕ). getD x i 0 ∷ r) (tab-drop n (s
 pub elements : (n : ℕ) (x : List ℕ) → length x ≡ n → tab 0 n x ≡ x
 elements n x e = tab-drop n 0 x (omega arith)
 
--- what `copy` leaves: as long as before, the front as it was, the bytes put, the rest as it was
+-- what `putAt` leaves: as long as before, the front as it was, the bytes put, the rest as it was
 module _ (d : List ℕ) (at : ℕ) (x : List ℕ) (fits : at + length x ≤ length d) where
   put-head : length (take at d ++ x) ≡ at + length x
   put-head = length-append (take at d) x ∙ ap (λ (n : ℕ). n + length x) (length-take-le at d (omega arith))
@@ -62,7 +62,7 @@ bytes-take (suc k) [] b i = omega arith
 bytes-take (suc k) (x ∷ xs) b zero = b zero
 bytes-take (suc k) (x ∷ xs) b (suc i) = bytes-take k xs (λ j. b (suc j)) i
 
--- a byte replaced: the number stays below 2 ^ 32.
+-- a byte replaced: the number stays below 2 ^ 32
 pub replace-small : (k b s : ℕ) → k < 4 → b < 256 → s < 2 ^ 32 → replace k b s < 2 ^ 32
 unfolding replace
 replace-small zero b s k h l = omega arith
@@ -71,7 +71,7 @@ replace-small (suc (suc zero)) b s k h l = omega arith
 replace-small (suc (suc (suc zero))) b s k h l = omega arith
 replace-small (suc (suc (suc (suc n)))) b s k h l = absurd (omega arith)
 
--- byte j after byte k was replaced by b: b where j is k, else unchanged.
+-- byte j after byte k was replaced by b: b where j is k, else unchanged
 pub replace-byte : (k j b s : ℕ) → k < 4 → j < 4 → b < 256 → replace k b s / 256 ^ j % 256 ≡ cond (eqb k j) b (s / 256 ^ j % 256)
 unfolding replace
 replace-byte zero zero b s k j h = omega arith

@@ -1,3 +1,4 @@
+-- Each read brings that the list's numbers are bytes (`shared-slice-known`).
 use borrow.Author.Needs.{needs}
 use Prim.Native.Nat.{_+_}
 use native.Mathlib.Omega.{arith}
