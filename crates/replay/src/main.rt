@@ -4,7 +4,6 @@ ghost use Prim.Native.Nat.{_≤_};
 ghost use lib.ListN.{length};
 use libc::STDERR_FILENO;
 use libc::STDIN_FILENO;
-use libc::STDOUT_FILENO;
 use record::Framed;
 
 // Writes the line of one answer. Answers the bytes that its record takes; 0 where no whole record is there.
@@ -12,9 +11,7 @@ fn show(rest: &[u8], offset: usize, answer: &[u8]) -> usize
     requires { ⌜ 8 ≤ length (now answer) ⌝ }
     ensures { λ r. ⌜ r ≤ length (now (rest .entry)) ⌝ }
 {
-    let mut text = [0u8; 128];
-    let n = report::line(&mut text, offset, rest, answer);
-    io::write_all(STDOUT_FILENO, &text[..n]);
+    show::answer(offset, rest, answer);
     match record::frame(rest) {
         Framed::Whole(size) => size,
         Framed::Cut => 0,
@@ -32,19 +29,12 @@ fn show_all(list: &[u8], answers: &[u8]) {
     }
 }
 
-// Writes the line of the run.
-fn show_end(stop: u8, consumed: usize, written: usize) {
-    let mut text = [0u8; 128];
-    let n = report::end(&mut text, stop, consumed, written);
-    io::write_all(STDOUT_FILENO, &text[..n]);
-}
-
 // Runs the list, and writes all its lines. A record has 4 bytes or more and its answer 8, so every answer of a list has its place.
 fn replay(list: &[u8], mut answers: [u8; 2097152]) {
     let r = run::run(machine::fresh(), list, &mut answers);
     let w = r.written;
     show_all(list, &answers[..w]);
-    show_end(r.stop, r.consumed, w);
+    show::end(r.stop, r.consumed, w);
 }
 
 // Reads the list. The room has one byte more than a list may have, by which a longer one is noticed.

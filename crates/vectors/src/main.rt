@@ -1,73 +1,107 @@
 // Runs the script on standard input: the samples, as lines that do something or say something. docs/FORMATS.md has their language.
-ghost use Prim.Native.Nat.{_≤_};
+ghost use mathlib.Core.Path.{_≡_};
+ghost use Rattle.image.specs.Image.{imageLength};
 ghost use lib.ListN.{length};
+use operations::Order;
 
-mod bench;
-mod lists;
-mod words;
-
-// A line of an operation and its numbers: the value seen then, or 256 where it is bad.
-fn operation(image: &mut [u8], text: &[u8], value: u64) -> u64
-    requires { ⌜ 1 ≤ length (now text) ⌝ }
+// Makes the machine fresh: 0.
+fn fresh(image: &mut [u8]) -> u64
+    requires { ⌜ length (now image) ≡ imageLength ⌝ }
 {
-    let op = text[0];
-    let first = words::number(text, 1);
-    let second = words::number(text, first.end);
-    let a = first.value;
-    let b = second.value;
-    if second.end < text.len() {
-        return 256;
+    image::save(image, machine::fresh());
+    0
+}
+
+// Runs a list, and prints what its operation shows.
+fn carry_out(image: &mut [u8], op: u8, list: &[u8], answers: &mut [u8])
+    requires { ⌜ length (now image) ≡ imageLength ⌝ }
+{
+    let r = run::run(image::load(image), list, answers);
+    image::save(image, r.machine);
+    show::shown(op, list, answers, r.stop, r.consumed, r.written);
+}
+
+// A line of an answer room, whose bytes hold $ee, and a list: the value as it was, or 256 where the line is bad.
+fn raw(image: &mut [u8], op: u8, text: &[u8], value: u64) -> u64
+    requires { ⌜ length (now image) ≡ imageLength ⌝ }
+{
+    let mut answers = [0xee; 32];
+    let given = words::read_list(text);
+    let list = given.list;
+    let size = given.size;
+    let room = given.room;
+    if given.good {
+        carry_out(image, op, &list[..size], &mut answers[..room]);
+        return value;
     }
-    if !words::known(op, a, b) {
-        return 256;
+    256
+}
+
+// One access: the value of its answer.
+fn once(image: &mut [u8], x: Order) -> u8
+    requires { ⌜ length (now image) ≡ imageLength ⌝ }
+{
+    let list = operations::record(x);
+    let mut answers = [0u8; 8];
+    carry_out(image, x.op, &list, &mut answers);
+    answers[4]
+}
+
+// The accesses of an operation: the value seen.
+fn many(image: &mut [u8], x: Order, value: u64) -> u64
+    requires { ⌜ length (now image) ≡ imageLength ⌝ }
+{
+    let n = operations::accesses(x);
+    let mut byte = operations::start(x, value);
+    let mut k: u64 = 0;
+    while k < n {
+        let read = once(image, operations::access(x, k, byte));
+        byte = operations::seen(x.op, k, byte, read);
+        k += 1;
     }
+    byte
+}
+
+// A line of an operation: the value seen then, or 256 where it is bad.
+fn operation(image: &mut [u8], x: Order, value: u64) -> u64
+    requires { ⌜ length (now image) ≡ imageLength ⌝ }
+{
+    let op = x.op;
     match op {
-        b'm' | b'z' => bench::byte(image, op, a, b),
-        b'b' | b't' => bench::many(image, op, 0, 0, b, a),
-        b'g' | b's' => bench::many(image, op, 0, 0, value, a),
-        _ => bench::many(image, op, a, b, 0, 1),
+        0 => 256,
+        b'm' | b'z' => operations::byte(image, x),
+        _ => many(image, x, value),
     }
 }
 
 // One line: the value seen then, or 256 or more where it is bad. An empty line makes the machine fresh.
-fn line(image: &mut [u8], text: &[u8], value: u64) -> u64 {
+fn line(image: &mut [u8], text: &[u8], value: u64) -> u64
+    requires { ⌜ length (now image) ≡ imageLength ⌝ }
+{
     if text.len() == 0 {
-        return lists::fresh(image);
+        return fresh(image);
     }
     let c = text[0];
     match c {
         b'#' => value,
-        b'-' | b'.' => words::say(text, value),
-        b'x' | b'l' | b'e' => lists::raw(image, text, value),
-        _ => operation(image, text, value),
+        b'-' | b'.' => show::say(text, value),
+        b'x' | b'l' | b'e' => raw(image, c, text, value),
+        _ => operation(image, words::read_order(text), value),
     }
-}
-
-// The end of the line that begins at `at`.
-fn line_end(s: &[u8], at: usize) -> usize
-    requires { ⌜ at ≤ length (now s) ⌝ }
-    ensures { λ r. ⌜ (at ≤ r) × (r ≤ length (now (s .entry))) ⌝ }
-{
-    let mut end = at;
-    while end < s.len() {
-        if s[end] == b'\n' {
-            return end;
-        }
-        end += 1;
-    }
-    end
 }
 
 // The lines of the script, up to one that is bad.
-fn script(image: &mut [u8], s: &[u8]) {
+fn script(image: &mut [u8], s: &[u8])
+    requires { ⌜ length (now image) ≡ imageLength ⌝ }
+{
     let mut at: usize = 0;
     let mut number: u64 = 1;
     let mut value: u64 = 0;
     while at < s.len() {
-        let end = line_end(s, at);
+        let end = words::line_end(s, at);
         value = line(image, &s[at..end], value);
         if 255 < value {
-            words::say(b". line #: not understood", number);
+            show::say(b". line #: not understood", number);
             return;
         }
         number = std::num::wrapping_add_u64(number, 1);
@@ -77,11 +111,11 @@ fn script(image: &mut [u8], s: &[u8]) {
 
 fn main() {
     let mut image = [0; image::LENGTH];
-    lists::fresh(&mut image);
+    fresh(&mut image);
     let mut text = io::large_buffer();
     let n = io::read_full(0, &mut text);
     if text.len() <= n {
-        words::say(b". the script is too long", 0);
+        show::say(b". the script is too long", 0);
         return;
     }
     script(&mut image, &text[..n]);

@@ -8,7 +8,6 @@ use Rattle.replay.proofs.replay.Reads as reads
 use Rattle.replay.proofs.replay.Lts as lts
 use Rattle.machine.proofs.fresh.Reads as fresh-reads
 use Rattle.replay.proofs.show_all.Reads as show-all-reads
-use Rattle.replay.proofs.show_end.Reads as show-end-reads
 use Rattle.run.proofs.run.Reads as run-reads
 
 fresh-requires : tie.Need-fresh-requires
@@ -29,8 +28,8 @@ slice-aggregate-show-all c = sym (length-take-le _ _ (omega arith))
 show-all-requires : tie.Need-show-all-requires
 show-all-requires c κs = search needs
 
-show-end-requires : tie.Need-show-end-requires
-show-end-requires c κs = search needs
+end-requires : tie.Need-end-requires
+end-requires c κs = search needs
 
 returns : tie.Need-returns
 returns c = search needs
@@ -45,5 +44,5 @@ replay-spec =
     array-share-prefix-answers
     slice-aggregate-show-all
     show-all-requires
-    show-end-requires
+    end-requires
     returns)

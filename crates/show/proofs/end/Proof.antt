@@ -1,13 +1,9 @@
-use lib.Seq.{length-take-le}
 use mathlib.Core.Path.{sym}
+use lib.Seq.{length-take-le}
 use native.Mathlib.Omega.{arith}
 use borrow.Author.Needs.{needs}
-use Rattle.replay.proofs.show_end.Statement.{statement}
-use Rattle.replay.proofs.show_end.Tie as tie
-use Rattle.replay.proofs.show_end.Reads as reads
-use Rattle.replay.proofs.show_end.Lts as lts
-use Rattle.io.proofs.write_all.Reads as write-all-reads
-use Rattle.report.proofs.end.Reads as end-reads
+use Rattle.show.proofs.end.Statement.{statement}
+use Rattle.show.proofs.end.Tie as tie
 
 slice-aggregate-end : tie.Need-slice-aggregate-end
 slice-aggregate-end c = search needs
@@ -27,8 +23,8 @@ write-all-requires c κs = search needs
 returns : tie.Need-returns
 returns c = search needs
 
-pub show-end-spec : {M : Type 1} → statement M
-show-end-spec =
+pub end-spec : {M : Type 1} → statement M
+end-spec =
     tie.close
     (tie.spec
     slice-aggregate-end

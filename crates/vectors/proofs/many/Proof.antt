@@ -1,35 +1,42 @@
 use borrow.Author.Needs.{needs}
 use mathlib.Core.Path.{_≡_}
+use Prim.Native.Nat.{_-_}
 use lib.ListN.{length}
-use Rattle.vectors.proofs.bench.many.Statement.{statement}
-use Rattle.vectors.proofs.bench.many.Tie as tie
+use Rattle.vectors.proofs.many.Statement.{statement}
+use Rattle.vectors.proofs.many.Tie as tie
 
 abbrev Inv-loop : tie.InvT-loop
-Inv-loop image₀ op a b byte count rest₀ left₀ image rest left = length image ≡ length image₀
+Inv-loop image₀ x value n byte₀ k₀ image byte k = length image ≡ length image₀
 
 abbrev μ-loop : tie.MeasureT-loop
-μ-loop image₀ op a b byte count rest₀ left₀ image rest left = left
+μ-loop image₀ x value n byte₀ k₀ image byte k = n - k
 
-cast-rest : tie.Need-cast-rest Inv-loop μ-loop
-cast-rest c = search needs
+accesses-requires : tie.Need-accesses-requires Inv-loop μ-loop
+accesses-requires c κs = search needs
+
+start-requires : tie.Need-start-requires Inv-loop μ-loop
+start-requires c κs = search needs
 
 loop-holds : tie.Need-loop-holds Inv-loop μ-loop
 loop-holds c = search needs
 
+access-requires : tie.Need-access-requires Inv-loop μ-loop
+access-requires c κs = search needs
+
 once-requires : tie.Need-once-requires Inv-loop μ-loop
 once-requires c κs = search needs
 
-sub-left : tie.Need-sub-left Inv-loop μ-loop
-sub-left c = search needs
+seen-requires : tie.Need-seen-requires Inv-loop μ-loop
+seen-requires c κs = search needs
+
+add-k : tie.Need-add-k Inv-loop μ-loop
+add-k c = search needs
 
 loop-less : tie.Need-loop-less Inv-loop μ-loop
 loop-less c = search needs
 
 loop-again : tie.Need-loop-again Inv-loop μ-loop
 loop-again c = search needs
-
-wide-requires : tie.Need-wide-requires Inv-loop μ-loop
-wide-requires c κs = search needs
 
 same-length : tie.Need-same-length Inv-loop μ-loop
 same-length c = search needs
@@ -43,12 +50,14 @@ many-spec =
     (tie.spec
     Inv-loop
     μ-loop
-    cast-rest
+    accesses-requires
+    start-requires
     loop-holds
+    access-requires
     once-requires
-    sub-left
+    seen-requires
+    add-k
     loop-less
     loop-again
-    wide-requires
     same-length
     returns)

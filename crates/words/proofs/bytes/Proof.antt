@@ -2,8 +2,8 @@ use borrow.Author.Needs.{needs}
 use mathlib.Core.Path.{_≡_}
 use Prim.Native.Nat.{_-_}
 use lib.ListN.{length}
-use Rattle.vectors.proofs.lists.bytes.Statement.{statement}
-use Rattle.vectors.proofs.lists.bytes.Tie as tie
+use Rattle.words.proofs.bytes.Statement.{statement}
+use Rattle.words.proofs.bytes.Tie as tie
 
 abbrev Inv-loop : tie.InvT-loop
 Inv-loop list₀ text from n₀ at₀ list n at = length list ≡ length list₀

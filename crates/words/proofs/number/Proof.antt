@@ -1,13 +1,13 @@
 use borrow.Author.Needs.{needs}
 use Prim.Native.Nat.{_-_}
 use lib.ListN.{length}
-use Rattle.vectors.proofs.words.number.Statement.{statement}
-use Rattle.vectors.proofs.words.number.Tie as tie
-use Rattle.vectors.proofs.words.number.Reads as reads
-use Rattle.vectors.proofs.words.number.Lts as lts
+use Rattle.words.proofs.number.Statement.{statement}
+use Rattle.words.proofs.number.Tie as tie
+use Rattle.words.proofs.number.Reads as reads
+use Rattle.words.proofs.number.Lts as lts
 use Rattle.std.proofs.num.wrapping_add_usize.Reads as wrapping-add-usize-reads
-use Rattle.vectors.proofs.words.grown.Reads as grown-reads
-use Rattle.vectors.proofs.words.spaced.Reads as spaced-reads
+use Rattle.words.proofs.grown.Reads as grown-reads
+use Rattle.words.proofs.spaced.Reads as spaced-reads
 
 abbrev Inv-loop : tie.InvT-loop
 Inv-loop text at end₀ value₀ hex₀ first₀ end value hex first = Unit {0}

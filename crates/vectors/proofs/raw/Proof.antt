@@ -2,20 +2,11 @@ use borrow.Author.Needs.{needs}
 use mathlib.Core.Path.{sym}
 use native.Mathlib.Omega.{arith}
 use lib.Seq.{length-take-le}
-use Rattle.vectors.proofs.lists.raw.Statement.{statement}
-use Rattle.vectors.proofs.lists.raw.Tie as tie
+use Rattle.vectors.proofs.raw.Statement.{statement}
+use Rattle.vectors.proofs.raw.Tie as tie
 
-number-requires : tie.Need-number-requires
-number-requires c κs = search needs
-
-slice-aggregate-bytes : tie.Need-slice-aggregate-bytes
-slice-aggregate-bytes c = search needs
-
-bytes-requires : tie.Need-bytes-requires
-bytes-requires c κs = search needs
-
-shared-slice-read-carry-out : tie.Need-shared-slice-read-carry-out
-shared-slice-read-carry-out c = search needs
+read-list-requires : tie.Need-read-list-requires
+read-list-requires c κs = search needs
 
 array-share-prefix-list : tie.Need-array-share-prefix-list
 array-share-prefix-list c = search needs
@@ -41,17 +32,11 @@ returns c = search needs
 returns-2 : tie.Need-returns-2
 returns-2 c = search needs
 
-returns-3 : tie.Need-returns-3
-returns-3 c = search needs
-
 pub raw-spec : {M : Type 1} → statement M
 raw-spec =
     tie.close
     (tie.spec
-    number-requires
-    slice-aggregate-bytes
-    bytes-requires
-    shared-slice-read-carry-out
+    read-list-requires
     array-share-prefix-list
     slice-aggregate-carry-out
     array-borrow-prefix-answers
@@ -59,5 +44,4 @@ raw-spec =
     carry-out-requires
     same-length
     returns
-    returns-2
-    returns-3)
+    returns-2)

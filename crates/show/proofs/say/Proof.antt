@@ -1,12 +1,12 @@
 use borrow.Author.Needs.{needs}
 use Prim.Native.Nat.{_-_}
 use lib.ListN.{length}
-use Rattle.vectors.proofs.words.say.Statement.{statement}
-use Rattle.vectors.proofs.words.say.Tie as tie
-use Rattle.vectors.proofs.words.say.Reads as reads
-use Rattle.vectors.proofs.words.say.Lts as lts
-use Rattle.vectors.proofs.words.place.Reads as place-reads
-use Rattle.vectors.proofs.words.spaced.Reads as spaced-reads
+use Rattle.show.proofs.say.Statement.{statement}
+use Rattle.show.proofs.say.Tie as tie
+use Rattle.show.proofs.say.Reads as reads
+use Rattle.show.proofs.say.Lts as lts
+use Rattle.show.proofs.place.Reads as place-reads
+use Rattle.words.proofs.spaced.Reads as spaced-reads
 
 abbrev Inv-loop : tie.InvT-loop
 Inv-loop text value at₀ at = Unit {0}

@@ -2,11 +2,8 @@ use mathlib.Core.Path.{sym}
 use lib.Seq.{length-take-le}
 use native.Mathlib.Omega.{arith}
 use borrow.Author.Needs.{needs}
-use Rattle.vectors.proofs.lists.show_line.Statement.{statement}
-use Rattle.vectors.proofs.lists.show_line.Tie as tie
-
-returns : tie.Need-returns
-returns c = search needs
+use Rattle.show.proofs.answer.Statement.{statement}
+use Rattle.show.proofs.answer.Tie as tie
 
 slice-aggregate-line : tie.Need-slice-aggregate-line
 slice-aggregate-line c = search needs
@@ -23,17 +20,16 @@ slice-aggregate-write-all c = sym (length-take-le _ _ (omega (arith, c .before .
 write-all-requires : tie.Need-write-all-requires
 write-all-requires c κs = search needs
 
-returns-2 : tie.Need-returns-2
-returns-2 c = search needs
+returns : tie.Need-returns
+returns c = search needs
 
-pub show-line-spec : {M : Type 1} → statement M
-show-line-spec =
+pub answer-spec : {M : Type 1} → statement M
+answer-spec =
     tie.close
     (tie.spec
-    returns
     slice-aggregate-line
     line-requires
     array-share-prefix-text
     slice-aggregate-write-all
     write-all-requires
-    returns-2)
+    returns)
