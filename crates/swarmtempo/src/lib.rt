@@ -5,7 +5,7 @@ ghost use mathlib.Core.Bool.{true};
 ghost use Rattle.image.specs.Image.{imageLength, machineOf, validImage};
 ghost use Rattle.demand3.specs.Runs.{Run3};
 ghost use Rattle.units.specs.Units.{ticksOf};
-ghost use Rattle.swarmtempo.specs.Call.{callOf, callImage, callAnswers, freshStop, freshImage};
+ghost use Rattle.call.specs.Call.{callOf, callImage, callAnswers, freshStop, freshImage};
 use units::Micros;
 
 // The length of an image in bytes.

@@ -10,7 +10,7 @@ use lib.Seq.{length-take-le}
 use Rattle.octets.specs.Octets.{putAt}
 use Rattle.machine.specs.Machine.{freshMachine}
 use Rattle.image.specs.Image.{imageOf}
-use Rattle.swarmtempo.specs.Call.{freshStop, freshImage}
+use Rattle.call.specs.Call.{freshStop, freshImage}
 use Rattle.swarmtempo.proofs.swarmtempo_fresh.Statement.{statement}
 use Rattle.swarmtempo.proofs.swarmtempo_fresh.Tie as tie
 use Rattle.swarmtempo.proofs.swarmtempo_fresh.Reads as reads

@@ -2,7 +2,7 @@ use Rattle.image.specs.Image.{imageLength, validImage}
 use lib.ListN.{length}
 use Rattle.image.proofs.Round.{valid-is}
 use mathlib.Core.Bool.{true, false}
-use Rattle.swarmtempo.proofs.Call as call
+use Rattle.call.proofs.Entry as call
 use borrow.Author.Tests.{not-true, not-false, lt-ltb, le-ltb}
 use denote.Ref.{now}
 use mathlib.Core.Path.{_≡_, sym, ap, _∙_}

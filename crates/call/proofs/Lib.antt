@@ -1,0 +1,3 @@
+pub mod Call
+pub mod Entry
+pub mod Fresh
