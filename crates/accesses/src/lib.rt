@@ -6,7 +6,7 @@ ghost use Rattle.levels.specs.Levels.{allLevels};
 ghost use Rattle.via.specs.Writes.{written};
 ghost use Rattle.iwm.specs.Lines.{accessed};
 ghost use Rattle.machine.specs.Machine.{withVia, withDisk, noValue, Levels};
-ghost use Rattle.accesses.specs.Accesses.{viaRead, iwmRead};
+ghost use Rattle.meaning.specs.Accesses.{viaRead, iwmRead};
 use machine::Did;
 use machine::Machine;
 
@@ -19,7 +19,7 @@ pub fn read_via(mut m: Machine, register: u8) -> Did
     let lines = m.inputs;
     let c = m.clock;
     let p = c.phase;
-    let outside = wiring::inputs_of(phase::shown_line(p), lines);
+    let outside = wiring::inputs_of(edges::shown_line(p), lines);
     let a = registers::read(m.via, register, outside);
     let v = a.via;
     m.via = v;
@@ -43,10 +43,10 @@ pub fn read_iwm(mut m: Machine, location: u8) -> Did
             value: 255,
         };
     }
-    let at = d.sense_at(wiring::sel_of(m.via.ports));
+    let at = linebytes::sense_at(d, pins::sel_of(m.via.ports));
     let levels = m.sense;
     let stored = levels[at as usize];
-    let sense = m.drives.shown(at, stored);
+    let sense = drivelines::shown(m.drives, at, stored);
     Did {
         machine: m,
         value: d.read(location, sense),

@@ -2,7 +2,7 @@
 ghost use mathlib.Core.Path.{_≡_};
 ghost use Rattle.items.specs.Items.{InRange};
 ghost use Rattle.machine.specs.Machine.{Levels};
-ghost use Rattle.action.specs.Action.{actedOf};
+ghost use Rattle.meaning.specs.Action.{actedOf};
 use items::Item;
 use machine::Did;
 use machine::Machine;

@@ -126,7 +126,7 @@ answers-long i l d = go (validImage i) refl
 
 -- ---- no other call gets 7
 
--- A run of an accepted state does not stop with 7.
+-- Going through the pieces of a list never stops with 7.
 stops : (ps : List Piece) (m : Machine) (room : ℕ) → runPieces m ps room .stop < 7
 unfolding runPieces onPiece onto
 stops [] m room = omega arith

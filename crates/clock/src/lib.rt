@@ -115,7 +115,7 @@ impl Clock {
         requires { ⌜ acceptedPhase 20 (self .phase) (before .enable) ≡ true ⌝ }
         ensures { λ r. ⌜ r ≡ stepWires 20 self before after ⌝ }
     {
-        match phase::edge_between(before, after) {
+        match edges::edge_between(before, after) {
             Edge::Up => {
                 let s = self.store;
                 Clock {

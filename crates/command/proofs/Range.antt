@@ -4,6 +4,7 @@ use mathlib.Core.Bool.{Bool, true, false, cond}
 use Prim.Native.Nat.{ℕ, _+_, _-_, _/_, _%_, _≤_}
 use native.Mathlib.Omega.{arith}
 use lib.Dec.{ltb, leb, eqb}
+use mir.Val.{boolByte}
 use borrow.Author.Tests.{ltb-true}
 use Rattle.command.specs.Command.{either, writeOnly, cellOf, named, decode, bit, InRange, Legal}
 use Rattle.command.specs.declared.Target.{Target}
@@ -12,6 +13,11 @@ use Rattle.command.specs.declared.Target.the-variants.{Seconds, Test, Pr
 pub bit-le : (b : Bool) → bit b ≤ 1
 bit-le true = omega arith
 bit-le false = omega arith
+
+-- A level cast to a byte.
+pub cast : (b : Bool) → boolByte b ≡ bit b
+cast true = refl
+cast false = refl
 
 -- A test's two outcomes.
 abbrev pub cond-case : {A : Type 0} (P : A → Type 0) (t : Bool) {x y : A} → (t ≡ true → P x) → (t ≡ false → P y) → P (cond t x y)

@@ -1,4 +1,4 @@
-// The clock chip's commands: what a byte asks, by its bit pattern.
+// The clock chip's commands: what a byte asks, by its bit pattern; and what protect forbids.
 ghost use mathlib.Core.Path.{_≡_};
 ghost use Prim.Native.Nat.{_<_};
 ghost use Rattle.command.specs.Command.{either, writeOnly, cellOf, named, decode, isWrite};

@@ -22,11 +22,11 @@ use Rattle.addresses.specs.Addresses.{placeFrom, foundOf}
 use Rattle.items.specs.Items.{writeOf, powerOf}
 use Rattle.kinds.specs.Kinds.{isKind, decodedOf}
 use Rattle.machine.specs.declared.Machine.{Machine}
-use Rattle.wiring.specs.Wiring.{wiresOf}
+use Rattle.pins.specs.Pins.{wiresOf}
 use Rattle.machine.specs.Machine.{acceptedOf, freshMachine}
-use Rattle.action.specs.Action.{eventOf, actedOf}
-use Rattle.stages.specs.Stages.{waitOf, refusesOf}
-use Rattle.step.specs.Step.{stepOf}
+use Rattle.meaning.specs.Action.{eventOf, actedOf}
+use Rattle.meaning.specs.Stages.{waitOf, refusesOf}
+use Rattle.meaning.specs.Step.{stepOf}
 use Rattle.outcome.specs.Turn.{turnOf}
 use Rattle.outcome.specs.Outcome.{cut, piecesFrom, onto, onPiece, runPieces, runOf}
 use Rattle.history.specs.History.{History, wiresAt, rises, ended, protectAt, endedClear, last, secondsAt}

@@ -26,14 +26,14 @@ use Rattle.items.specs.declared.Decoded.{Decoded}
 use Rattle.items.specs.declared.Decoded.the-variants.{Done, Refused}
 use Rattle.kinds.specs.Kinds.{decodedOf}
 use Rattle.machine.specs.declared.Machine.{Machine}
-use Rattle.wiring.specs.Wiring.{pin, wiresOf}
+use Rattle.pins.specs.Pins.{pin, wiresOf}
 use Rattle.machine.specs.Machine.{cellCount, wires, acceptedOf, freshMachine}
-use Rattle.accesses.specs.Accesses.{viaRead, iwmRead}
-use Rattle.action.specs.Action.{eventOf, actedOf}
-use Rattle.stages.specs.Stages.{waitOf, waited, refusesOf}
-use Rattle.step.specs.Step.{stepOf}
+use Rattle.meaning.specs.Accesses.{viaRead, iwmRead}
+use Rattle.meaning.specs.Action.{eventOf, actedOf}
+use Rattle.meaning.specs.Stages.{waitOf, waited, refusesOf}
+use Rattle.meaning.specs.Step.{stepOf}
 use Rattle.machine.proofs.Laws.{parts}
-use Rattle.step.proofs.Drives.{disk-wires}
+use Rattle.meaning.proofs.Drives.{disk-wires}
 use Rattle.outcome.specs.Turn.{refused, carriedOut, turnBy, turnOf}
 use Rattle.outcome.specs.Outcome.{Piece, whole, broken, pieces, halt, onto, onPiece, runPieces, runOf}
 use Rattle.history.specs.History.{wiresAt}

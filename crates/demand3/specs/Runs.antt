@@ -12,8 +12,8 @@ use Rattle.items.specs.declared.Decoded.the-variants.{Done, Refused}
 use Rattle.kinds.specs.Kinds.{decodedOf}
 use Rattle.machine.specs.declared.Machine.{Machine}
 use Rattle.machine.specs.Machine.{cellCount, wires}
-use Rattle.action.specs.Action.{eventOf}
-use Rattle.stages.specs.Stages.{refusesOf}
+use Rattle.meaning.specs.Action.{eventOf}
+use Rattle.meaning.specs.Stages.{refusesOf}
 use Rattle.outcome.specs.Turn.{turnOf}
 use Rattle.outcome.specs.Outcome.{Piece, whole, broken, pieces}
 use Rattle.history.specs.History.{Start, Entry, History, cellAt, testAt, protectAt, secondsAt, gained, Kept}

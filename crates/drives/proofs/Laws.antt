@@ -10,8 +10,9 @@ use Rattle.control.specs.Control.{diskMoved, registerWritten}
 use Rattle.sense.specs.Sense.{level, drivesSense, senseOf, shownOf, acceptedDrive}
 use Rattle.drive.proofs.Ticks.{driveTicks-add}
 use Rattle.sense.proofs.Ranges.{fresh-accepted, inserted-accepted, removed-accepted, powered-accepted, registerWritten-accepted, driveTicks-accepted}
-use Rattle.strobe.specs.declared.Watched.{Watched}
-use Rattle.strobe.specs.Strobe.{registerOf, strobeAfter, strobeWrites, acceptedStrobe}
+use Rattle.watched.specs.declared.Watched.{Watched}
+use Rattle.watched.specs.Watched.{registerOf}
+use Rattle.strobe.specs.Strobe.{strobeAfter, strobeWrites, acceptedStrobe}
 use Rattle.strobe.proofs.Ticks.{strobeTicks-add}
 use Rattle.strobe.proofs.Pulses.{level-writes-nothing, untouched}
 use Rattle.strobe.proofs.Bounds.{quiet-accepted, strobeTicks-accepted, strobeAfter-accepted}

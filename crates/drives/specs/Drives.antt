@@ -1,4 +1,5 @@
 -- The two drives and the strobe that writes to them, by request W-203: "Model two drives by source document 004."
+-- The code of `drivesAfter`, `drivesShown` and `acceptedDrives` is in drivelines.
 use Prim.Native.Nat.{ℕ, _/_, _%_}
 use mathlib.Core.Bool.{Bool, true, false, not, _&&_}
 use lib.Dec.{eqb}
@@ -7,8 +8,9 @@ use Rattle.drive.specs.Drive.{freshDrive, driveTicks, powered}
 use Rattle.control.specs.Control.{diskMoved, registerWritten}
 use Rattle.sense.specs.Sense.{shownOf, acceptedDrive}
 use Rattle.strobe.specs.declared.Strobe.{Strobe}
-use Rattle.strobe.specs.declared.Watched.{Watched}
-use Rattle.strobe.specs.Strobe.{quiet, strobeTicks, strobeAfter, registerOf, strobeWrites, acceptedStrobe}
+use Rattle.watched.specs.declared.Watched.{Watched}
+use Rattle.watched.specs.Watched.{registerOf}
+use Rattle.strobe.specs.Strobe.{quiet, strobeTicks, strobeAfter, strobeWrites, acceptedStrobe}
 use Rattle.drives.specs.declared.Drives.{Drives}
 
 -- ---- the state, field by field

@@ -1,12 +1,9 @@
-// The two drives and the strobe that writes to them.
+// The two drives and the strobe that writes to them: time, disks and power.
 ghost use mathlib.Core.Path.{_≡_};
-ghost use mathlib.Core.Bool.{true, false};
-ghost use Rattle.drives.specs.Drives.{freshDrives, drivesTicks, placed, placeRefused, drivesPowered, drivesAfter, drivesShown, acceptedDrives};
+ghost use Rattle.drives.specs.Drives.{freshDrives, drivesTicks, placed, placeRefused, drivesPowered};
 use control::move_disk;
-use control::write_register;
 use drive::Drive;
 use strobe::Strobe;
-use strobe::Watched;
 
 pub struct Drives {
     pub internal: Drive,
@@ -70,43 +67,5 @@ impl Drives {
             external: self.external.power_cut(),
             strobe: strobe,
         }
-    }
-
-    // The drives after an item, whose wait and action are over, with these levels before and after it.
-    pub fn after(self, before: Watched, after: Watched) -> Drives
-        ensures { λ r. ⌜ r ≡ drivesAfter before after self ⌝ }
-    {
-        let mut next = self;
-        if !(before.lstrb | after.lstrb) {
-            next.strobe = Strobe::off();
-            return next;
-        }
-        next.strobe = self.strobe.after(before, after);
-        if self.strobe.writes(before, after) {
-            if after.select {
-                next.external = write_register(self.external, after.register(), after.ca2);
-                return next;
-            }
-            next.internal = write_register(self.internal, after.register(), after.ca2);
-        }
-        next
-    }
-
-    // The level of sense register `place % 16` of the selected drive, where SN gave it the level `stored`.
-    pub fn shown(self, place: u8, stored: u8) -> u8
-        ensures { λ r. ⌜ r ≡ drivesShown place stored self ⌝ }
-    {
-        if place / 16 == 1 {
-            return sense::shown(self.external, place % 16, stored);
-        }
-        sense::shown(self.internal, place % 16, stored)
-    }
-
-    // Whether both drives and the strobe are in their ranges, with these levels.
-    pub fn accepted(self, levels: Watched) -> bool
-        ensures { λ r. ⌜ r ≡ acceptedDrives levels self ⌝ }
-    {
-        sense::accepted(self.internal)
-            & (sense::accepted(self.external) & self.strobe.accepted(levels))
     }
 }

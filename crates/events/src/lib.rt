@@ -7,7 +7,7 @@ ghost use Rattle.store.specs.Shared.{second, off};
 ghost use Rattle.iwm.specs.Lines.{linesOff};
 ghost use Rattle.drives.specs.Drives.{placed, drivesPowered};
 ghost use Rattle.machine.specs.Machine.{withVia, withDisk, withInputs, withSense, withDrives, noValue};
-ghost use Rattle.events.specs.Events.{passed};
+ghost use Rattle.meaning.specs.Events.{passed};
 use machine::Did;
 use machine::Machine;
 
@@ -15,7 +15,7 @@ use machine::Machine;
 pub fn blank(mut m: Machine) -> Did
     ensures { λ r. ⌜ r ≡ noValue (withVia m (raisedOf 2 (m .via))) ⌝ }
 {
-    m.via = m.via.raise(2);
+    m.via = viaflags::raise(m.via, 2);
     Did {
         machine: m,
         value: 0,
@@ -26,7 +26,7 @@ pub fn blank(mut m: Machine) -> Did
 pub fn second(mut m: Machine) -> Did
     ensures { λ r. ⌜ r ≡ noValue (passed second (withVia m (raisedOf 1 (m .via)))) ⌝ }
 {
-    m.via = m.via.raise(1);
+    m.via = viaflags::raise(m.via, 1);
     m.clock = m.clock.second();
     Did {
         machine: m,

@@ -1,9 +1,7 @@
 // The IWM as eight lines and a sense bit.
 ghost use mathlib.Core.Path.{_≡_};
-ghost use mathlib.Core.Bool.{true};
-ghost use Prim.Native.Nat.{_<_, _+_, _*_};
-ghost use Rattle.levels.specs.Levels.{allLevels};
-ghost use Rattle.iwm.specs.Lines.{linesOff, accessed, lineByteOf, senseAt, readLine};
+ghost use Prim.Native.Nat.{_<_};
+ghost use Rattle.iwm.specs.Lines.{linesOff, accessed, readLine};
 
 // CA0, CA1, CA2, LSTRB, ENABLE, SELECT, Q6, Q7 as levels: 0 is off, 1 is on.
 pub struct DiskLines {
@@ -16,14 +14,6 @@ pub fn off() -> DiskLines
     DiskLines { lines: [0; 8] }
 }
 
-// Four levels as a number, the first in bit 0.
-fn nibble(a: u8, b: u8, c: u8, d: u8) -> u8
-    requires { ⌜ (a < 2) × (b < 2) × (c < 2) × (d < 2) ⌝ }
-    ensures { λ r. ⌜ (r ≡ a + 2 * b + 4 * c + 8 * d) × (r < 16) ⌝ }
-{
-    a + 2 * b + 4 * c + 8 * d
-}
-
 impl DiskLines {
     // An access of location 0 to 15, read or write.
     pub fn access(self, location: u8) -> DiskLines
@@ -34,28 +24,6 @@ impl DiskLines {
         let i = (location / 2) as usize;
         d.lines[i] = location % 2;
         d
-    }
-
-    // The disk-line byte of an answer.
-    pub fn byte(self) -> u8
-        requires { ⌜ allLevels (self .lines) ≡ true ⌝ }
-        ensures { λ r. ⌜ r ≡ lineByteOf self ⌝ }
-    {
-        let l = self.lines;
-        let low = nibble(l[0], l[1], l[2], l[3]);
-        let high = nibble(l[4], l[5], l[6], l[7]);
-        low + 16 * high
-    }
-
-    // The place of the sense among the 32 sense levels, the internal drive's 16 first.
-    pub fn sense_at(self, sel: u8) -> u8
-        requires { ⌜ (allLevels (self .lines) ≡ true) × (sel < 2) ⌝ }
-        ensures { λ r. ⌜ r ≡ senseAt self sel ⌝ }
-    {
-        let l = self.lines;
-        let register = nibble(sel, l[0], l[1], l[2]);
-        let drive = l[5];
-        16 * drive + register
     }
 
     // The value of a read, after its access; sense is the level at the sense address.

@@ -11,10 +11,11 @@ use Rattle.phase.specs.declared.Wires.{Wires}
 use Rattle.clock.specs.declared.Clock.{Clock}
 use Rattle.phase.specs.Phase.{shown, acceptedPhase}
 use Rattle.clock.specs.Step.{freshClock}
-use Rattle.wiring.specs.Wiring.{wiresOf, selOf, watchedOf}
+use Rattle.pins.specs.Pins.{wiresOf, selOf}
+use Rattle.watched.specs.Watched.{watchedOf}
 use Rattle.iwm.specs.declared.DiskLines.{DiskLines}
 use Rattle.iwm.specs.Lines.{linesOff}
-use Rattle.strobe.specs.declared.Watched.{Watched}
+use Rattle.watched.specs.declared.Watched.{Watched}
 use Rattle.drives.specs.declared.Drives.{Drives}
 use Rattle.drives.specs.Drives.{freshDrives, acceptedDrives}
 use Rattle.machine.specs.declared.Machine.{Machine}

@@ -5,8 +5,8 @@ use clock::Clock;
 use drives::Drives;
 use iwm::DiskLines;
 use phase::Wires;
-use strobe::Watched;
 use via::Via;
+use watched::Watched;
 
 pub struct Machine {
     pub via: Via,
@@ -46,7 +46,7 @@ impl Machine {
     {
         let c = self.clock;
         let p = c.phase;
-        wiring::wires_of(self.via.ports, phase::shown_line(p))
+        pins::wires_of(self.via.ports, edges::shown_line(p))
     }
 
     // The levels that the drives' strobe goes by.
@@ -54,7 +54,7 @@ impl Machine {
         ensures { λ r. ⌜ r ≡ watched self ⌝ }
     {
         let d = self.disk;
-        wiring::watched_of(d, wiring::sel_of(self.via.ports))
+        watched::watched_of(d, pins::sel_of(self.via.ports))
     }
 
     // Whether a run takes this state.
@@ -70,9 +70,9 @@ impl Machine {
         let a = levels::all_levels(&lines);
         let b = levels::all_levels(&inputs);
         let s = levels::all_levels(&sense);
-        let v = self.via.accepted();
+        let v = viaflags::accepted(self.via);
         let k = phase::accepted_phase(p, w.enable);
-        let g = self.drives.accepted(self.watched());
+        let g = drivelines::accepted(self.drives, self.watched());
         a & b & s & v & k & g
     }
 }

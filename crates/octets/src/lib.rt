@@ -1,4 +1,4 @@
-// Bytes and numbers: little-endian numbers in a list of bytes, the bytes of a number, and copying into lent memory.
+// Bytes and numbers: little-endian numbers in a list of bytes, a byte of a number taken or replaced, and copying into lent memory.
 ghost use mathlib.Core.Path.{_≡_};
 ghost use Prim.Native.Nat.{_+_, _/_, _%_, _^_, _≤_, _<_};
 ghost use lib.ListN.{length};

@@ -1,4 +1,6 @@
 // The operations of a script's lines: which there are, the accesses that each makes, the record of an access, the value seen.
+ghost use mathlib.Core.Path.{_≡_};
+ghost use Rattle.operations.specs.Operations.{orderOf, knownOf, accessesOf, accessOf, recordOf, startOf, seenOf, byteOf, changedOf};
 
 // An operation and its two numbers: 0 is none. An access is one of the three single ones: `w`, WR to VIA register `a` of the value `b`; `r` and
 // `i`, RD of VIA register or IWM location `a` after `b` VIA ticks.
@@ -8,12 +10,16 @@ pub struct Order {
     pub b: u64,
 }
 
-fn made(op: u8, a: u64, b: u64) -> Order {
+fn made(op: u8, a: u64, b: u64) -> Order
+    ensures { λ r. ⌜ r ≡ orderOf op a b ⌝ }
+{
     Order { op, a, b }
 }
 
 // Whether an operation is known and takes these numbers.
-pub fn known(op: u8, a: u64, b: u64) -> bool {
+pub fn known(op: u8, a: u64, b: u64) -> bool
+    ensures { λ r. ⌜ r ≡ knownOf op a b ⌝ }
+{
     match op {
         b'w' => (a < 16) & (b < 256),
         b'r' | b'i' => (a < 16) & (b < 65536),
@@ -27,7 +33,9 @@ pub fn known(op: u8, a: u64, b: u64) -> bool {
 }
 
 // How many accesses an operation makes.
-pub fn accesses(x: Order) -> u64 {
+pub fn accesses(x: Order) -> u64
+    ensures { λ r. ⌜ r ≡ accessesOf x ⌝ }
+{
     let op = x.op;
     match op {
         b'w' | b'r' | b'i' => 1,
@@ -38,7 +46,9 @@ pub fn accesses(x: Order) -> u64 {
 }
 
 // Access `k` of an operation. The clock's data is bit 0 of port B, its data-clock bit 1; an input is undriven and 1. Bit 7 of the byte is sent.
-pub fn access(x: Order, k: u64, byte: u64) -> Order {
+pub fn access(x: Order, k: u64, byte: u64) -> Order
+    ensures { λ r. ⌜ r ≡ accessOf x k byte ⌝ }
+{
     let level = byte / 128 % 2;
     let op = x.op;
     match op {
@@ -74,7 +84,9 @@ pub fn access(x: Order, k: u64, byte: u64) -> Order {
 }
 
 // The record of an access, and a byte behind one that is shorter.
-pub fn record(x: Order) -> [u8; 11] {
+pub fn record(x: Order) -> [u8; 11]
+    ensures { λ r. ⌜ r ≡ recordOf x ⌝ }
+{
     let place = 0xe1 + 2 * (x.a % 16) as u8;
     let low = (x.b % 256) as u8;
     let high = (x.b / 256 % 256) as u8;
@@ -87,7 +99,9 @@ pub fn record(x: Order) -> [u8; 11] {
 }
 
 // The byte before an operation: the one to send, or the value before.
-pub fn start(x: Order, value: u64) -> u64 {
+pub fn start(x: Order, value: u64) -> u64
+    ensures { λ r. ⌜ r ≡ startOf x value ⌝ }
+{
     if (x.op == b'b') | (x.op == b't') {
         return x.b;
     }
@@ -95,7 +109,9 @@ pub fn start(x: Order, value: u64) -> u64 {
 }
 
 // The byte after access `k`: the one read; or, once its bit is sent or read, moved up by one bit, with the bit read behind.
-pub fn seen(op: u8, k: u64, byte: u64, read: u8) -> u64 {
+pub fn seen(op: u8, k: u64, byte: u64, read: u8) -> u64
+    ensures { λ r. ⌜ r ≡ seenOf op k byte read ⌝ }
+{
     match op {
         b'r' | b'i' => read as u64,
         b'g' => {
@@ -111,12 +127,17 @@ pub fn seen(op: u8, k: u64, byte: u64, read: u8) -> u64 {
     }
 }
 
-fn wide(x: u8) -> u64 {
+fn wide(x: u8) -> u64
+    ensures { λ r. ⌜ r ≡ x ⌝ }
+{
     x as u64
 }
 
-// A byte of the image, seen or, with `z`, changed.
-pub fn byte(image: &mut [u8], x: Order) -> u64 {
+// A byte of the image, seen or, with `z`, changed; 256 where the image has no such byte.
+pub fn byte(image: &mut [u8], x: Order) -> u64
+    ensures { λ r. ⌜ r ≡ byteOf (now (image .entry)) x ⌝ }
+    ensures { λ _. ⌜ now (image .exit) ≡ changedOf (now (image .entry)) x ⌝ }
+{
     let k = x.a as usize;
     if image.len() <= k {
         return 256;

@@ -10,9 +10,9 @@ use Rattle.items.specs.declared.Decoded.the-variants.{Done, Refused}
 use Rattle.kinds.proofs.Range.{decoded-range}
 use Rattle.machine.specs.declared.Machine.{Machine}
 use Rattle.machine.specs.Machine.{acceptedOf}
-use Rattle.stages.specs.Stages.{refusesOf}
-use Rattle.step.specs.Step.{stepOf}
-use Rattle.step.proofs.Keeps.{step-keeps}
+use Rattle.meaning.specs.Stages.{refusesOf}
+use Rattle.meaning.specs.Step.{stepOf}
+use Rattle.meaning.proofs.Keeps.{step-keeps}
 use Rattle.outcome.specs.Turn.{carriedOut, refused, turnBy, turnOf}
 
 pub turn-keeps : (m : Machine) (s : List ℕ) → acceptedOf m ≡ true → acceptedOf (turnOf m s .machine) ≡ true

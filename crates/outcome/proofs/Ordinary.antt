@@ -20,10 +20,10 @@ use Rattle.kinds.proofs.Range.{decoded-range}
 use Rattle.machine.specs.declared.Machine.{Machine}
 use Rattle.machine.specs.Machine.{acceptedOf}
 use Rattle.machine.proofs.Laws.{parts}
-use Rattle.stages.specs.Stages.{refusesOf}
-use Rattle.step.specs.Step.{stepOf, answerOf}
-use Rattle.step.proofs.Laws.{via-level}
-use Rattle.step.proofs.Keeps.{step-keeps}
+use Rattle.meaning.specs.Stages.{refusesOf}
+use Rattle.meaning.specs.Step.{stepOf, answerOf}
+use Rattle.meaning.proofs.Step.{via-level}
+use Rattle.meaning.proofs.Keeps.{step-keeps}
 use Rattle.outcome.specs.Turn.{refused, carriedOut, turnBy, turnOf}
 
 -- Neither level 3 nor level 7.

@@ -11,9 +11,9 @@ use Rattle.items.specs.declared.Decoded.the-variants.{Done, Refused}
 use Rattle.kinds.specs.Kinds.{decodedOf}
 use Rattle.drives.specs.Drives.{placeRefused}
 use Rattle.machine.specs.declared.Machine.{Machine}
-use Rattle.stages.specs.Stages.{refusesOf}
-use Rattle.step.specs.Step.{stepOf, answerOf}
-use Rattle.stages.proofs.Laws.{clash}
+use Rattle.meaning.specs.Stages.{refusesOf}
+use Rattle.meaning.specs.Step.{stepOf, answerOf}
+use Rattle.meaning.proofs.Stages.{clash}
 use Rattle.outcome.specs.Turn.{refused, carriedOut, turnBy, turnOf}
 
 -- An item that is carried out leaves the state and the answer of one step.

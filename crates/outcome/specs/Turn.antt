@@ -11,8 +11,8 @@ use Rattle.items.specs.declared.Decoded.the-variants.{Done, Refused}
 use Rattle.kinds.specs.Kinds.{decodedOf}
 use Rattle.machine.specs.declared.Machine.{Machine}
 use Rattle.machine.specs.declared.Did.{Did}
-use Rattle.stages.specs.Stages.{refusesOf}
-use Rattle.step.specs.Step.{stepOf, answerOf}
+use Rattle.meaning.specs.Stages.{refusesOf}
+use Rattle.meaning.specs.Step.{stepOf, answerOf}
 use Rattle.outcome.specs.declared.Turn.{Turn}
 
 -- The next state and the answer.

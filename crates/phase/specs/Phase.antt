@@ -1,4 +1,5 @@
 -- Where a transaction with the clock chip stands, by document 01, "The clock's wires". N is the number of cells.
+-- The code of `between` and `shown` is in edges.
 use mathlib.Core.Bool.{Bool, true, false, cond, not, _&&_}
 use Prim.Native.Nat.{ℕ, _+_, _-_, _/_, _%_, _^_}
 use lib.Dec.{eqb, ltb}

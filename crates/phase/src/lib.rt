@@ -1,9 +1,9 @@
-// Where a transaction with the clock chip stands: the edges of its three wires, the bits taken, the bit shown, the phases accepted.
+// Where a transaction with the clock chip stands: its phases, the bits taken, the phases accepted.
 ghost use mathlib.Core.Path.{_≡_};
 ghost use mathlib.Core.Bool.{true};
 ghost use Prim.Native.Nat.{_<_, _+_, _*_};
 ghost use Rattle.command.specs.Command.{bit, decode};
-ghost use Rattle.phase.specs.Phase.{between, judged, shifted, listened, shown, fewBits, acceptedPhase};
+ghost use Rattle.phase.specs.Phase.{judged, shifted, listened, fewBits, acceptedPhase};
 use command::Command;
 use store::Store;
 
@@ -40,31 +40,6 @@ pub struct Wires {
     pub dataclock: bool,
     pub dataline: bool,
 }
-
-// ---- the wires
-
-pub fn edge_between(before: Wires, after: Wires) -> Edge
-    ensures { λ r. ⌜ r ≡ between before after ⌝ }
-{
-    if after.enable {
-        return Edge::Up;
-    }
-    if before.enable {
-        return Edge::Starts;
-    }
-    if before.dataclock {
-        if after.dataclock {
-            return Edge::Still;
-        }
-        return Edge::Fall;
-    }
-    if after.dataclock {
-        return Edge::Rise(after.dataline);
-    }
-    Edge::Still
-}
-
-// ---- the phase
 
 // One bit more on the right.
 pub fn pushed(v: u8, b: bool) -> u8
@@ -145,30 +120,5 @@ pub fn accepted_phase(p: Phase, enable: bool) -> bool
         } => !enable & (command::is_write(command::decoded(20, command)) & few_bits(count, bits)),
         Phase::Sending { byte: _, falls } => !enable & (falls < 9),
         Phase::Ignoring => !enable,
-    }
-}
-
-// ---- the data line
-
-// The bit that the chip shows after so many falls.
-fn bit_shown(y: u8, n: u8) -> bool
-    ensures { λ r. ⌜ r ≡ shown (Phase.Sending y n) ⌝ }
-{
-    if n == 0 {
-        return true;
-    }
-    if n < 8 {
-        return (y >> (8 - n)) % 2 == 1;
-    }
-    y % 2 == 1
-}
-
-// The level that the chip gives the data line.
-pub fn shown_line(p: Phase) -> bool
-    ensures { λ r. ⌜ r ≡ shown p ⌝ }
-{
-    match p {
-        Phase::Sending { byte, falls } => bit_shown(byte, falls),
-        _ => true,
     }
 }

@@ -37,7 +37,7 @@ fn high_byte(x: u16) -> u8
 fn flags_byte(via: Via) -> u8
     ensures { λ r. ⌜ r ≡ flagsByte via ⌝ }
 {
-    viabits::pick(via.asks(), via.flags % 128 + 128, via.flags % 128)
+    viabits::pick(viaflags::asks(via), via.flags % 128 + 128, via.flags % 128)
 }
 
 // The value that reading a register gives.

@@ -13,9 +13,12 @@ use Rattle.sense.specs.Sense as sense
 use Rattle.drive.specs.Drive.{neighbour, tickDrive, driveTicks}
 use Rattle.control.specs.Control.{registerWritten}
 use Rattle.sense.specs.Sense.{drivesSense, shownOf, acceptedDrive}
-use Rattle.strobe.specs.Strobe.{tickStrobe, strobeTicks, heldStill, unspoilt, strobeAfter, registerOf, longEnough, strobeWrites, acceptedStrobe}
+use Rattle.watched.specs.Watched.{heldStill, unspoilt, registerOf}
+use Rattle.strobe.specs.Strobe.{tickStrobe, strobeTicks, strobeAfter, longEnough, strobeWrites, acceptedStrobe}
 use Rattle.drives.specs.Drives.{drivesTicks, placed, placeRefused, drivesPowered, drivesAfter, drivesShown, acceptedDrives}
-use Rattle.wiring.specs.Wiring.{wiresOf, selOf, inputsOf, interruptLevel, watchedOf}
+use Rattle.pins.specs.Pins.{wiresOf, selOf}
+use Rattle.watched.specs.Watched.{watchedOf}
+use Rattle.wiring.specs.Wiring.{inputsOf, interruptLevel}
 use Rattle.octets.specs.Octets.{le16Of, le32Of}
 use Rattle.record.specs.Record.{frameOf, answerBytes, noOf}
 use Rattle.addresses.specs.Addresses.{placeFrom, foundOf}
@@ -25,10 +28,10 @@ use Rattle.kinds.specs.Kinds.{isKind, decodedOf}
 use Rattle.items.specs.Items as items
 use Rattle.ranged.specs.Ranged as ranged
 use Rattle.machine.specs.Machine.{acceptedOf}
-use Rattle.accesses.specs.Accesses.{viaRead, iwmRead}
-use Rattle.action.specs.Action.{actedOf}
-use Rattle.stages.specs.Stages.{waitOf, refusesOf}
-use Rattle.step.specs.Step.{stepOf, answerOf}
+use Rattle.meaning.specs.Accesses.{viaRead, iwmRead}
+use Rattle.meaning.specs.Action.{actedOf}
+use Rattle.meaning.specs.Stages.{waitOf, refusesOf}
+use Rattle.meaning.specs.Step.{stepOf, answerOf}
 use Rattle.outcome.specs.Turn.{turnOf}
 use Rattle.outcome.specs.Outcome.{cut, piecesFrom, onto, onPiece, runPieces, runOf}
 use Rattle.samples.specs.Lists.{sent}

@@ -1,6 +1,9 @@
 // What is printed of a run: the line of an answer, the line of the run, bytes and a line's words.
+ghost use mathlib.Core.Path.{_≡_};
+ghost use mathlib.Core.Bool.{cond};
 ghost use Prim.Native.Nat.{_≤_};
 ghost use lib.ListN.{length};
+ghost use Rattle.words.specs.Words.{spacedOf};
 
 // Prints the line of one answer: `offset` is the record's place in the list, `rest` the list from there on.
 pub fn answer(offset: usize, rest: &[u8], answer: &[u8])
@@ -64,6 +67,7 @@ fn place(c: u8, value: u64) {
 // Prints the text of a line, and a space or, where the line begins with `.`, the line's end. The value as it was, or 256 where the line is bad.
 pub fn say(text: &[u8], value: u64) -> u64
     requires { ⌜ 1 ≤ length (now text) ⌝ }
+    ensures { λ r. ⌜ r ≡ cond (spacedOf (now (text .entry)) 1) value 256 ⌝ }
 {
     if !words::spaced(text, 1) {
         return 256;

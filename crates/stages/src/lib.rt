@@ -3,11 +3,11 @@ ghost use mathlib.Core.Path.{_≡_};
 ghost use mathlib.Core.Bool.{true};
 ghost use Rattle.phase.specs.Phase.{acceptedPhase};
 ghost use Rattle.machine.specs.Machine.{cellCount};
-ghost use Rattle.stages.specs.Stages.{waitOf, waited, compared, strobed, refusesOf};
+ghost use Rattle.meaning.specs.Stages.{waitOf, waited, compared, strobed, refusesOf};
 use items::Item;
 use machine::Machine;
 use phase::Wires;
-use strobe::Watched;
+use watched::Watched;
 
 // The item refused by this state: its number, or 0.
 pub fn refuses(m: Machine, item: Item) -> u8
@@ -58,6 +58,6 @@ pub fn compare(mut m: Machine, before: Wires, levels: Watched) -> Machine
     ensures { λ r. ⌜ r ≡ strobed levels (compared before m) ⌝ }
 {
     m.clock = m.clock.step(before, m.wires());
-    m.drives = m.drives.after(levels, m.watched());
+    m.drives = drivelines::after(m.drives, levels, m.watched());
     m
 }

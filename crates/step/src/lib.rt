@@ -4,8 +4,8 @@ ghost use mathlib.Core.Bool.{true, false};
 ghost use Rattle.items.specs.Items.{InRange};
 ghost use Rattle.machine.specs.declared.Machine.{Machine};
 ghost use Rattle.machine.specs.Machine.{wires, watched, acceptedOf, Levels};
-ghost use Rattle.action.specs.Action.{actedOf};
-ghost use Rattle.step.specs.Step.{stepOf, answerOf};
+ghost use Rattle.meaning.specs.Action.{actedOf};
+ghost use Rattle.meaning.specs.Step.{stepOf, answerOf};
 use items::Item;
 use machine::Did;
 use machine::Machine;
@@ -52,8 +52,8 @@ pub fn answer(d: Did) -> Answer
     Answer {
         ok: true,
         value: d.value,
-        level: wiring::interrupt_level(m.via.level(), inputs[5], inputs[6]),
-        lines: m.disk.byte(),
-        sel: wiring::sel_of(m.via.ports),
+        level: wiring::interrupt_level(viaflags::level(m.via), inputs[5], inputs[6]),
+        lines: linebytes::byte(m.disk),
+        sel: pins::sel_of(m.via.ports),
     }
 }

@@ -6,9 +6,10 @@ use native.Mathlib.Omega.{arith}
 use borrow.Author.Tests.{ltb-true, le-leb, leb-true}
 use lib.Dec.{eqb, ltb, leb}
 use Rattle.levels.proofs.Laws.{no, both}
-use Rattle.strobe.specs.Strobe.{quiet, tickBy, tickStrobe, strobeTicks, heldStill, unspoilt, afterBy, strobeAfter, acceptedStrobe}
+use Rattle.watched.specs.Watched.{heldStill, unspoilt}
+use Rattle.strobe.specs.Strobe.{quiet, tickBy, tickStrobe, strobeTicks, afterBy, strobeAfter, acceptedStrobe}
 use Rattle.strobe.specs.declared.Strobe.{Strobe}
-use Rattle.strobe.specs.declared.Watched.{Watched}
+use Rattle.watched.specs.declared.Watched.{Watched}
 
 -- The ranges, each by its name, where the levels of LSTRB and ENABLE are these.
 pub record Ranges (lstrb enable : Bool) (s : Strobe) : Type 0 where

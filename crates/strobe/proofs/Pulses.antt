@@ -9,9 +9,10 @@ use lib.Dec.{eqb}
 use Rattle.levels.proofs.Laws.{no}
 use Rattle.strobe.proofs.Ticks.{unsteady, counts}
 use Rattle.strobe.proofs.Bounds.{Ranges, ranges}
-use Rattle.strobe.specs.Strobe.{quiet, withTicks, strobeTicks, heldStill, unspoilt, afterBy, strobeAfter, registerOf, longEnough, strobeWrites, acceptedStrobe}
+use Rattle.watched.specs.Watched.{heldStill, unspoilt, registerOf}
+use Rattle.strobe.specs.Strobe.{quiet, withTicks, strobeTicks, afterBy, strobeAfter, longEnough, strobeWrites, acceptedStrobe}
 use Rattle.strobe.specs.declared.Strobe.{Strobe}
-use Rattle.strobe.specs.declared.Watched.{Watched}
+use Rattle.watched.specs.declared.Watched.{Watched}
 
 -- ---- the lengths that write
 

@@ -1,4 +1,4 @@
--- The ticks of a strobe, in closed form, and the ranges that every step keeps.
+-- The ticks of a strobe: in closed form, and waits add up.
 use Prim.Native.Nat.{ℕ, zero, suc, _+_, _-_, _≤_, _<_}
 use mathlib.Core.Path.{_≡_, refl, sym, ap, _∙_}
 use mathlib.Core.Bool.{Bool, true, false}

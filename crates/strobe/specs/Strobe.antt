@@ -1,9 +1,10 @@
 -- The strobe LSTRB, and when a write to a drive's register acts, by request W-203 and source document 004. Time is in VIA ticks.
 use Prim.Native.Nat.{ℕ, zero, suc, _+_}
-use mathlib.Core.Bool.{Bool, true, false, cond, not, _&&_, _||_, Bool·beq}
+use mathlib.Core.Bool.{Bool, true, false, cond, not, _&&_, _||_}
 use lib.Dec.{eqb, ltb, leb}
 use Rattle.strobe.specs.declared.Strobe.{Strobe}
-use Rattle.strobe.specs.declared.Watched.{Watched}
+use Rattle.watched.specs.declared.Watched.{Watched}
+use Rattle.watched.specs.Watched.{unspoilt, registerOf}
 
 -- No strobe, or one that is spoilt.
 abbrev pub quiet : Strobe
@@ -30,17 +31,6 @@ strobeTicks (suc n) s = tickStrobe (strobeTicks n s)
 
 -- ---- the levels before and after an item, once its wait has passed
 
--- "CA0 to CA2, SEL and SELECT held still"
-unfoldable pub heldStill : Watched → Watched → Bool
-heldStill before after =
-    Bool·beq (before .ca0) (after .ca0)
-    && (Bool·beq (before .ca1) (after .ca1)
-    && (Bool·beq (before .ca2) (after .ca2) && (Bool·beq (before .sel) (after .sel) && Bool·beq (before .select) (after .select))))
-
--- "if ENABLE stayed on and CA0 to CA2, SEL and SELECT held still"
-unfoldable pub unspoilt : Watched → Watched → Bool
-unspoilt before after = after .enable && heldStill before after
-
 -- LSTRB after and before, whether nothing spoilt the strobe, and ENABLE after. LSTRB's rise begins a strobe, with ENABLE on.
 abbrev pub afterBy : Bool → Bool → Bool → Bool → Strobe → Strobe
 afterBy false was fine enable s = quiet
@@ -52,16 +42,6 @@ unfoldable pub strobeAfter : Watched → Watched → Strobe → Strobe
 strobeAfter before after s = afterBy (after .lstrb) (before .lstrb) (unspoilt before after) (after .enable) s
 
 -- ---- a write that acts
-
--- Document 004: CA1 and CA0 address DIRTN, STEP, MOTORON or EJECT.
-abbrev pub registerBy : Bool → Bool → ℕ
-registerBy false false = 0
-registerBy false true = 1
-registerBy true false = 2
-registerBy true true = 3
-
-unfoldable pub registerOf : Watched → ℕ
-registerOf w = registerBy (w .ca1) (w .ca0)
 
 -- "after 1 to 783 VIA ticks; eject needs 391,680 or more. Other lengths .. do nothing."
 unfoldable pub longEnough : ℕ → ℕ → Bool

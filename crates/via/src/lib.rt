@@ -1,10 +1,10 @@
-// The VIA: ports, two timers, flags, and its part of the interrupt level. The state goes in by value, and the next one comes out.
+// The VIA: ports, two timers, registers written, reset; what is asked of its flags is in viaflags. The state goes in by value, and the next one comes out.
 ghost use mathlib.Core.Path.{_≡_};
 ghost use mathlib.Core.Bool.{cond, false};
 ghost use Prim.Native.Nat.{_<_};
 ghost use Rattle.timer.specs.Timer.{steps};
 ghost use Rattle.via.specs.Writes.{timer1Written, written};
-ghost use Rattle.via.specs.Via.{freshVia, latchOf, counter1, counter2, ticks, raisedOf, asking, levelOf, resetOf, acceptedVia};
+ghost use Rattle.via.specs.Via.{freshVia, latchOf, counter1, counter2, ticks, resetOf};
 use timer::Counter;
 
 // Output bits and directions of ports B and A; a direction bit of 1 is an output.
@@ -140,28 +140,6 @@ impl Via {
         self
     }
 
-    // The flags of the mask are set: 2 for vertical blanking, 1 for a second.
-    pub fn raise(mut self, mask: u8) -> Via
-        ensures { λ r. ⌜ r ≡ raisedOf mask self ⌝ }
-    {
-        self.flags = self.flags | mask;
-        self
-    }
-
-    // Whether an enabled flag is set.
-    pub fn asks(self) -> bool
-        ensures { λ r. ⌜ r ≡ asking self ⌝ }
-    {
-        self.flags & self.enables & 127 != 0
-    }
-
-    // The VIA's own part of the interrupt level, 0 or 1.
-    pub fn level(self) -> u8
-        ensures { λ r. ⌜ r ≡ levelOf self ⌝ }
-    {
-        viabits::pick(self.asks(), 1, 0)
-    }
-
     // Counters, latches and register 10 stay; the rest is as fresh.
     pub fn reset(self) -> Via
         ensures { λ r. ⌜ r ≡ resetOf self ⌝ }
@@ -174,13 +152,6 @@ impl Via {
         via.t2.low = self.t2.low;
         via.sr = self.sr;
         via
-    }
-
-    // Whether bit 7 of flags and enables, room not in use, is 0.
-    pub fn accepted(self) -> bool
-        ensures { λ r. ⌜ r ≡ acceptedVia self ⌝ }
-    {
-        (self.flags < 128) & (self.enables < 128)
     }
 
     // The value is written to a register.

@@ -1,6 +1,8 @@
 // The words of a script's lines: the numbers after a line's first character, and the line as an operation or as a list of items.
-ghost use Prim.Native.Nat.{_≤_};
+ghost use mathlib.Core.Path.{_≡_};
+ghost use Prim.Native.Nat.{_+_, _≤_};
 ghost use lib.ListN.{length};
+ghost use Rattle.words.specs.Words.{spacedOf, grownOf, numberOf, orderRead, lineEndOf};
 use operations::Order;
 
 // A number of a line and the place after it. One that is too large, or is no number, is 65,536 or more.
@@ -18,7 +20,9 @@ pub struct Given {
 }
 
 // Whether the text ends before `at` or has a space there.
-pub fn spaced(text: &[u8], at: usize) -> bool {
+pub fn spaced(text: &[u8], at: usize) -> bool
+    ensures { λ r. ⌜ r ≡ spacedOf (now (text .entry)) at ⌝ }
+{
     if at < text.len() {
         return text[at] == b' ';
     }
@@ -26,33 +30,49 @@ pub fn spaced(text: &[u8], at: usize) -> bool {
 }
 
 // A number with one character more: a digit, or, where it is the first, a capital letter, which is its ASCII byte.
-fn grown(n: u64, c: u8, hex: bool, first: bool) -> u64 {
+fn grown(n: u64, c: u8, hex: bool, first: bool) -> u64
+    ensures { λ r. ⌜ r ≡ grownOf n c hex first ⌝ }
+{
     if 65535 < n {
         return n;
     }
-    match c {
-        b'0'..=b'9' => {
-            if hex {
-                n * 16 + (c - 48) as u64
-            } else {
-                n * 10 + (c - 48) as u64
-            }
-        }
-        b'a'..=b'f' => { if hex { n * 16 + (c - 87) as u64 } else { 65536 } }
-        b'A'..=b'Z' => { if first { c as u64 } else { 65536 } }
-        _ => 65536,
+    if c < b'0' {
+        return 65536;
     }
+    if c < 58 {
+        return if hex {
+            n * 16 + (c - 48) as u64
+        } else {
+            n * 10 + (c - 48) as u64
+        };
+    }
+    if c < b'A' {
+        return 65536;
+    }
+    if c < 91 {
+        return if first { c as u64 } else { 65536 };
+    }
+    if c < b'a' {
+        return 65536;
+    }
+    if c < 103 {
+        return if hex { n * 16 + (c - 87) as u64 } else { 65536 };
+    }
+    65536
 }
 
 // The number after the space at `at`, 0 at the end of the text. `$` before it makes it one in hexadecimal.
-fn number(text: &[u8], at: usize) -> Read {
-    let mut end = std::num::wrapping_add_usize(at, 1);
+fn number(text: &[u8], at: usize) -> Read
+    requires { ⌜ at ≤ length (now text) + 1 ⌝ }
+    ensures { λ r. ⌜ r ≡ numberOf (now (text .entry)) at ⌝ }
+{
     let mut value: u64 = 0;
     let mut hex = false;
     let mut first = true;
     if !spaced(text, at) {
         value = 65536;
     }
+    let mut end = at + 1;
     while end < text.len() {
         let c = text[end];
         if c == b' ' {
@@ -72,6 +92,7 @@ fn number(text: &[u8], at: usize) -> Read {
 // A line of an operation and its numbers: the operation is 0 where the line is bad.
 pub fn read_order(text: &[u8]) -> Order
     requires { ⌜ 1 ≤ length (now text) ⌝ }
+    ensures { λ r. ⌜ r ≡ orderRead (now (text .entry)) ⌝ }
 {
     let first = number(text, 1);
     let second = number(text, first.end);
@@ -130,9 +151,10 @@ pub fn read_list(text: &[u8]) -> Given
     }
 }
 
-// The end of the line that begins at `at`.
+// The end of the line that begins at `at`: the place of its line feed, else the length.
 pub fn line_end(s: &[u8], at: usize) -> usize
     requires { ⌜ at ≤ length (now s) ⌝ }
+    ensures { λ r. ⌜ r ≡ lineEndOf (now (s .entry)) at ⌝ }
     ensures { λ r. ⌜ (at ≤ r) × (r ≤ length (now (s .entry))) ⌝ }
 {
     let mut end = at;

@@ -6,17 +6,17 @@ use Rattle.iwm.specs.Lines.{readLine}
 use borrow.Author.Tests.{ne-eqb}
 use Rattle.iwm.proofs.Laws.{access-levels, sense-below}
 use Rattle.drives.proofs.Laws.{shown-below}
-use Rattle.accesses.specs.Accesses.{iwmRead}
+use Rattle.meaning.specs.Accesses.{iwmRead}
 use borrow.Author.Needs.{needs}
 use Rattle.accesses.proofs.read_iwm.Statement.{statement}
 use Rattle.accesses.proofs.read_iwm.Tie as tie
 use Rattle.accesses.proofs.read_iwm.Reads as reads
 use Rattle.accesses.proofs.read_iwm.Lts as lts
-use Rattle.drives.proofs.Drives.shown.Reads as shown-reads
+use Rattle.drivelines.proofs.shown.Reads as shown-reads
 use Rattle.iwm.proofs.DiskLines.access.Reads as access-reads
 use Rattle.iwm.proofs.DiskLines.read.Reads as read-reads
-use Rattle.iwm.proofs.DiskLines.sense_at.Reads as sense-at-reads
-use Rattle.wiring.proofs.sel_of.Reads as sel-of-reads
+use Rattle.linebytes.proofs.sense_at.Reads as sense-at-reads
+use Rattle.pins.proofs.sel_of.Reads as sel-of-reads
 
 access-requires : tie.Need-access-requires
 access-requires c κs = search needs

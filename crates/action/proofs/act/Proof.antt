@@ -1,5 +1,5 @@
 use mathlib.Core.Path.{subst}
-use Rattle.action.specs.Action.{actedOf}
+use Rattle.meaning.specs.Action.{actedOf}
 use borrow.Author.Tests.{lt-ltb, le-ltb, le-leb, lt-leb, eq-eqb, ne-eqb}
 use Rattle.items.specs.Items.{InRange}
 use borrow.Author.Needs.{needs}

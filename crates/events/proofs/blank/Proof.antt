@@ -4,7 +4,7 @@ use Rattle.events.proofs.blank.Statement.{statement}
 use Rattle.events.proofs.blank.Tie as tie
 use Rattle.events.proofs.blank.Reads as reads
 use Rattle.events.proofs.blank.Lts as lts
-use Rattle.via.proofs.Via.raise.Reads as raise-reads
+use Rattle.viaflags.proofs.raise.Reads as raise-reads
 
 raise-requires : tie.Need-raise-requires
 raise-requires c κs = search needs

@@ -5,7 +5,7 @@ use Rattle.events.proofs.second.Tie as tie
 use Rattle.events.proofs.second.Reads as reads
 use Rattle.events.proofs.second.Lts as lts
 use Rattle.clock.proofs.Clock.second.Reads as second-reads
-use Rattle.via.proofs.Via.raise.Reads as raise-reads
+use Rattle.viaflags.proofs.raise.Reads as raise-reads
 
 raise-requires : tie.Need-raise-requires
 raise-requires c κs = search needs

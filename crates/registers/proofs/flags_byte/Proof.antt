@@ -6,7 +6,7 @@ use Rattle.registers.proofs.flags_byte.Tie as tie
 use Rattle.registers.proofs.flags_byte.Reads as reads
 use Rattle.registers.proofs.flags_byte.Lts as lts
 use Rattle.viabits.proofs.pick.Reads as pick-reads
-use Rattle.via.proofs.Via.asks.Reads as asks-reads
+use Rattle.viaflags.proofs.asks.Reads as asks-reads
 
 asks-requires : tie.Need-asks-requires
 asks-requires c κs = search needs

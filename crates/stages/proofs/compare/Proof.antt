@@ -5,7 +5,7 @@ use Rattle.stages.proofs.compare.Tie as tie
 use Rattle.stages.proofs.compare.Reads as reads
 use Rattle.stages.proofs.compare.Lts as lts
 use Rattle.clock.proofs.Clock.step.Reads as step-reads
-use Rattle.drives.proofs.Drives.after.Reads as after-reads
+use Rattle.drivelines.proofs.after.Reads as after-reads
 use Rattle.machine.proofs.Machine.watched.Reads as watched-reads
 use Rattle.machine.proofs.Machine.wires.Reads as wires-reads
 

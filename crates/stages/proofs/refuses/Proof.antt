@@ -1,5 +1,5 @@
-use Rattle.stages.specs.Stages.{refusesOf}
-use Rattle.stages.proofs.Laws.{kinds-unrefused}
+use Rattle.meaning.specs.Stages.{refusesOf}
+use Rattle.meaning.proofs.Stages.{kinds-unrefused}
 use borrow.Author.Needs.{needs}
 use Rattle.stages.proofs.refuses.Statement.{statement}
 use Rattle.stages.proofs.refuses.Tie as tie

@@ -1,15 +1,15 @@
 use Rattle.levels.proofs.Laws.{level-at}
-use Rattle.step.specs.Step.{answerOf}
-use Rattle.step.proofs.Laws.{via-level}
+use Rattle.meaning.specs.Step.{answerOf}
+use Rattle.meaning.proofs.Step.{via-level}
 use borrow.Author.Needs.{needs}
 use Rattle.step.proofs.answer.Statement.{statement}
 use Rattle.step.proofs.answer.Tie as tie
 use Rattle.step.proofs.answer.Reads as reads
 use Rattle.step.proofs.answer.Lts as lts
-use Rattle.iwm.proofs.DiskLines.byte.Reads as byte-reads
-use Rattle.via.proofs.Via.level.Reads as level-reads
+use Rattle.linebytes.proofs.byte.Reads as byte-reads
+use Rattle.viaflags.proofs.level.Reads as level-reads
 use Rattle.wiring.proofs.interrupt_level.Reads as interrupt-level-reads
-use Rattle.wiring.proofs.sel_of.Reads as sel-of-reads
+use Rattle.pins.proofs.sel_of.Reads as sel-of-reads
 
 level-requires : tie.Need-level-requires
 level-requires c κs = search needs
@@ -21,7 +21,7 @@ array-read-interrupt-level-2 : tie.Need-array-read-interrupt-level-2
 array-read-interrupt-level-2 c = search needs
 
 interrupt-level-requires : tie.Need-interrupt-level-requires
-interrupt-level-requires c κs = let l = c .before .before .before .pre .1 in (rw (c .level .ensures) (via-level _), level-at _ 5 l, level-at _ 6 l)
+interrupt-level-requires c κs = let l = c .before .before .before .pre .1 in (rw (c .level .ensures) (via-level _), level-at _ _ l, level-at _ _ l)
 
 byte-requires : tie.Need-byte-requires
 byte-requires c κs = search needs

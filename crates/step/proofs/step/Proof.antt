@@ -3,10 +3,10 @@ use mathlib.Core.Path.{sym, ap, subst, _∙_}
 use Rattle.machine.specs.declared.Machine.{Machine}
 use Rattle.machine.specs.Machine.{Levels}
 use Rattle.machine.proofs.Laws.{parts}
-use Rattle.action.specs.Action.{actedOf}
-use Rattle.stages.specs.Stages.{waited}
-use Rattle.step.specs.Step.{stepOf}
-use Rattle.step.proofs.Laws.{met, quiet-step}
+use Rattle.meaning.specs.Action.{actedOf}
+use Rattle.meaning.specs.Stages.{waited}
+use Rattle.meaning.specs.Step.{stepOf}
+use Rattle.meaning.proofs.Step.{met, quiet-step}
 use borrow.Author.Needs.{needs}
 use Rattle.step.proofs.step.Statement.{statement}
 use Rattle.step.proofs.step.Tie as tie

@@ -3,7 +3,7 @@ use Rattle.items.specs.Items.{InRange}
 use Rattle.kinds.proofs.Range.{decoded-range}
 use Rattle.machine.specs.declared.Did.{Did}
 use Rattle.machine.proofs.Laws.{parts}
-use Rattle.step.proofs.Keeps.{step-keeps}
+use Rattle.meaning.proofs.Keeps.{step-keeps}
 use borrow.Author.Needs.{needs}
 use Rattle.outcome.specs.Turn.{turnOf}
 use native.Mathlib.Omega.{arith}

@@ -5,11 +5,11 @@ use Rattle.machine.proofs.Machine.accepted.Tie as tie
 use Rattle.machine.proofs.Machine.accepted.Reads as reads
 use Rattle.machine.proofs.Machine.accepted.Lts as lts
 use Rattle.phase.proofs.accepted_phase.Reads as accepted-phase-reads
-use Rattle.drives.proofs.Drives.accepted.Reads as Drives-accepted-reads
+use Rattle.drivelines.proofs.accepted.Reads as drivelines-accepted-reads
 use Rattle.levels.proofs.all_levels.Reads as all-levels-reads
 use Rattle.machine.proofs.Machine.watched.Reads as watched-reads
 use Rattle.machine.proofs.Machine.wires.Reads as wires-reads
-use Rattle.via.proofs.Via.accepted.Reads as Via-accepted-reads
+use Rattle.viaflags.proofs.accepted.Reads as viaflags-accepted-reads
 
 wires-requires : tie.Need-wires-requires
 wires-requires c κs = search needs

@@ -3,8 +3,8 @@ use Rattle.machine.proofs.Machine.watched.Statement.{statement}
 use Rattle.machine.proofs.Machine.watched.Tie as tie
 use Rattle.machine.proofs.Machine.watched.Reads as reads
 use Rattle.machine.proofs.Machine.watched.Lts as lts
-use Rattle.wiring.proofs.sel_of.Reads as sel-of-reads
-use Rattle.wiring.proofs.watched_of.Reads as watched-of-reads
+use Rattle.pins.proofs.sel_of.Reads as sel-of-reads
+use Rattle.watched.proofs.watched_of.Reads as watched-of-reads
 
 sel-of-requires : tie.Need-sel-of-requires
 sel-of-requires c κs = search needs

@@ -3,8 +3,8 @@ use Rattle.machine.proofs.Machine.wires.Statement.{statement}
 use Rattle.machine.proofs.Machine.wires.Tie as tie
 use Rattle.machine.proofs.Machine.wires.Reads as reads
 use Rattle.machine.proofs.Machine.wires.Lts as lts
-use Rattle.phase.proofs.shown_line.Reads as shown-line-reads
-use Rattle.wiring.proofs.wires_of.Reads as wires-of-reads
+use Rattle.edges.proofs.shown_line.Reads as shown-line-reads
+use Rattle.pins.proofs.wires_of.Reads as wires-of-reads
 
 shown-line-requires : tie.Need-shown-line-requires
 shown-line-requires c κs = search needs

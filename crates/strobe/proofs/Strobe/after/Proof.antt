@@ -5,7 +5,7 @@ use Rattle.strobe.proofs.Strobe.after.Tie as tie
 use Rattle.strobe.proofs.Strobe.after.Reads as reads
 use Rattle.strobe.proofs.Strobe.after.Lts as lts
 use Rattle.strobe.proofs.Strobe.off.Reads as off-reads
-use Rattle.strobe.proofs.leaves_unspoilt.Reads as leaves-unspoilt-reads
+use Rattle.watched.proofs.leaves_unspoilt.Reads as leaves-unspoilt-reads
 
 leaves-unspoilt-requires : tie.Need-leaves-unspoilt-requires
 leaves-unspoilt-requires c κs = search needs

@@ -1,4 +1,4 @@
-use mathlib.Core.Path.{sym, _∙_}
+use mathlib.Core.Path.{sym}
 use Prim.Native.Nat.{_+_, _≤_}
 use native.Mathlib.Omega.{arith}
 use Rattle.strobe.proofs.Ticks.{unsteady, full, counts, stops}
@@ -7,7 +7,6 @@ use Rattle.strobe.proofs.Strobe.wait.Statement.{statement}
 use Rattle.strobe.proofs.Strobe.wait.Tie as tie
 use Rattle.strobe.proofs.Strobe.wait.Reads as reads
 use Rattle.strobe.proofs.Strobe.wait.Lts as lts
-use Rattle.strobe.proofs.Strobe.with_ticks.Reads as with-ticks-reads
 
 returns : tie.Need-returns
 returns c = let a = c .before .before .before .args in sym (full (a .ticks) (a .self) (c .if2 .taken))
@@ -15,25 +14,18 @@ returns c = let a = c .before .before .before .args in sym (full (a .ticks) (a .
 add-sum : tie.Need-add-sum
 add-sum c = search needs
 
-with-ticks-requires : tie.Need-with-ticks-requires
-with-ticks-requires c κs = search needs
-
 returns-2 : tie.Need-returns-2
 returns-2 c =
-    let b = c .before .before .before .before .before in
+    let b = c .before .before .before .before in
     let a = b .before .args in
-    let h : a .self .ticks + a .ticks ≤ 391680 = omega (arith, c .before .if3 .taken) in
-    c .with-ticks .ensures ∙ sym (counts (a .ticks) (a .self) (b .if1 .taken) h)
-
-with-ticks-requires-2 : tie.Need-with-ticks-requires-2
-with-ticks-requires-2 c κs = search needs
+    let h : a .self .ticks + a .ticks ≤ 391680 = omega (arith, c .if3 .taken) in
+    sym (counts (a .ticks) (a .self) (b .if1 .taken) h)
 
 returns-3 : tie.Need-returns-3
 returns-3 c =
-    let b = c .before .before .before .before .before in
+    let b = c .before .before .before .before in
     let a = b .before .args in
-    c .with-ticks2 .ensures
-    ∙ sym (stops (a .ticks) (a .self) (b .if1 .taken) (c .before .before .before .if2 .left) (c .before .if3 .left))
+    sym (stops (a .ticks) (a .self) (b .if1 .taken) (c .before .before .if2 .left) (c .if3 .left))
 
 returns-4 : tie.Need-returns-4
 returns-4 c = let a = c .before .args in sym (unsteady (a .ticks) (a .self) (c .if1 .left))
@@ -44,8 +36,6 @@ wait-spec =
     (tie.spec
     returns
     add-sum
-    with-ticks-requires
     returns-2
-    with-ticks-requires-2
     returns-3
     returns-4)

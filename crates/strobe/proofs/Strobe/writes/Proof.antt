@@ -4,8 +4,8 @@ use Rattle.strobe.proofs.Strobe.writes.Statement.{statement}
 use Rattle.strobe.proofs.Strobe.writes.Tie as tie
 use Rattle.strobe.proofs.Strobe.writes.Reads as reads
 use Rattle.strobe.proofs.Strobe.writes.Lts as lts
-use Rattle.strobe.proofs.Watched.register.Reads as register-reads
-use Rattle.strobe.proofs.leaves_unspoilt.Reads as leaves-unspoilt-reads
+use Rattle.watched.proofs.Watched.register.Reads as register-reads
+use Rattle.watched.proofs.leaves_unspoilt.Reads as leaves-unspoilt-reads
 use Rattle.strobe.proofs.long_enough.Reads as long-enough-reads
 
 leaves-unspoilt-requires : tie.Need-leaves-unspoilt-requires
