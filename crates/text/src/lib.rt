@@ -2,7 +2,7 @@
 ghost use mathlib.Core.Path.{_≡_};
 ghost use Prim.Native.Nat.{_+_, _≤_, _<_};
 ghost use mathlib.Core.List.{_++_};
-ghost use lib.ListN.{length};
+ghost use lib.ListN.{length, drop};
 ghost use Rattle.text.specs.Text.{Put, glyphOf, hexOf, decimalOf};
 
 // Writes the bytes of `x` at `at`, and answers the place after them. So do all functions that add, each for its own text.
@@ -33,6 +33,23 @@ pub fn add_hex(d: &mut [u8], at: usize, name: &[u8], x: u8) -> usize
     add(d, p, &text)
 }
 
+// Writes a number's decimal digits to the end of `out`, and answers the place of the first.
+fn digits(out: &mut [u8], n: u64) -> usize
+    requires { ⌜ length (now out) ≡ 20 ⌝ }
+    ensures { λ r. ⌜ r < 20 ⌝ }
+    ensures { λ r. ⌜ drop r (now (out .exit)) ≡ decimalOf n ⌝ }
+{
+    let mut at: usize = 19;
+    let mut rest = n;
+    while 10 <= rest {
+        out[at] = 48 + (rest % 10) as u8;
+        rest /= 10;
+        at -= 1;
+    }
+    out[at] = 48 + rest as u8;
+    at
+}
+
 // A number in decimal: 20 digits at most.
 pub fn add_number(d: &mut [u8], at: usize, n: u64) -> usize
     requires { ⌜ at + 20 ≤ length (now d) ⌝ }
@@ -40,8 +57,8 @@ pub fn add_number(d: &mut [u8], at: usize, n: u64) -> usize
     ensures { λ r. ⌜ r ≤ at + 20 ⌝ }
 {
     let mut text = [0u8; 20];
-    let k = io::decimal(n, &mut text);
-    add(d, at, &text[..k])
+    let k = digits(&mut text, n);
+    add(d, at, &text[k..])
 }
 
 // A name, then a number in decimal.
