@@ -1,34 +1,77 @@
 // What an answer says, as text.
+ghost use mathlib.Core.Path.{_≡_};
 ghost use Prim.Native.Nat.{_+_, _≤_};
-ghost use lib.ListN.{length};
+ghost use lib.ListN.{length, take};
 ghost use Rattle.text.specs.Text.{Put};
 ghost use Rattle.answers.specs.Answers.{wordsOf, okOf, refusedOf, saidOf};
 
-// The words of a refusal, after a space.
+// The words of each refusal, after a space, in the 34 bytes of the longest.
+const CUT: [u8; 34] = *b" cut record                       ";
+
+const KIND: [u8; 34] = *b" unknown kind                     ";
+
+const LENGTH: [u8; 34] = *b" wrong length for the kind        ";
+
+const ADDRESS: [u8; 34] = *b" no such address                  ";
+
+const RANGE: [u8; 34] = *b" out of range                     ";
+
+const DISK: [u8; 34] = *b" disk already there, or none there";
+
+// The words of a refusal: the first `size` bytes of `text`.
+struct Words {
+    text: [u8; 34],
+    size: usize,
+}
+
+// No words for a number that no refusal has.
+fn words_of(number: u8) -> Words
+    ensures { λ r. ⌜ take (r .size) (r .text) ≡ wordsOf number ⌝ }
+    ensures { λ r. ⌜ r .size ≤ 34 ⌝ }
+    ensures { λ r. ⌜ length (r .text) ≡ 34 ⌝ }
+{
+    match number {
+        1 => Words {
+            text: CUT,
+            size: 11,
+        },
+        2 => Words {
+            text: KIND,
+            size: 13,
+        },
+        3 => Words {
+            text: LENGTH,
+            size: 26,
+        },
+        4 => Words {
+            text: ADDRESS,
+            size: 16,
+        },
+        5 => Words {
+            text: RANGE,
+            size: 13,
+        },
+        8 => Words {
+            text: DISK,
+            size: 34,
+        },
+        _ => Words {
+            text: [0; 34],
+            size: 0,
+        },
+    }
+}
+
+// The words of a refusal.
 fn add_words(d: &mut [u8], at: usize, number: u8) -> usize
     requires { ⌜ at + 34 ≤ length (now d) ⌝ }
     ensures { λ r. ⌜ Put (now (d .entry)) (now (d .exit)) at r (wordsOf number) ⌝ }
     ensures { λ r. ⌜ r ≤ at + 34 ⌝ }
 {
-    if number == 1 {
-        return text::add(d, at, b" cut record");
-    }
-    if number == 2 {
-        return text::add(d, at, b" unknown kind");
-    }
-    if number == 3 {
-        return text::add(d, at, b" wrong length for the kind");
-    }
-    if number == 4 {
-        return text::add(d, at, b" no such address");
-    }
-    if number == 5 {
-        return text::add(d, at, b" out of range");
-    }
-    if number == 8 {
-        return text::add(d, at, b" disk already there, or none there");
-    }
-    at
+    let w = words_of(number);
+    let text = w.text;
+    let size = w.size;
+    text::add(d, at, &text[..size])
 }
 
 // What an answer OK says.

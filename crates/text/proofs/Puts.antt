@@ -1,23 +1,13 @@
 -- Text put piece by piece.
 use Prim.Native.Nat.{ℕ, _+_, _≤_}
-use mathlib.Core.Path.{_≡_, refl, sym, ap, _∙_}
-use mathlib.Core.List.{List, [], _++_, append-assoc, append-nil}
+use mathlib.Core.Path.{_≡_, sym, ap, _∙_}
+use mathlib.Core.List.{List, _++_, append-assoc}
 use native.Mathlib.Omega.{arith}
-use native.Mathlib.Nat.{add-zero}
-use lib.ListN.{length, take, drop, length-append, take-append-drop}
+use lib.ListN.{length, take, drop, length-append}
 use lib.Seq.{drop-drop}
 use Rattle.octets.specs.Octets.{putAt}
 use Rattle.octets.proofs.Laws.{put-take, put-drop}
 use Rattle.text.specs.Text.{Put}
-
--- nothing put
-pub put-none : (d : List ℕ) (at : ℕ) → at ≤ length d → Put d d at at []
-put-none d at h = record {
-  place = omega arith;
-  fits = h;
-  same = refl;
-  text = simp (add-zero, append-nil) (sym (take-append-drop at d));
-}
 
 -- one text after the other is both in one
 pub put-then : {d e f : List ℕ} {at m r : ℕ} {x y : List ℕ} → Put d e at m x → Put e f m r y → Put d f at r (x ++ y)
