@@ -8,18 +8,23 @@ ghost use Rattle.report.specs.Report.{kindOf, lineOf, endOf};
 // The room, in bytes, that each of the two lines fits into.
 pub const ROOM: usize = 128;
 
+// In place of a kind: where there is no whole one, and where it is unknown.
+const NONE: [u8; 4] = *b" -- ";
+
+const UNKNOWN: [u8; 4] = *b" ?? ";
+
 // The kind of the record at the front of a list, between two spaces: `??` where it is unknown, `--` where there is no whole kind.
 fn kind_of(rest: &[u8]) -> [u8; 4]
     ensures { λ r. ⌜ r ≡ kindOf (now (rest .entry)) ⌝ }
 {
     if rest.len() < 4 {
-        return *b" -- ";
+        return NONE;
     }
     if octets::le16(rest, 0) < 2 {
-        return *b" -- ";
+        return NONE;
     }
     if items::refusal(kinds::decode(&rest[2..])) == 2 {
-        return *b" ?? ";
+        return UNKNOWN;
     }
     [32, rest[2], rest[3], 32]
 }

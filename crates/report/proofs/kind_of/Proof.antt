@@ -15,14 +15,14 @@ use Rattle.octets.proofs.le16.Reads as le16-reads
 
 returns : tie.Need-returns
 unfolding kindOf
-returns c = simp (lt-ltb _ _ (c .before .before .if1 .taken))
+returns c = simp (lt-ltb _ _ (c .if1 .taken))
 
 le16-requires : tie.Need-le16-requires
 le16-requires c κs = search needs
 
 returns-2 : tie.Need-returns-2
 unfolding kindOf
-returns-2 c = simp (le-ltb _ _ (c .before .before .before .before .if1 .left), ← c .before .before .before .le16 .ensures, lt-ltb _ _ (c .before .before .if2 .taken))
+returns-2 c = simp (le-ltb _ _ (c .before .before .if1 .left), ← c .before .le16 .ensures, lt-ltb _ _ (c .if2 .taken))
 
 sub-decode : tie.Need-sub-decode
 sub-decode c = search needs
@@ -41,13 +41,13 @@ refusal-requires c κs = search needs
 
 returns-3 : tie.Need-returns-3
 unfolding kindOf
-returns-3 c = simp (le-ltb _ _ (c .before .before .before .before .before .before .before .before .if1 .left), ← c .before .before .before .before .before .before .before .le16 .ensures, le-ltb _ _ (c .before .before .before .before .before .before .if2 .left), ← (c .before .before .before .before .decode .ensures ∙ ap decodedOf (rest-all (now (c .before .before .before .before .before .before .before .before .before .before .args .rest)))), ← c .before .before .before .refusal .ensures, eq-eqb _ _ (c .before .before .if3 .taken))
+returns-3 c = simp (le-ltb _ _ (c .before .before .before .before .before .before .if1 .left), ← c .before .before .before .before .before .le16 .ensures, le-ltb _ _ (c .before .before .before .before .if2 .left), ← (c .before .before .decode .ensures ∙ ap decodedOf (rest-all (now (c .before .before .before .before .before .before .before .before .args .rest)))), ← c .before .refusal .ensures, eq-eqb _ _ (c .if3 .taken))
 
-shared-slice-read-t10 : tie.Need-shared-slice-read-t10
-shared-slice-read-t10 c = search needs
+shared-slice-read-t5 : tie.Need-shared-slice-read-t5
+shared-slice-read-t5 c = search needs
 
-shared-slice-read-t18 : tie.Need-shared-slice-read-t18
-shared-slice-read-t18 c = search needs
+shared-slice-read-t12 : tie.Need-shared-slice-read-t12
+shared-slice-read-t12 c = search needs
 
 returns-4 : tie.Need-returns-4
 unfolding kindOf
@@ -66,6 +66,6 @@ kind-of-spec =
     decode-requires
     refusal-requires
     returns-3
-    shared-slice-read-t10
-    shared-slice-read-t18
+    shared-slice-read-t5
+    shared-slice-read-t12
     returns-4)
