@@ -17,19 +17,24 @@ array-share-prefix-text : tie.Need-array-share-prefix-text
 array-share-prefix-text c = search needs
 
 slice-aggregate-add : tie.Need-slice-aggregate-add
-slice-aggregate-add c = let w = c .before .before .before .words-of in sym (length-take-le (w .result .size) (w .result .text) (omega arith))
+slice-aggregate-add c =
+    let w = c .before .before .before .words-of .result in
+    sym (length-take-le (w .size) (w .text) (omega arith))
 
 add-requires : tie.Need-add-requires
-add-requires c κs = let w = c .before .before .before .words-of in let l : length (take (w .result .size) (w .result .text)) ≡ w .result .size = length-take-le (w .result .size) (w .result .text) (omega arith) in omega arith
+add-requires c κs =
+    let w = c .before .before .before .words-of .result in
+    let l : length (take (w .size) (w .text)) ≡ w .size = length-take-le (w .size) (w .text) (omega arith) in
+    omega arith
 
 same-length : tie.Need-same-length
 same-length c = search needs
 
 returns : tie.Need-returns
 returns c =
-    let w = c .before .before .before .before .before .before .words-of in
-    let l : length (take (w .result .size) (w .result .text)) ≡ w .result .size = length-take-le (w .result .size) (w .result .text) (omega arith) in
-    (rw (← w .ensures .0) (c .before .before .add .ensures), omega (arith, c .before .before .add .ensures .place))
+    let w = c .before .before .before .before .before .before .words-of .result in
+    let l : length (take (w .size) (w .text)) ≡ w .size = length-take-le (w .size) (w .text) (omega arith) in
+    (rw (← c .before .before .before .before .before .before .words-of .ensures .0) (c .before .before .add .ensures), omega (arith, c .before .before .add .ensures .place))
 
 pub add-words-spec : {M : Type 1} → statement M
 add-words-spec =

@@ -34,8 +34,17 @@ returns-6 c = (sym (ap wordsOf (c .match .keys6)), (omega arith, refl))
 returns-7 : tie.Need-returns-7
 unfolding wordsOf
 returns-7 c =
-    let m = c .match .rest in
-    (sym (rw (ne-eqb _ _ (m .0 .0 .0 .0 .0 .1), ne-eqb _ _ (m .0 .0 .0 .0 .1), ne-eqb _ _ (m .0 .0 .0 .1), ne-eqb _ _ (m .0 .0 .1), ne-eqb _ _ (m .0 .1), ne-eqb _ _ (m .1))), (omega arith, refl))
+    let m = c .match .rest in (
+      sym (rw (
+        ne-eqb _ _ (m .0 .0 .0 .0 .0 .1),
+        ne-eqb _ _ (m .0 .0 .0 .0 .1),
+        ne-eqb _ _ (m .0 .0 .0 .1),
+        ne-eqb _ _ (m .0 .0 .1),
+        ne-eqb _ _ (m .0 .1),
+        ne-eqb _ _ (m .1),
+      )),
+      (omega arith, refl),
+    )
 
 pub words-of-spec : {M : Type 1} → statement M
 words-of-spec =
