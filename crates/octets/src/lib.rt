@@ -17,10 +17,7 @@ pub fn le32(s: &[u8], at: usize) -> u32
     requires { ⌜ at + 4 ≤ length (now s) ⌝ }
     ensures { λ r. ⌜ r ≡ le32Of (now (s .entry)) at ⌝ }
 {
-    (s[at] as u32)
-        + (s[at + 1] as u32) * 256
-        + (s[at + 2] as u32) * 65536
-        + (s[at + 3] as u32) * 16777216
+    le16(s, at) as u32 + le16(s, at + 2) as u32 * 65536
 }
 
 // Byte k of a number, 0 the lowest.

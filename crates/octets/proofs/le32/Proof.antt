@@ -1,115 +1,52 @@
--- Each read brings that the list's numbers are bytes (`shared-slice-known`).
+-- Two numbers of two bytes.
 use borrow.Author.Needs.{needs}
-use Prim.Native.Nat.{_+_}
+use Prim.Native.Nat.{ℕ, _+_, _*_}
+use mathlib.Core.Path.{_≡_, ap}
+use mathlib.Core.List.{List}
 use native.Mathlib.Omega.{arith}
-use Rattle.octets.specs.Octets.{le32Of}
+use lib.ListN.{getD}
+use Rattle.octets.specs.Octets.{le16Of, le32Of}
 use Rattle.octets.proofs.le32.Statement.{statement}
 use Rattle.octets.proofs.le32.Tie as tie
+use Rattle.octets.proofs.le16.Reads as le16-reads
 
-shared-slice-read-result : tie.Need-shared-slice-read-result
-shared-slice-read-result c = search needs
+halves : (s : List ℕ) (at : ℕ) {m n : ℕ} → m ≡ le16Of s at → n ≡ le16Of s (at + 2) → m + n * 65536 ≡ le32Of s at
+unfolding le16Of le32Of
+halves s at p q = let e : getD s (at + 2 + 1) 0 ≡ getD s (at + 3) 0 = ap (λ (i : ℕ). getD s i 0) (omega arith) in omega arith
+
+le16-requires : tie.Need-le16-requires
+le16-requires c κs = search needs
 
 cast-result : tie.Need-cast-result
-cast-result c =
-    let at = c .before .args .at in
-    let b = c .shared-slice-known .given in
-    omega (arith, b at)
+cast-result c = search needs
+
+add-le16 : tie.Need-add-le16
+add-le16 c = search needs
+
+le16-requires-2 : tie.Need-le16-requires-2
+le16-requires-2 c κs = search needs
+
+cast-result-2 : tie.Need-cast-result-2
+cast-result-2 c = search needs
+
+mul-result : tie.Need-mul-result
+mul-result c = search needs
 
 add-result : tie.Need-add-result
 add-result c = search needs
 
-shared-slice-read-result-2 : tie.Need-shared-slice-read-result-2
-shared-slice-read-result-2 c = search needs
-
-cast-result-2 : tie.Need-cast-result-2
-cast-result-2 c =
-    let at = c .before .before .args .at in
-    let b = c .shared-slice-known2 .given in
-    omega (arith, b at, b (at + 1))
-
-mul-result : tie.Need-mul-result
-mul-result c =
-    let at = c .before .before .args .at in
-    let b = c .shared-slice-known2 .given in
-    omega (arith, b at, b (at + 1))
-
-add-result-2 : tie.Need-add-result-2
-add-result-2 c =
-    let at = c .before .before .args .at in
-    let b = c .shared-slice-known2 .given in
-    omega (arith, b at, b (at + 1))
-
-add-result-3 : tie.Need-add-result-3
-add-result-3 c = search needs
-
-shared-slice-read-result-3 : tie.Need-shared-slice-read-result-3
-shared-slice-read-result-3 c = search needs
-
-cast-result-3 : tie.Need-cast-result-3
-cast-result-3 c =
-    let at = c .before .before .before .args .at in
-    let b = c .shared-slice-known3 .given in
-    omega (arith, b at, b (at + 1), b (at + 2))
-
-mul-result-2 : tie.Need-mul-result-2
-mul-result-2 c =
-    let at = c .before .before .before .args .at in
-    let b = c .shared-slice-known3 .given in
-    omega (arith, b at, b (at + 1), b (at + 2))
-
-add-result-4 : tie.Need-add-result-4
-add-result-4 c =
-    let at = c .before .before .before .args .at in
-    let b = c .shared-slice-known3 .given in
-    omega (arith, b at, b (at + 1), b (at + 2))
-
-add-result-5 : tie.Need-add-result-5
-add-result-5 c = search needs
-
-shared-slice-read-result-4 : tie.Need-shared-slice-read-result-4
-shared-slice-read-result-4 c = search needs
-
-cast-result-4 : tie.Need-cast-result-4
-cast-result-4 c =
-    let at = c .before .before .before .before .args .at in
-    let b = c .shared-slice-known4 .given in
-    omega (arith, b at, b (at + 1), b (at + 2), b (at + 3))
-
-mul-result-3 : tie.Need-mul-result-3
-mul-result-3 c =
-    let at = c .before .before .before .before .args .at in
-    let b = c .shared-slice-known4 .given in
-    omega (arith, b at, b (at + 1), b (at + 2), b (at + 3))
-
-add-result-6 : tie.Need-add-result-6
-add-result-6 c =
-    let at = c .before .before .before .before .args .at in
-    let b = c .shared-slice-known4 .given in
-    omega (arith, b at, b (at + 1), b (at + 2), b (at + 3))
-
 returns : tie.Need-returns
-unfolding le32Of
-returns c = search needs
+returns c = halves _ _ (c .before .le16 .ensures) (c .le162 .ensures)
 
 pub le32-spec : {M : Type 1} → statement M
 le32-spec =
     tie.close
     (tie.spec
-    shared-slice-read-result
+    le16-requires
     cast-result
-    add-result
-    shared-slice-read-result-2
+    add-le16
+    le16-requires-2
     cast-result-2
     mul-result
-    add-result-2
-    add-result-3
-    shared-slice-read-result-3
-    cast-result-3
-    mul-result-2
-    add-result-4
-    add-result-5
-    shared-slice-read-result-4
-    cast-result-4
-    mul-result-3
-    add-result-6
+    add-result
     returns)
