@@ -5,10 +5,10 @@ ghost use Prim.Native.Nat.{_<_};
 ghost use Rattle.levels.specs.Levels.{allLevels};
 ghost use Rattle.via.specs.Writes.{written};
 ghost use Rattle.iwm.specs.Lines.{accessed};
-ghost use Rattle.machine.specs.Machine.{withVia, withDisk, noValue, Levels};
-ghost use Rattle.meaning.specs.Accesses.{viaRead, iwmRead};
-use machine::Did;
-use machine::Machine;
+ghost use Rattle.machinespec.specs.Machine.{withVia, withDisk, noValue, Levels};
+ghost use Rattle.machinespec.specs.Accesses.{viaRead, iwmRead};
+use machinespec::Did;
+use machinespec::Machine;
 
 // RD of a VIA register.
 pub fn read_via(mut m: Machine, register: u8) -> Did
@@ -19,7 +19,7 @@ pub fn read_via(mut m: Machine, register: u8) -> Did
     let lines = m.inputs;
     let c = m.clock;
     let p = c.phase;
-    let outside = wiring::inputs_of(edges::shown_line(p), lines);
+    let outside = wiring::inputs_of(phaselevels::shown_line(p), lines);
     let a = registers::read(m.via, register, outside);
     let v = a.via;
     m.via = v;

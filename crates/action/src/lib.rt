@@ -1,11 +1,11 @@
 // The action of an item on the machine, its wait having passed.
 ghost use mathlib.Core.Path.{_≡_};
-ghost use Rattle.items.specs.Items.{InRange};
-ghost use Rattle.machine.specs.Machine.{Levels};
-ghost use Rattle.meaning.specs.Action.{actedOf};
-use items::Item;
-use machine::Did;
-use machine::Machine;
+ghost use Rattle.itemspec.specs.Items.{InRange};
+ghost use Rattle.machinespec.specs.Machine.{Levels};
+ghost use Rattle.machinespec.specs.Action.{actedOf};
+use itemspec::Item;
+use machinespec::Did;
+use machinespec::Machine;
 
 pub fn act(m: Machine, item: Item) -> Did
     requires { ⌜ InRange item ⌝ }

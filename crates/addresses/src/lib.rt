@@ -1,24 +1,13 @@
 // The 32 addresses: sixteen VIA registers and sixteen IWM locations.
 ghost use mathlib.Core.Path.{_≡_};
-ghost use Rattle.addresses.specs.Addresses.{placeFrom, foundOf};
+ghost use Rattle.itemspec.specs.Addresses.{placeFrom, foundOf};
+use itemspec::Found;
+use itemspec::Place;
 
 // The addresses of VIA register 0 and of IWM location 0; the others follow 512 apart.
 const VIA_BASE: u32 = 0xefe1fe;
 
 const IWM_BASE: u32 = 0xdfe1ff;
-
-// Which of sixteen places, 512 apart, an address is.
-pub enum Place {
-    At(u8),
-    Off,
-}
-
-// What stands at an address: a VIA register, an IWM location, or neither.
-pub enum Found {
-    Via(u8),
-    Iwm(u8),
-    Nowhere,
-}
 
 // The place of an address among the sixteen from `base` on.
 fn place_from(address: u32, base: u32) -> Place

@@ -62,7 +62,7 @@ fn words_of(number: u8) -> Words
     }
 }
 
-// The words of a refusal.
+// Adds the words of a refusal.
 fn add_words(d: &mut [u8], at: usize, number: u8) -> usize
     requires { ⌜ at + 34 ≤ length (now d) ⌝ }
     ensures { λ r. ⌜ Put (now (d .entry)) (now (d .exit)) at r (wordsOf number) ⌝ }

@@ -8,13 +8,13 @@ use lib.ListN.{length, take, drop, length-append, length-drop}
 use lib.Seq.{take-at, drop-at}
 use lib.Dec.{ltb}
 use Rattle.levels.proofs.Laws.{no}
-use Rattle.machine.specs.declared.Machine.{Machine}
-use Rattle.machine.specs.Machine.{acceptedOf}
+use Rattle.machinespec.specs.declared.Machine.{Machine}
+use Rattle.machinespec.specs.Machine.{acceptedOf}
 use Rattle.outcome.specs.Turn.{turnOf}
 use Rattle.outcome.specs.Outcome.{Piece, whole, broken, pieces, Out, halt, onto, onPiece, runPieces, runOf, over}
 use Rattle.outcome.proofs.Users.{accepted-kept, answers-fit}
-use Rattle.image.specs.Image.{imageOf, machineOf, validImage, Typed}
-use Rattle.image.proofs.Round.{valid-is, image-typed, saved-valid, restore-saved}
+use Rattle.imagespec.specs.Image.{imageOf, machineOf, validImage, Typed}
+use Rattle.imagespec.proofs.Round.{valid-is, image-typed, saved-valid, restore-saved}
 use Rattle.demand3.specs.Runs.{Run3}
 use Rattle.demand3.proofs.Runs.{run3, accepted-clock}
 use Rattle.call.specs.Call.{callOf, callImage, callAnswers}

@@ -5,13 +5,13 @@ use mathlib.Core.Bool.{true, false}
 use mathlib.Core.List.{List}
 use lib.ListN.{length}
 use Rattle.levels.proofs.Laws.{no}
-use Rattle.machine.specs.declared.Machine.{Machine}
-use Rattle.machine.specs.Machine.{acceptedOf}
+use Rattle.machinespec.specs.declared.Machine.{Machine}
+use Rattle.machinespec.specs.Machine.{acceptedOf}
 use Rattle.outcome.specs.declared.Ran.{Ran}
 use Rattle.outcome.specs.Outcome.{Out, runOf, ranOf, over}
 use Rattle.outcome.proofs.Users.{accepted-kept}
-use Rattle.image.specs.Image.{imageOf, machineOf, validImage}
-use Rattle.image.proofs.Round.{valid-is}
+use Rattle.imagespec.specs.Image.{imageOf, machineOf, validImage}
+use Rattle.imagespec.proofs.Round.{valid-is}
 use Rattle.demand3.specs.Runs.{Run3}
 use Rattle.call.specs.Call.{callOf, callImage, callAnswers}
 use Rattle.call.proofs.Call.{seven, is-run, image-left, call3}

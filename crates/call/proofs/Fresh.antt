@@ -13,10 +13,10 @@ use Rattle.via.specs.Via.{freshVia}
 use Rattle.iwm.specs.Lines.{linesOff}
 use Rattle.octets.specs.Octets.{putAt}
 use Rattle.octets.proofs.Laws.{put-length, put-take, put-drop}
-use Rattle.machine.specs.Machine.{freshMachine}
+use Rattle.machinespec.specs.Machine.{freshMachine}
 use Rattle.outcome.specs.Outcome.{runOf}
-use Rattle.image.specs.Image.{imageLength, imageOf, Typed}
-use Rattle.image.proofs.Round.{valid-is}
+use Rattle.imagespec.specs.Image.{imageLength, imageOf, Typed}
+use Rattle.imagespec.proofs.Round.{valid-is}
 use Rattle.demand3.proofs.Runs.{fresh-ok}
 use Rattle.call.specs.Call.{callOf, freshStop, freshImage}
 use Rattle.call.proofs.Call.{Has, has-valid, is-run-of}

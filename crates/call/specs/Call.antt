@@ -5,9 +5,9 @@ use mathlib.Core.List.{List}
 use lib.ListN.{length}
 use lib.Dec.{ltb}
 use Rattle.octets.specs.Octets.{putAt}
-use Rattle.machine.specs.Machine.{freshMachine}
+use Rattle.machinespec.specs.Machine.{freshMachine}
 use Rattle.outcome.specs.Outcome.{Out, halt, runOf, over}
-use Rattle.image.specs.Image.{imageLength, imageOf, machineOf, validImage}
+use Rattle.imagespec.specs.Image.{imageLength, imageOf, machineOf, validImage}
 
 -- "An image that no accepted state has gets refusal 7", both counts 0; every other is the state that the run starts from.
 unfoldable pub callOf : List ℕ → List ℕ → ℕ → Out

@@ -4,14 +4,14 @@ use mathlib.Core.Bool.{Bool, true, false}
 use mathlib.Core.List.{List, [], _∷_, _++_}
 use Prim.Native.Nat.{ℕ, _/_}
 use lib.ListN.{getD}
-use Rattle.command.specs.Command.{decode, named}
-use Rattle.command.specs.Patterns.{bitsOf}
+use Rattle.clockspec.specs.Command.{decode, named}
+use Rattle.clockspec.specs.Patterns.{bitsOf}
 use Rattle.octets.specs.Octets.{replace}
-use Rattle.store.specs.Store.{fetch, put, act}
-use Rattle.phase.specs.Phase.{between}
+use Rattle.clockspec.specs.Store.{fetch, put, act}
+use Rattle.clockspec.specs.Phase.{between}
 use Rattle.clock.specs.Step.{freshClock, next, acts, stepWires}
-use Rattle.phase.specs.declared.Phase.the-variants.{Listening, Sending, Ignoring}
-use Rattle.phase.specs.declared.Wires.{Wires}
+use Rattle.clockspec.specs.declared.Phase.the-variants.{Listening, Sending, Ignoring}
+use Rattle.clockspec.specs.declared.Wires.{Wires}
 use Rattle.clock.specs.declared.Clock.{Clock}
 
 abbrev levels : Bool → Bool → Bool → Wires

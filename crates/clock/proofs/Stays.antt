@@ -5,11 +5,11 @@ use mathlib.Core.List.{List, [], _∷_}
 use Prim.Native.Nat.{ℕ}
 use types.Run.{OneOf, miss}
 use denote.Enum.Declared.{tagOf}
-use Rattle.store.specs.Store.{act}
-use Rattle.phase.proofs.Phase.{the-type}
-use Rattle.phase.specs.declared.Phase.{Phase}
-use Rattle.phase.specs.declared.Phase.the-variants.{Idle, Listening, Taking, Sending, Ignoring}
-use Rattle.phase.specs.declared.Edge.the-variants.{Fall, Rise}
+use Rattle.clockspec.specs.Store.{act}
+use Rattle.clockspec.proofs.Phase.{the-type}
+use Rattle.clockspec.specs.declared.Phase.{Phase}
+use Rattle.clockspec.specs.declared.Phase.the-variants.{Idle, Listening, Taking, Sending, Ignoring}
+use Rattle.clockspec.specs.declared.Edge.the-variants.{Fall, Rise}
 use Rattle.clock.specs.Step.{withPhase, next, acts, edged}
 use Rattle.clock.specs.declared.Clock.{Clock}
 

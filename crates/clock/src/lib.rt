@@ -1,14 +1,12 @@
-// The clock chip: its phase and its store, and the step by the three wires.
+// The clock chip: its phase and its store, fresh, and its step by the three wires.
 ghost use mathlib.Core.Path.{_≡_};
 ghost use mathlib.Core.Bool.{true};
-ghost use Rattle.store.specs.Shared.{second, off};
-ghost use Rattle.store.specs.Store.{counted};
-ghost use Rattle.phase.specs.Phase.{counts, fewBits, acceptedPhase};
-ghost use Rattle.clock.specs.Step.{withStore, withPhase, freshClock, edged, stepWires};
-use phase::Edge;
-use phase::Phase;
-use phase::Wires;
-use store::Store;
+ghost use Rattle.clockspec.specs.Phase.{counts, fewBits, acceptedPhase};
+ghost use Rattle.clock.specs.Step.{withPhase, freshClock, edged, stepWires};
+use clockspec::Edge;
+use clockspec::Phase;
+use clockspec::Store;
+use clockspec::Wires;
 
 pub struct Clock {
     pub phase: Phase,
@@ -31,26 +29,6 @@ pub fn fresh() -> Clock
 }
 
 impl Clock {
-    // SE: one second.
-    pub fn second(self) -> Clock
-        ensures { λ r. ⌜ r ≡ withStore self (counted second (self .store)) ⌝ }
-    {
-        let mut c = self;
-        let s = c.store.add_seconds(1);
-        c.store = s;
-        c
-    }
-
-    // PW: the seconds off.
-    pub fn time_off(self, seconds: u32) -> Clock
-        ensures { λ r. ⌜ r ≡ withStore self (counted (off seconds) (self .store)) ⌝ }
-    {
-        let mut c = self;
-        let s = c.store.add_seconds(seconds);
-        c.store = s;
-        c
-    }
-
     // A rise while data bits are taken: the last one completes the write.
     fn take(self, command: u8, n: u8, v: u8, b: bool) -> Clock
         requires { ⌜ fewBits n v ≡ true ⌝ }
@@ -59,7 +37,7 @@ impl Clock {
         let w = phase::pushed(v, b);
         let s = self.store;
         if n == 7 {
-            let t = s.act(command::decoded(20, command), w);
+            let t = store::act(s, command::decoded(20, command), w);
             return Clock {
                 phase: Phase::Ignoring,
                 store: t,
@@ -115,7 +93,7 @@ impl Clock {
         requires { ⌜ acceptedPhase 20 (self .phase) (before .enable) ≡ true ⌝ }
         ensures { λ r. ⌜ r ≡ stepWires 20 self before after ⌝ }
     {
-        match edges::edge_between(before, after) {
+        match phase::edge_between(before, after) {
             Edge::Up => {
                 let s = self.store;
                 Clock {

@@ -2,9 +2,11 @@
 ghost use mathlib.Core.Path.{_≡_};
 ghost use lib.ListN.{length};
 ghost use Rattle.octets.specs.Octets.{putAt};
-ghost use Rattle.layout.specs.Layout.{imageLength, phaseAt, phaseLength, registersAt, registersLength, cellsAt, cellsLength, part};
-ghost use Rattle.clockbytes.specs.Layout.{phaseBytes, phaseBy, phaseOf, registerLayout, registerBytes, storeFields, storeOf, clockOf, StoreTyped};
+ghost use Rattle.imagespec.specs.Layout.{imageLength, phaseAt, phaseLength, registersAt, registersLength, cellsAt, cellsLength, part};
+ghost use Rattle.imagespec.specs.ClockLayout.{phaseBytes, phaseBy, phaseOf, registerLayout, registerBytes, storeFields, storeOf, clockOf, StoreTyped};
 use clock::Clock;
+use clockspec::Phase;
+use clockspec::Store;
 use layout::CELLS;
 use layout::CELLS_LENGTH;
 use layout::LINES;
@@ -12,8 +14,6 @@ use layout::PHASE;
 use layout::PHASE_LENGTH;
 use layout::REGISTERS;
 use layout::REGISTERS_LENGTH;
-use phase::Phase;
-use store::Store;
 
 // The phase's number, the write command, the bits taken or the falls, their value or the byte sent.
 fn phase_bytes(p: Phase) -> [u8; PHASE_LENGTH]

@@ -1,23 +1,9 @@
-// The clock chip's commands: what a byte asks, by its bit pattern; and what protect forbids.
+// The clock chip's commands: what a byte asks, by its bit pattern.
 ghost use mathlib.Core.Path.{_≡_};
 ghost use Prim.Native.Nat.{_<_};
-ghost use Rattle.command.specs.Command.{either, writeOnly, cellOf, named, decode, isWrite};
-ghost use Rattle.command.specs.Writable.{writable};
-
-// What a command names.
-pub enum Target {
-    // A seconds byte, 0 the lowest.
-    Seconds(u8),
-    Test,
-    Protect,
-    Cell(u8),
-}
-
-pub enum Command {
-    Write(Target),
-    Read(Target),
-    Illegal,
-}
+ghost use Rattle.clockspec.specs.Command.{either, writeOnly, cellOf, named, decode};
+use clockspec::Command;
+use clockspec::Target;
 
 fn either_way(z: bool, t: Target) -> Command
     ensures { λ r. ⌜ r ≡ either z t ⌝ }
@@ -82,27 +68,4 @@ pub fn decoded(cells: u16, c: u8) -> Command
         return named_by(cells, 128 <= c, c % 128 / 4);
     }
     Command::Illegal
-}
-
-// Whether a command is a legal write.
-pub fn is_write(c: Command) -> bool
-    ensures { λ r. ⌜ r ≡ isWrite c ⌝ }
-{
-    match c {
-        Command::Write(_) => true,
-        Command::Read(_) => false,
-        Command::Illegal => false,
-    }
-}
-
-// Whether a write to the target may act while protect is so.
-pub fn may_write(t: Target, protect: bool) -> bool
-    ensures { λ r. ⌜ r ≡ writable t protect ⌝ }
-{
-    match t {
-        Target::Seconds(_) => !protect,
-        Target::Test => !protect,
-        Target::Protect => true,
-        Target::Cell(_) => !protect,
-    }
 }

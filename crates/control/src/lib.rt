@@ -1,17 +1,16 @@
 // What is done to a drive: DI, and a write to its registers (direction, step, motor and eject).
 ghost use mathlib.Core.Path.{_≡_};
-ghost use mathlib.Core.Bool.{true, false};
-ghost use Rattle.control.specs.Control.{diskMoved, registerWritten};
-use drive::Drive;
+ghost use Rattle.diskspec.specs.Control.{diskMoved, registerWritten};
+use diskspec::Drive;
 
 // DI: a disk comes or leaves.
 pub fn move_disk(d: Drive, insert: bool, locked: bool, sides: bool) -> Drive
     ensures { λ r. ⌜ r ≡ diskMoved insert locked sides d ⌝ }
 {
     if insert {
-        return d.insert(locked, sides);
+        return drive::insert(d, locked, sides);
     }
-    d.remove()
+    drive::remove(d)
 }
 
 // A write that acts: registers 0 to 3 are direction, step, motor and eject; the others do nothing.
@@ -39,7 +38,7 @@ pub fn write_register(d: Drive, register: u8, value: bool) -> Drive
         },
         3 => {
             if value & d.disk {
-                return d.remove();
+                return drive::remove(d);
             }
             d
         }

@@ -5,28 +5,28 @@ use Prim.Native.Nat.{ℕ, zero, suc, _+_, _-_, _*_, _/_, _%_, _^_}
 use lib.ListN.{getD}
 use Rattle.levels.specs.Levels.{allLevels}
 use Rattle.octets.specs.Octets.{le16Of, le32Of}
-use Rattle.record.specs.Record.{frameOf}
+use Rattle.itemspec.specs.Record.{frameOf}
 use Rattle.via.specs.Via.{freshVia, ticks, acceptedVia}
 use Rattle.via.specs.Writes.{written, portsWritten}
-use Rattle.command.specs.Command.{named, decode}
+use Rattle.clockspec.specs.Command.{named, decode}
 use Rattle.octets.specs.Octets.{replace}
-use Rattle.store.specs.Store.{fetch, put, act}
-use Rattle.phase.specs.Phase.{between, shown, acceptedPhase}
+use Rattle.clockspec.specs.Store.{fetch, put, act}
+use Rattle.clockspec.specs.Phase.{between, shown, acceptedPhase}
 use Rattle.clock.specs.Step.{next, acts, stepWires}
-use Rattle.command.specs.declared.Target.the-variants.{Cell}
+use Rattle.clockspec.specs.declared.Target.the-variants.{Cell}
 use Rattle.iwm.specs.Lines.{linesOff}
-use Rattle.sense.specs.Sense.{acceptedDrive}
-use Rattle.strobe.specs.Strobe.{acceptedStrobe}
-use Rattle.drives.specs.Drives.{acceptedDrives}
-use Rattle.addresses.specs.Addresses.{placeFrom, foundOf}
-use Rattle.items.specs.Items.{writeOf, powerOf}
-use Rattle.kinds.specs.Kinds.{isKind, decodedOf}
-use Rattle.machine.specs.declared.Machine.{Machine}
-use Rattle.pins.specs.Pins.{wiresOf}
-use Rattle.machine.specs.Machine.{acceptedOf, freshMachine}
-use Rattle.meaning.specs.Action.{eventOf, actedOf}
-use Rattle.meaning.specs.Stages.{waitOf, refusesOf}
-use Rattle.meaning.specs.Step.{stepOf}
+use Rattle.diskspec.specs.Sense.{acceptedDrive}
+use Rattle.diskspec.specs.Strobe.{acceptedStrobe}
+use Rattle.diskspec.specs.Drives.{acceptedDrives}
+use Rattle.itemspec.specs.Addresses.{placeFrom, foundOf}
+use Rattle.itemspec.specs.Items.{writeOf, powerOf}
+use Rattle.itemspec.specs.Kinds.{isKind, decodedOf}
+use Rattle.machinespec.specs.declared.Machine.{Machine}
+use Rattle.machinespec.specs.Pins.{wiresOf}
+use Rattle.machinespec.specs.Machine.{acceptedOf, freshMachine}
+use Rattle.machinespec.specs.Action.{eventOf, actedOf}
+use Rattle.machinespec.specs.Stages.{waitOf, refusesOf}
+use Rattle.machinespec.specs.Step.{stepOf}
 use Rattle.outcome.specs.Turn.{turnOf}
 use Rattle.outcome.specs.Outcome.{cut, piecesFrom, onto, onPiece, runPieces, runOf}
 use Rattle.history.specs.History.{History, wiresAt, rises, ended, protectAt, endedClear, last, secondsAt}

@@ -10,30 +10,30 @@ use Rattle.levels.specs.Levels.{allLevels}
 use Rattle.via.specs.declared.Ports.{Ports}
 use Rattle.via.specs.Via.{freshVia, acceptedVia}
 use Rattle.iwm.specs.Lines.{linesOff}
-use Rattle.store.specs.Shared.{quiet}
-use Rattle.store.specs.Store.{counted}
-use Rattle.phase.specs.Phase.{shown, acceptedPhase}
+use Rattle.clockspec.specs.Shared.{quiet}
+use Rattle.clockspec.specs.Store.{counted}
+use Rattle.clockspec.specs.Phase.{shown, acceptedPhase}
 use Rattle.clock.specs.Step.{withStore, stepWires, stepClock}
 use Rattle.clock.proofs.Line.{settled-step}
-use Rattle.phase.specs.declared.Wires.{Wires}
+use Rattle.clockspec.specs.declared.Wires.{Wires}
 use Rattle.clock.specs.declared.Clock.{Clock}
-use Rattle.sense.specs.Sense.{acceptedDrive}
-use Rattle.strobe.specs.Strobe.{acceptedStrobe}
-use Rattle.drives.specs.Drives.{acceptedDrives}
-use Rattle.items.specs.declared.Item.{Item}
-use Rattle.items.specs.declared.Item.the-variants.{ReadVia, ReadIwm, WriteVia, WriteIwm, Blank, Second, Line, Sense, Reset, Power, Disk}
-use Rattle.items.specs.declared.Decoded.{Decoded}
-use Rattle.items.specs.declared.Decoded.the-variants.{Done, Refused}
-use Rattle.kinds.specs.Kinds.{decodedOf}
-use Rattle.machine.specs.declared.Machine.{Machine}
-use Rattle.pins.specs.Pins.{pin, wiresOf}
-use Rattle.machine.specs.Machine.{cellCount, wires, acceptedOf, freshMachine}
-use Rattle.meaning.specs.Accesses.{viaRead, iwmRead}
-use Rattle.meaning.specs.Action.{eventOf, actedOf}
-use Rattle.meaning.specs.Stages.{waitOf, waited, refusesOf}
-use Rattle.meaning.specs.Step.{stepOf}
-use Rattle.machine.proofs.Laws.{parts}
-use Rattle.meaning.proofs.Drives.{disk-wires}
+use Rattle.diskspec.specs.Sense.{acceptedDrive}
+use Rattle.diskspec.specs.Strobe.{acceptedStrobe}
+use Rattle.diskspec.specs.Drives.{acceptedDrives}
+use Rattle.itemspec.specs.declared.Item.{Item}
+use Rattle.itemspec.specs.declared.Item.the-variants.{ReadVia, ReadIwm, WriteVia, WriteIwm, Blank, Second, Line, Sense, Reset, Power, Disk}
+use Rattle.itemspec.specs.declared.Decoded.{Decoded}
+use Rattle.itemspec.specs.declared.Decoded.the-variants.{Done, Refused}
+use Rattle.itemspec.specs.Kinds.{decodedOf}
+use Rattle.machinespec.specs.declared.Machine.{Machine}
+use Rattle.machinespec.specs.Pins.{pin, wiresOf}
+use Rattle.machinespec.specs.Machine.{cellCount, wires, acceptedOf, freshMachine}
+use Rattle.machinespec.specs.Accesses.{viaRead, iwmRead}
+use Rattle.machinespec.specs.Action.{eventOf, actedOf}
+use Rattle.machinespec.specs.Stages.{waitOf, waited, refusesOf}
+use Rattle.machinespec.specs.Step.{stepOf}
+use Rattle.machinespec.proofs.MachineLaws.{parts}
+use Rattle.machinespec.proofs.Drives.{disk-wires}
 use Rattle.outcome.specs.Turn.{refused, carriedOut, turnBy, turnOf}
 use Rattle.outcome.specs.Outcome.{Piece, whole, broken, pieces, halt, onto, onPiece, runPieces, runOf}
 use Rattle.history.specs.History.{wiresAt}

@@ -5,15 +5,15 @@ use mathlib.Core.List.{List, [], _∷_, _++_}
 use Prim.Native.Nat.{ℕ, _+_, _-_, _<_}
 use lib.Dec.{ltb, eqb}
 use lib.ListN.{getD}
-use Rattle.store.specs.Shared.{Event, quiet, wrap}
+use Rattle.clockspec.specs.Shared.{Event, quiet, wrap}
 use Rattle.clock.specs.declared.Clock.{Clock}
-use Rattle.items.specs.declared.Decoded.{Decoded}
-use Rattle.items.specs.declared.Decoded.the-variants.{Done, Refused}
-use Rattle.kinds.specs.Kinds.{decodedOf}
-use Rattle.machine.specs.declared.Machine.{Machine}
-use Rattle.machine.specs.Machine.{cellCount, wires}
-use Rattle.meaning.specs.Action.{eventOf}
-use Rattle.meaning.specs.Stages.{refusesOf}
+use Rattle.itemspec.specs.declared.Decoded.{Decoded}
+use Rattle.itemspec.specs.declared.Decoded.the-variants.{Done, Refused}
+use Rattle.itemspec.specs.Kinds.{decodedOf}
+use Rattle.machinespec.specs.declared.Machine.{Machine}
+use Rattle.machinespec.specs.Machine.{cellCount, wires}
+use Rattle.machinespec.specs.Action.{eventOf}
+use Rattle.machinespec.specs.Stages.{refusesOf}
 use Rattle.outcome.specs.Turn.{turnOf}
 use Rattle.outcome.specs.Outcome.{Piece, whole, broken, pieces}
 use Rattle.history.specs.History.{Start, Entry, History, cellAt, testAt, protectAt, secondsAt, gained, Kept}

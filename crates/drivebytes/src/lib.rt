@@ -2,17 +2,17 @@
 ghost use mathlib.Core.Path.{_≡_};
 ghost use lib.ListN.{length};
 ghost use Rattle.octets.specs.Octets.{putAt};
-ghost use Rattle.layout.specs.Layout.{imageLength, internalAt, externalAt, strobeAt, driveLength, strobeLength, part};
-ghost use Rattle.drivebytes.specs.Layout.{driveLayout, driveBytes, driveFields, driveOf, strobeLayout, strobeBytes, strobeFields, strobeOf, drivesOf, DrivesTyped};
-use drive::Drive;
-use drives::Drives;
+ghost use Rattle.imagespec.specs.Layout.{imageLength, internalAt, externalAt, strobeAt, driveLength, strobeLength, part};
+ghost use Rattle.imagespec.specs.DriveLayout.{driveLayout, driveBytes, driveFields, driveOf, strobeLayout, strobeBytes, strobeFields, strobeOf, drivesOf, DrivesTyped};
+use diskspec::Drive;
+use diskspec::Drives;
+use diskspec::Strobe;
 use layout::DRIVE_LENGTH;
 use layout::EXTERNAL;
 use layout::INTERNAL;
 use layout::LENGTH;
 use layout::STROBE;
 use layout::STROBE_LENGTH;
-use strobe::Strobe;
 
 fn drive_bytes(d: Drive) -> [u8; DRIVE_LENGTH]
     ensures { λ r. ⌜ r ≡ driveLayout d ⌝ }

@@ -1,10 +1,9 @@
 // The two drives on the disk lines: what the lines write to them, what they show on the sense line, and the ranges that the lines set.
 ghost use mathlib.Core.Path.{_≡_};
-ghost use Rattle.drives.specs.Drives.{drivesAfter, drivesShown, acceptedDrives};
+ghost use Rattle.diskspec.specs.Drives.{drivesAfter, drivesShown, acceptedDrives};
 use control::write_register;
-use drives::Drives;
-use strobe::Strobe;
-use watched::Watched;
+use diskspec::Drives;
+use diskspec::Watched;
 
 // The drives after an item, whose wait and action are over, with these levels before and after it.
 pub fn after(d: Drives, before: Watched, after: Watched) -> Drives
@@ -12,16 +11,16 @@ pub fn after(d: Drives, before: Watched, after: Watched) -> Drives
 {
     let mut next = d;
     if !(before.lstrb | after.lstrb) {
-        next.strobe = Strobe::off();
+        next.strobe = strobe::off();
         return next;
     }
-    next.strobe = d.strobe.after(before, after);
-    if d.strobe.writes(before, after) {
+    next.strobe = strobe::after(d.strobe, before, after);
+    if strobe::writes(d.strobe, before, after) {
         if after.select {
-            next.external = write_register(d.external, after.register(), after.ca2);
+            next.external = write_register(d.external, watched::register(after), after.ca2);
             return next;
         }
-        next.internal = write_register(d.internal, after.register(), after.ca2);
+        next.internal = write_register(d.internal, watched::register(after), after.ca2);
     }
     next
 }
@@ -40,5 +39,5 @@ pub fn shown(d: Drives, place: u8, stored: u8) -> u8
 pub fn accepted(d: Drives, levels: Watched) -> bool
     ensures { λ r. ⌜ r ≡ acceptedDrives levels d ⌝ }
 {
-    sense::accepted(d.internal) & (sense::accepted(d.external) & d.strobe.accepted(levels))
+    sense::accepted(d.internal) & (sense::accepted(d.external) & strobe::accepted(d.strobe, levels))
 }

@@ -3,13 +3,13 @@ ghost use mathlib.Core.Path.{_≡_};
 ghost use Prim.Native.Nat.{_+_, _*_, _<_};
 ghost use lib.ListN.{set};
 ghost use Rattle.via.specs.Via.{freshVia, raisedOf, resetOf};
-ghost use Rattle.store.specs.Shared.{second, off};
+ghost use Rattle.clockspec.specs.Shared.{second, off};
 ghost use Rattle.iwm.specs.Lines.{linesOff};
-ghost use Rattle.drives.specs.Drives.{placed, drivesPowered};
-ghost use Rattle.machine.specs.Machine.{withVia, withDisk, withInputs, withSense, withDrives, noValue};
-ghost use Rattle.meaning.specs.Events.{passed};
-use machine::Did;
-use machine::Machine;
+ghost use Rattle.diskspec.specs.Drives.{placed, drivesPowered};
+ghost use Rattle.machinespec.specs.Machine.{withVia, withDisk, withInputs, withSense, withDrives, noValue};
+ghost use Rattle.machinespec.specs.Events.{passed};
+use machinespec::Did;
+use machinespec::Machine;
 
 // VB: flag 1.
 pub fn blank(mut m: Machine) -> Did
@@ -27,7 +27,9 @@ pub fn second(mut m: Machine) -> Did
     ensures { λ r. ⌜ r ≡ noValue (passed second (withVia m (raisedOf 1 (m .via)))) ⌝ }
 {
     m.via = viaflags::raise(m.via, 1);
-    m.clock = m.clock.second();
+    let mut c = m.clock;
+    c.store = store::add_seconds(c.store, 1);
+    m.clock = c;
     Did {
         machine: m,
         value: 0,
@@ -88,8 +90,10 @@ pub fn power_cut(mut m: Machine, seconds: u32) -> Did
 {
     m.via = via::fresh();
     m.disk = iwm::off();
-    m.clock = m.clock.time_off(seconds);
-    m.drives = m.drives.power_cut();
+    let mut c = m.clock;
+    c.store = store::add_seconds(c.store, seconds);
+    m.clock = c;
+    m.drives = drives::power_cut(m.drives);
     Did {
         machine: m,
         value: 0,
@@ -100,7 +104,7 @@ pub fn power_cut(mut m: Machine, seconds: u32) -> Did
 pub fn place_disk(mut m: Machine, external: bool, insert: bool, locked: bool, sides: bool) -> Did
     ensures { λ r. ⌜ r ≡ noValue (withDrives m (placed external insert locked sides (m .drives))) ⌝ }
 {
-    m.drives = m.drives.place(external, insert, locked, sides);
+    m.drives = drives::place(m.drives, external, insert, locked, sides);
     Did {
         machine: m,
         value: 0,

@@ -2,7 +2,7 @@
 ghost use mathlib.Core.Path.{_≡_};
 ghost use Prim.Native.Nat.{_≤_};
 ghost use lib.ListN.{length};
-ghost use Rattle.machine.specs.Machine.{freshMachine};
+ghost use Rattle.machinespec.specs.Machine.{freshMachine};
 ghost use Rattle.outcome.specs.Outcome.{ranOf, over, runOf};
 ghost use Rattle.demand3.specs.Runs.{Run3};
 use outcome::Ran;

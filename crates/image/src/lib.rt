@@ -2,10 +2,10 @@
 ghost use mathlib.Core.Path.{_≡_};
 ghost use mathlib.Core.Bool.{true};
 ghost use lib.ListN.{length};
-ghost use Rattle.machine.specs.Machine.{acceptedOf};
-ghost use Rattle.image.specs.Image.{imageLength, imageOf, machineOf, validImage};
+ghost use Rattle.machinespec.specs.Machine.{acceptedOf};
+ghost use Rattle.imagespec.specs.Image.{imageLength, imageOf, machineOf, validImage};
 use iwm::DiskLines;
-use machine::Machine;
+use machinespec::Machine;
 
 pub const LENGTH: usize = layout::LENGTH;
 
@@ -64,6 +64,6 @@ pub fn valid(image: &[u8]) -> bool
     let mut own = [0; LENGTH];
     save(&mut own, m);
     let written = layout::same(&own, image);
-    let taken = m.accepted();
+    let taken = machine::accepted(m);
     written & taken
 }

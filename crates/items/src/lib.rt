@@ -1,84 +1,12 @@
-// The kinds of items, and the bodies of those with no range to keep: RD, WR, VB, SE, RS, PW.
+// The items with no range to keep, their bodies read: RD, WR, VB, SE, RS, PW; and the number of a refusal.
 ghost use mathlib.Core.Path.{_≡_};
 ghost use Prim.Native.Nat.{_≤_};
 ghost use lib.ListN.{length};
-ghost use Rattle.items.specs.Items.{refusalOf, plainOf, readOf, writeOf, powerOf};
-use addresses::Found;
-
-// What a record asks for. Each wait is in VIA ticks.
-pub enum Item {
-    // RD
-    ReadVia {
-        wait: u16,
-        register: u8,
-    },
-    ReadIwm {
-        wait: u16,
-        location: u8,
-    },
-    // WR
-    WriteVia {
-        wait: u16,
-        register: u8,
-        value: u8,
-    },
-    WriteIwm {
-        wait: u16,
-        location: u8,
-        value: u8,
-    },
-    // VB
-    Blank {
-        wait: u16,
-    },
-    // SE
-    Second {
-        wait: u16,
-    },
-    // IN
-    Line {
-        wait: u16,
-        line: u8,
-        level: u8,
-    },
-    // SN: drive 0 is internal, 1 external.
-    Sense {
-        wait: u16,
-        drive: u8,
-        register: u8,
-        level: u8,
-    },
-    // RS
-    Reset {
-        wait: u16,
-    },
-    // PW
-    Power {
-        wait: u16,
-        seconds: u32,
-    },
-    // DI: drive 0 is internal, 1 external; insert 1 or remove 0; locked 1, double-sided 1.
-    Disk {
-        wait: u16,
-        drive: u8,
-        insert: u8,
-        locked: u8,
-        sides: u8,
-    },
-}
-
-// A record read whole: its item, or the number of its refusal.
-pub enum Decoded {
-    Done(Item),
-    Refused(u8),
-}
-
-// The kinds whose items are a wait alone: VB, SE, RS.
-pub enum Plain {
-    Blank,
-    Second,
-    Reset,
-}
+ghost use Rattle.itemspec.specs.Items.{refusalOf, plainOf, readOf, writeOf, powerOf};
+use itemspec::Decoded;
+use itemspec::Found;
+use itemspec::Item;
+use itemspec::Plain;
 
 // The refusal's number; 0 of an item.
 pub fn refusal(d: Decoded) -> u8

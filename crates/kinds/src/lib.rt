@@ -2,9 +2,9 @@
 ghost use mathlib.Core.Path.{_≡_};
 ghost use Prim.Native.Nat.{_≤_};
 ghost use lib.ListN.{length};
-ghost use Rattle.kinds.specs.Kinds.{isKind, decodedOf};
-use items::Decoded;
-use items::Plain;
+ghost use Rattle.itemspec.specs.Kinds.{isKind, decodedOf};
+use itemspec::Decoded;
+use itemspec::Plain;
 
 // Whether a record's kind is this one.
 fn is(s: &[u8], kind: &[u8; 2]) -> bool

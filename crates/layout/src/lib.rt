@@ -2,7 +2,7 @@
 ghost use mathlib.Core.Path.{_≡_};
 ghost use lib.ListN.{length};
 ghost use Rattle.octets.specs.Octets.{putAt};
-ghost use Rattle.layout.specs.Layout.{linesLength, inputsLength, senseLength, linesAt, inputsAt, senseAt, imageLength, part, headBytes, sameBytes};
+ghost use Rattle.imagespec.specs.Layout.{linesLength, inputsLength, senseLength, linesAt, inputsAt, senseAt, imageLength, part, headBytes, sameBytes};
 
 const KIND: [u8; 2] = *b"ST";
 

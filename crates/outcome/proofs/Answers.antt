@@ -5,10 +5,10 @@ use mathlib.Core.Bool.{Bool, true, false, cond}
 use mathlib.Core.List.{List, [], _∷_, _++_, append-nil}
 use lib.Dec.{ltb}
 use borrow.Author.Tests.{ltb-true, ltb-false}
-use Rattle.record.specs.declared.Answer.{Answer}
-use Rattle.record.specs.Record.{answerBytes, noOf}
-use Rattle.machine.specs.declared.Machine.{Machine}
-use Rattle.machine.specs.Machine.{acceptedOf}
+use Rattle.itemspec.specs.declared.Answer.{Answer}
+use Rattle.itemspec.specs.Record.{answerBytes, noOf}
+use Rattle.machinespec.specs.declared.Machine.{Machine}
+use Rattle.machinespec.specs.Machine.{acceptedOf}
 use Rattle.outcome.specs.Turn.{turnOf}
 use Rattle.outcome.proofs.Keeps.{turn-keeps}
 use Rattle.outcome.proofs.Ordinary.{Ordinary, no-ordinary, turn-ordinary}

@@ -9,12 +9,12 @@ use native.Mathlib.Nat.{sub-zero, sub-add-eq}
 use lib.ListN.{length, take, drop, length-append, length-drop}
 use lib.Seq.{take-append-le, drop-append-le, length-take-le}
 use lib.Dec.{ltb}
-use Rattle.record.specs.Record.{frameOf, answerBytes}
-use Rattle.record.specs.declared.Framed.{Framed}
-use Rattle.record.specs.declared.Framed.the-variants.{Whole, Cut}
-use Rattle.record.proofs.Laws.{answer-long, whole-fits, whole-append}
-use Rattle.machine.specs.declared.Machine.{Machine}
-use Rattle.machine.specs.Machine.{acceptedOf}
+use Rattle.itemspec.specs.Record.{frameOf, answerBytes}
+use Rattle.itemspec.specs.declared.Framed.{Framed}
+use Rattle.itemspec.specs.declared.Framed.the-variants.{Whole, Cut}
+use Rattle.itemspec.proofs.RecordLaws.{answer-long, whole-fits, whole-append}
+use Rattle.machinespec.specs.declared.Machine.{Machine}
+use Rattle.machinespec.specs.Machine.{acceptedOf}
 use Rattle.outcome.proofs.Keeps.{turn-keeps}
 use Rattle.outcome.specs.Turn.{turnOf}
 use Rattle.outcome.specs.Outcome.{Piece, whole, broken, cut, piecesFrom, pieces, Out, halt, onto, onPiece, runPieces, runOf}

@@ -4,15 +4,15 @@ use mathlib.Core.Path.{_≡_, refl}
 use mathlib.Core.Bool.{Bool, true, false, cond}
 use mathlib.Core.List.{List}
 use lib.Dec.{eqb}
-use Rattle.kinds.specs.Kinds.{decodedOf}
-use Rattle.items.specs.declared.Decoded.{Decoded}
-use Rattle.items.specs.declared.Decoded.the-variants.{Done, Refused}
-use Rattle.kinds.proofs.Range.{decoded-range}
-use Rattle.machine.specs.declared.Machine.{Machine}
-use Rattle.machine.specs.Machine.{acceptedOf}
-use Rattle.meaning.specs.Stages.{refusesOf}
-use Rattle.meaning.specs.Step.{stepOf}
-use Rattle.meaning.proofs.Keeps.{step-keeps}
+use Rattle.itemspec.specs.Kinds.{decodedOf}
+use Rattle.itemspec.specs.declared.Decoded.{Decoded}
+use Rattle.itemspec.specs.declared.Decoded.the-variants.{Done, Refused}
+use Rattle.itemspec.proofs.ItemRange.{decoded-range}
+use Rattle.machinespec.specs.declared.Machine.{Machine}
+use Rattle.machinespec.specs.Machine.{acceptedOf}
+use Rattle.machinespec.specs.Stages.{refusesOf}
+use Rattle.machinespec.specs.Step.{stepOf}
+use Rattle.machinespec.proofs.Keeps.{step-keeps}
 use Rattle.outcome.specs.Turn.{carriedOut, refused, turnBy, turnOf}
 
 pub turn-keeps : (m : Machine) (s : List ℕ) → acceptedOf m ≡ true → acceptedOf (turnOf m s .machine) ≡ true

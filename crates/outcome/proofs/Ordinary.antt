@@ -6,24 +6,24 @@ use mathlib.Core.List.{List}
 use native.Mathlib.Omega.{arith}
 use lib.ListN.{getD}
 use lib.Dec.{eqb}
-use Rattle.record.specs.declared.Answer.{Answer}
-use Rattle.record.specs.Record.{noOf}
+use Rattle.itemspec.specs.declared.Answer.{Answer}
+use Rattle.itemspec.specs.Record.{noOf}
 use Rattle.levels.proofs.Laws.{level-at}
 use Rattle.via.specs.Via.{levelOf}
-use Rattle.wiring.proofs.Interrupts.{never}
-use Rattle.items.specs.declared.Item.{Item}
-use Rattle.items.specs.declared.Decoded.{Decoded}
-use Rattle.items.specs.declared.Decoded.the-variants.{Done, Refused}
-use Rattle.items.specs.Items.{InRange}
-use Rattle.kinds.specs.Kinds.{decodedOf}
-use Rattle.kinds.proofs.Range.{decoded-range}
-use Rattle.machine.specs.declared.Machine.{Machine}
-use Rattle.machine.specs.Machine.{acceptedOf}
-use Rattle.machine.proofs.Laws.{parts}
-use Rattle.meaning.specs.Stages.{refusesOf}
-use Rattle.meaning.specs.Step.{stepOf, answerOf}
-use Rattle.meaning.proofs.Step.{via-level}
-use Rattle.meaning.proofs.Keeps.{step-keeps}
+use Rattle.machinespec.proofs.Interrupts.{never}
+use Rattle.itemspec.specs.declared.Item.{Item}
+use Rattle.itemspec.specs.declared.Decoded.{Decoded}
+use Rattle.itemspec.specs.declared.Decoded.the-variants.{Done, Refused}
+use Rattle.itemspec.specs.Items.{InRange}
+use Rattle.itemspec.specs.Kinds.{decodedOf}
+use Rattle.itemspec.proofs.ItemRange.{decoded-range}
+use Rattle.machinespec.specs.declared.Machine.{Machine}
+use Rattle.machinespec.specs.Machine.{acceptedOf}
+use Rattle.machinespec.proofs.MachineLaws.{parts}
+use Rattle.machinespec.specs.Stages.{refusesOf}
+use Rattle.machinespec.specs.Step.{stepOf, answerOf}
+use Rattle.machinespec.proofs.Step.{via-level}
+use Rattle.machinespec.proofs.Keeps.{step-keeps}
 use Rattle.outcome.specs.Turn.{refused, carriedOut, turnBy, turnOf}
 
 -- Neither level 3 nor level 7.

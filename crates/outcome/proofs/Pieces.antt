@@ -5,11 +5,11 @@ use mathlib.Core.List.{List, [], _∷_, _++_, append-assoc}
 use native.Mathlib.Omega.{arith}
 use native.Mathlib.Nat.{zero-add, add-assoc}
 use lib.ListN.{length, take, drop}
-use Rattle.record.specs.Record.{frameOf}
-use Rattle.record.specs.declared.Framed.{Framed}
-use Rattle.record.specs.declared.Framed.the-variants.{Whole, Cut}
-use Rattle.record.proofs.Laws.{whole-fits}
-use Rattle.machine.specs.declared.Machine.{Machine}
+use Rattle.itemspec.specs.Record.{frameOf}
+use Rattle.itemspec.specs.declared.Framed.{Framed}
+use Rattle.itemspec.specs.declared.Framed.the-variants.{Whole, Cut}
+use Rattle.itemspec.proofs.RecordLaws.{whole-fits}
+use Rattle.machinespec.specs.declared.Machine.{Machine}
 use Rattle.outcome.specs.Outcome.{Piece, whole, broken, cut, piecesFrom, pieces, Out, halt, onto, runPieces}
 use Rattle.outcome.proofs.Users.{no-room}
 

@@ -4,16 +4,16 @@ use mathlib.Core.Path.{_≡_, refl, _∙_}
 use mathlib.Core.Bool.{Bool, true, false, cond, true≢false}
 use mathlib.Core.List.{List}
 use lib.Dec.{eqb}
-use Rattle.items.specs.declared.Item.{Item}
-use Rattle.items.specs.declared.Item.the-variants.{Disk}
-use Rattle.items.specs.declared.Decoded.{Decoded}
-use Rattle.items.specs.declared.Decoded.the-variants.{Done, Refused}
-use Rattle.kinds.specs.Kinds.{decodedOf}
-use Rattle.drives.specs.Drives.{placeRefused}
-use Rattle.machine.specs.declared.Machine.{Machine}
-use Rattle.meaning.specs.Stages.{refusesOf}
-use Rattle.meaning.specs.Step.{stepOf, answerOf}
-use Rattle.meaning.proofs.Stages.{clash}
+use Rattle.itemspec.specs.declared.Item.{Item}
+use Rattle.itemspec.specs.declared.Item.the-variants.{Disk}
+use Rattle.itemspec.specs.declared.Decoded.{Decoded}
+use Rattle.itemspec.specs.declared.Decoded.the-variants.{Done, Refused}
+use Rattle.itemspec.specs.Kinds.{decodedOf}
+use Rattle.diskspec.specs.Drives.{placeRefused}
+use Rattle.machinespec.specs.declared.Machine.{Machine}
+use Rattle.machinespec.specs.Stages.{refusesOf}
+use Rattle.machinespec.specs.Step.{stepOf, answerOf}
+use Rattle.machinespec.proofs.Stages.{clash}
 use Rattle.outcome.specs.Turn.{refused, carriedOut, turnBy, turnOf}
 
 -- An item that is carried out leaves the state and the answer of one step.

@@ -7,10 +7,10 @@ use native.Mathlib.Omega.{arith}
 use lib.ListN.{length, length-append}
 use lib.Dec.{ltb}
 use borrow.Author.Tests.{lt-ltb, le-ltb, ltb-false}
-use Rattle.record.specs.Record.{answerBytes, noOf}
-use Rattle.record.proofs.Laws.{answer-long}
-use Rattle.machine.specs.declared.Machine.{Machine}
-use Rattle.machine.specs.Machine.{acceptedOf}
+use Rattle.itemspec.specs.Record.{answerBytes, noOf}
+use Rattle.itemspec.proofs.RecordLaws.{answer-long}
+use Rattle.machinespec.specs.declared.Machine.{Machine}
+use Rattle.machinespec.specs.Machine.{acceptedOf}
 use Rattle.outcome.specs.Turn.{turnOf}
 use Rattle.outcome.proofs.Keeps.{turn-keeps}
 use Rattle.outcome.specs.Outcome.{Piece, whole, broken, pieces, Out, halt, onto, onPiece, runPieces, runOf, ranOf}

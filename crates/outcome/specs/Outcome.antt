@@ -4,11 +4,11 @@ use mathlib.Core.Bool.{cond}
 use mathlib.Core.List.{List, [], _∷_, _++_}
 use lib.ListN.{length, take, drop}
 use lib.Dec.{ltb}
-use Rattle.record.specs.Record.{frameOf, answerBytes, noOf}
-use Rattle.record.specs.declared.Framed.{Framed}
-use Rattle.record.specs.declared.Framed.the-variants.{Whole, Cut}
-use Rattle.machine.specs.declared.Machine.{Machine}
-use Rattle.machine.specs.Machine.{acceptedOf}
+use Rattle.itemspec.specs.Record.{frameOf, answerBytes, noOf}
+use Rattle.itemspec.specs.declared.Framed.{Framed}
+use Rattle.itemspec.specs.declared.Framed.the-variants.{Whole, Cut}
+use Rattle.machinespec.specs.declared.Machine.{Machine}
+use Rattle.machinespec.specs.Machine.{acceptedOf}
 use Rattle.outcome.specs.Turn.{turnOf}
 use Rattle.outcome.specs.declared.Ran.{Ran}
 

@@ -3,16 +3,16 @@ use Prim.Native.Nat.{ℕ}
 use mathlib.Core.Bool.{Bool, true, false, cond}
 use mathlib.Core.List.{List}
 use lib.Dec.{eqb}
-use Rattle.record.specs.Record.{noOf}
-use Rattle.record.specs.declared.Answer.{Answer}
-use Rattle.items.specs.declared.Item.{Item}
-use Rattle.items.specs.declared.Decoded.{Decoded}
-use Rattle.items.specs.declared.Decoded.the-variants.{Done, Refused}
-use Rattle.kinds.specs.Kinds.{decodedOf}
-use Rattle.machine.specs.declared.Machine.{Machine}
-use Rattle.machine.specs.declared.Did.{Did}
-use Rattle.meaning.specs.Stages.{refusesOf}
-use Rattle.meaning.specs.Step.{stepOf, answerOf}
+use Rattle.itemspec.specs.Record.{noOf}
+use Rattle.itemspec.specs.declared.Answer.{Answer}
+use Rattle.itemspec.specs.declared.Item.{Item}
+use Rattle.itemspec.specs.declared.Decoded.{Decoded}
+use Rattle.itemspec.specs.declared.Decoded.the-variants.{Done, Refused}
+use Rattle.itemspec.specs.Kinds.{decodedOf}
+use Rattle.machinespec.specs.declared.Machine.{Machine}
+use Rattle.machinespec.specs.declared.Did.{Did}
+use Rattle.machinespec.specs.Stages.{refusesOf}
+use Rattle.machinespec.specs.Step.{stepOf, answerOf}
 use Rattle.outcome.specs.declared.Turn.{Turn}
 
 -- The next state and the answer.

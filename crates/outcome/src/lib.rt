@@ -1,7 +1,7 @@
 // What a record and a run over a list come to: defined in specs/Turn.antt and specs/Outcome.antt, with the laws that users rely on in proofs/. The code is in
 // the crates turn and run.
-use machine::Machine;
-use record::Answer;
+use itemspec::Answer;
+use machinespec::Machine;
 
 // What one record leaves: the next machine and its answer.
 pub struct Turn {

@@ -1,9 +1,12 @@
-// The levels of the VIA's port lines that the board goes by: the clock's three wires and SEL.
+// The levels of lines that the board goes by: the clock's three wires, SEL, and those of the drives' strobe.
 ghost use mathlib.Core.Path.{_≡_};
 ghost use mathlib.Core.Bool.{true};
 ghost use Prim.Native.Nat.{_<_};
-ghost use Rattle.pins.specs.Pins.{pin, wiresOf, selOf};
-use phase::Wires;
+ghost use Rattle.machinespec.specs.Pins.{pin, wiresOf, selOf};
+ghost use Rattle.machinespec.specs.Machine.{wires, watched};
+use clockspec::Wires;
+use diskspec::Watched;
+use machinespec::Machine;
 use via::Ports;
 
 // One line of a port, by its weight in the port's byte: the output bit where its direction is 1, else the input.
@@ -34,4 +37,21 @@ pub fn sel_of(p: Ports) -> u8
     ensures { λ r. ⌜ (r ≡ selOf p) × (r < 2) ⌝ }
 {
     pin_level(p.outa, p.dira, 32, true) as u8
+}
+
+// The levels of the clock's three wires.
+pub fn wires(m: Machine) -> Wires
+    ensures { λ r. ⌜ r ≡ wires m ⌝ }
+{
+    let c = m.clock;
+    let p = c.phase;
+    wires_of(m.via.ports, phaselevels::shown_line(p))
+}
+
+// The levels that the drives' strobe goes by.
+pub fn watched(m: Machine) -> Watched
+    ensures { λ r. ⌜ r ≡ watched m ⌝ }
+{
+    let d = m.disk;
+    watched::watched_of(d, sel_of(m.via.ports))
 }

@@ -2,9 +2,9 @@
 ghost use mathlib.Core.Path.{_≡_};
 ghost use Prim.Native.Nat.{_≤_};
 ghost use lib.ListN.{length};
-ghost use Rattle.ranged.specs.Ranged.{lineOf, senseOf, diskOf};
-use items::Decoded;
-use items::Item;
+ghost use Rattle.itemspec.specs.Ranged.{lineOf, senseOf, diskOf};
+use itemspec::Decoded;
+use itemspec::Item;
 
 // IN
 pub fn line_item(s: &[u8]) -> Decoded

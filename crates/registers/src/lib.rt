@@ -1,17 +1,11 @@
 // The VIA's sixteen registers, read.
 ghost use mathlib.Core.Path.{_≡_};
-ghost use mathlib.Core.Bool.{Bool, cond};
-ghost use Prim.Native.Nat.{_<_, _+_, _*_, _/_, _%_};
+ghost use Prim.Native.Nat.{_<_, _+_, _/_, _%_};
 ghost use Rattle.via.specs.Via.{portLevel};
-ghost use Rattle.registers.specs.Registers.{flagsByte, valueRead, flagsRead, readOf};
+ghost use Rattle.via.specs.Registers.{flagsByte, valueRead, flagsRead, readOf};
+use via::Access;
 use via::Inputs;
 use via::Via;
-
-// What a read gives: the VIA after it, and the value.
-pub struct Access {
-    pub via: Via,
-    pub value: u8,
-}
 
 // A port's levels: the output bit where the direction is 1, else the input.
 pub fn port(out: u8, dir: u8, input: u8) -> u8

@@ -2,9 +2,9 @@
 // one line for the run. A longer list gets one line on standard error, and nothing is run.
 ghost use Prim.Native.Nat.{_≤_};
 ghost use lib.ListN.{length};
+use itemspec::Framed;
 use libc::STDERR_FILENO;
 use libc::STDIN_FILENO;
-use record::Framed;
 
 // Writes the line of one answer. Answers the bytes that its record takes; 0 where no whole record is there.
 fn show(rest: &[u8], offset: usize, answer: &[u8]) -> usize

@@ -8,12 +8,12 @@ use native.Mathlib.Nat.{le-of-eq, add-zero, sub-zero, sub-add-eq}
 use lib.ListN.{length, take, drop, length-append, length-drop, take-append-drop, drop-of-length-le}
 use lib.Seq.{take-all, length-take-le, take-at, drop-at, drop-drop}
 use Rattle.octets.specs.Octets.{putAt}
-use Rattle.record.specs.Record.{frameOf, answerBytes, noOf}
-use Rattle.record.specs.declared.Framed.{Framed}
-use Rattle.record.specs.declared.Framed.the-variants.{Whole, Cut}
-use Rattle.record.proofs.Laws.{answer-long, whole-fits}
-use Rattle.machine.specs.declared.Machine.{Machine}
-use Rattle.machine.specs.Machine.{acceptedOf}
+use Rattle.itemspec.specs.Record.{frameOf, answerBytes, noOf}
+use Rattle.itemspec.specs.declared.Framed.{Framed}
+use Rattle.itemspec.specs.declared.Framed.the-variants.{Whole, Cut}
+use Rattle.itemspec.proofs.RecordLaws.{answer-long, whole-fits}
+use Rattle.machinespec.specs.declared.Machine.{Machine}
+use Rattle.machinespec.specs.Machine.{acceptedOf}
 use Rattle.outcome.proofs.Keeps.{turn-keeps}
 use Rattle.outcome.specs.declared.Ran.{Ran}
 use Rattle.outcome.specs.declared.Turn.{Turn}

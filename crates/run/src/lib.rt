@@ -3,9 +3,9 @@ ghost use mathlib.Core.Path.{_≡_};
 ghost use Prim.Native.Nat.{_≤_};
 ghost use lib.ListN.{length};
 ghost use Rattle.outcome.specs.Outcome.{halt, ranOf, over, runOf};
-use machine::Machine;
+use itemspec::Framed;
+use machinespec::Machine;
 use outcome::Ran;
-use record::Framed;
 
 // A state that is not accepted: handed back as given, nothing read or written.
 fn unaccepted(m: Machine) -> Ran
@@ -25,7 +25,7 @@ pub fn run(mut m: Machine, list: &[u8], answers: &mut [u8]) -> Ran
     ensures { λ _. ⌜ now (answers .exit) ≡ over (runOf m (now (list .entry)) (length (now (answers .entry)))) (now (answers .entry)) ⌝ }
     ensures { λ r. ⌜ r .written ≤ length (now (answers .entry)) ⌝ }
 {
-    if !m.accepted() {
+    if !machine::accepted(m) {
         return unaccepted(m);
     }
     let mut stop: u8 = 0;

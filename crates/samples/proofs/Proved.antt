@@ -3,35 +3,35 @@ use mathlib.Core.Path.{refl}
 use Rattle.levels.specs.Levels.{allLevels}
 use Rattle.via.specs.Via.{freshVia, portLevel, latchOf, tickOf, ticks, raisedOf, resetOf, asking, levelOf, acceptedVia}
 use Rattle.via.specs.Writes.{written}
-use Rattle.registers.specs.Registers.{readOf}
-use Rattle.command.specs.Command.{named, decode}
-use Rattle.store.specs.Store.{fetch, put, act}
-use Rattle.phase.specs.Phase.{between, shown, acceptedPhase}
+use Rattle.via.specs.Registers.{readOf}
+use Rattle.clockspec.specs.Command.{named, decode}
+use Rattle.clockspec.specs.Store.{fetch, put, act}
+use Rattle.clockspec.specs.Phase.{between, shown, acceptedPhase}
 use Rattle.clock.specs.Step.{next, acts, stepWires}
 use Rattle.iwm.specs.Lines.{linesOff, accessed, lineByteOf, senseAt, readLine}
-use Rattle.sense.specs.Sense as sense
-use Rattle.drive.specs.Drive.{neighbour, tickDrive, driveTicks}
-use Rattle.control.specs.Control.{registerWritten}
-use Rattle.sense.specs.Sense.{drivesSense, shownOf, acceptedDrive}
-use Rattle.watched.specs.Watched.{heldStill, unspoilt, registerOf}
-use Rattle.strobe.specs.Strobe.{tickStrobe, strobeTicks, strobeAfter, longEnough, strobeWrites, acceptedStrobe}
-use Rattle.drives.specs.Drives.{drivesTicks, placed, placeRefused, drivesPowered, drivesAfter, drivesShown, acceptedDrives}
-use Rattle.pins.specs.Pins.{wiresOf, selOf}
-use Rattle.watched.specs.Watched.{watchedOf}
-use Rattle.wiring.specs.Wiring.{inputsOf, interruptLevel}
+use Rattle.diskspec.specs.Sense as sense
+use Rattle.diskspec.specs.Drive.{neighbour, tickDrive, driveTicks}
+use Rattle.diskspec.specs.Control.{registerWritten}
+use Rattle.diskspec.specs.Sense.{drivesSense, shownOf, acceptedDrive}
+use Rattle.diskspec.specs.Watched.{heldStill, unspoilt, registerOf}
+use Rattle.diskspec.specs.Strobe.{tickStrobe, strobeTicks, strobeAfter, longEnough, strobeWrites, acceptedStrobe}
+use Rattle.diskspec.specs.Drives.{drivesTicks, placed, placeRefused, drivesPowered, drivesAfter, drivesShown, acceptedDrives}
+use Rattle.machinespec.specs.Pins.{wiresOf, selOf}
+use Rattle.diskspec.specs.Watched.{watchedOf}
+use Rattle.machinespec.specs.Wiring.{inputsOf, interruptLevel}
 use Rattle.octets.specs.Octets.{le16Of, le32Of}
-use Rattle.record.specs.Record.{frameOf, answerBytes, noOf}
-use Rattle.addresses.specs.Addresses.{placeFrom, foundOf}
-use Rattle.items.specs.Items.{writeOf, plainOf, powerOf}
-use Rattle.ranged.specs.Ranged.{diskOf}
-use Rattle.kinds.specs.Kinds.{isKind, decodedOf}
-use Rattle.items.specs.Items as items
-use Rattle.ranged.specs.Ranged as ranged
-use Rattle.machine.specs.Machine.{acceptedOf}
-use Rattle.meaning.specs.Accesses.{viaRead, iwmRead}
-use Rattle.meaning.specs.Action.{actedOf}
-use Rattle.meaning.specs.Stages.{waitOf, refusesOf}
-use Rattle.meaning.specs.Step.{stepOf, answerOf}
+use Rattle.itemspec.specs.Record.{frameOf, answerBytes, noOf}
+use Rattle.itemspec.specs.Addresses.{placeFrom, foundOf}
+use Rattle.itemspec.specs.Items.{writeOf, plainOf, powerOf}
+use Rattle.itemspec.specs.Ranged.{diskOf}
+use Rattle.itemspec.specs.Kinds.{isKind, decodedOf}
+use Rattle.itemspec.specs.Items as items
+use Rattle.itemspec.specs.Ranged as ranged
+use Rattle.machinespec.specs.Machine.{acceptedOf}
+use Rattle.machinespec.specs.Accesses.{viaRead, iwmRead}
+use Rattle.machinespec.specs.Action.{actedOf}
+use Rattle.machinespec.specs.Stages.{waitOf, refusesOf}
+use Rattle.machinespec.specs.Step.{stepOf, answerOf}
 use Rattle.outcome.specs.Turn.{turnOf}
 use Rattle.outcome.specs.Outcome.{cut, piecesFrom, onto, onPiece, runPieces, runOf}
 use Rattle.samples.specs.Lists.{sent}

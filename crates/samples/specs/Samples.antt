@@ -3,9 +3,9 @@ use Prim.Native.Nat.{ℕ, zero, suc, _+_, _*_}
 use mathlib.Core.Path.{_≡_}
 use mathlib.Core.List.{List, [], _∷_, _++_}
 use lib.ListN.{getD}
-use Rattle.phase.specs.declared.Phase.{Phase}
-use Rattle.phase.specs.declared.Phase.the-variants.{Listening, Ignoring}
-use Rattle.machine.specs.Machine.{freshMachine}
+use Rattle.clockspec.specs.declared.Phase.{Phase}
+use Rattle.clockspec.specs.declared.Phase.the-variants.{Listening, Ignoring}
+use Rattle.machinespec.specs.Machine.{freshMachine}
 use Rattle.outcome.specs.Outcome.{Out, halt, runOf}
 use Rattle.samples.specs.Lists.{rd, wr, se, begin, end, select, sent, byte, transaction}
 

@@ -1,8 +1,8 @@
 // What a drive's sense registers show, and whether a drive is in its ranges.
 ghost use mathlib.Core.Path.{_≡_};
-ghost use mathlib.Core.Bool.{true, false};
-ghost use Rattle.sense.specs.Sense.{level, drivesSense, senseOf, shownOf, acceptedDrive};
-use drive::Drive;
+ghost use mathlib.Core.Bool.{false};
+ghost use Rattle.diskspec.specs.Sense.{level, drivesSense, senseOf, shownOf, acceptedDrive};
+use diskspec::Drive;
 
 // Whether a sense register comes from the drive, and not from SN.
 pub fn drives_sense(register: u8) -> bool

@@ -1,15 +1,14 @@
-// One item carried out, and its answer.
+// One item carried out.
 ghost use mathlib.Core.Path.{_≡_};
 ghost use mathlib.Core.Bool.{true, false};
-ghost use Rattle.items.specs.Items.{InRange};
-ghost use Rattle.machine.specs.declared.Machine.{Machine};
-ghost use Rattle.machine.specs.Machine.{wires, watched, acceptedOf, Levels};
-ghost use Rattle.meaning.specs.Action.{actedOf};
-ghost use Rattle.meaning.specs.Step.{stepOf, answerOf};
-use items::Item;
-use machine::Did;
-use machine::Machine;
-use record::Answer;
+ghost use Rattle.itemspec.specs.Items.{InRange};
+ghost use Rattle.machinespec.specs.declared.Machine.{Machine};
+ghost use Rattle.machinespec.specs.Machine.{wires, watched, acceptedOf};
+ghost use Rattle.machinespec.specs.Action.{actedOf};
+ghost use Rattle.machinespec.specs.Step.{stepOf};
+use itemspec::Item;
+use machinespec::Did;
+use machinespec::Machine;
 
 // Whether the item's action can move a line that the clock or the strobe goes by.
 fn moves_lines(item: Item) -> bool
@@ -35,25 +34,9 @@ pub fn step(m: Machine, item: Item) -> Did
     if moves_lines(item) {
         let next = d.machine;
         return Did {
-            machine: stages::compare(next, m.wires(), m.watched()),
+            machine: stages::compare(next, pins::wires(m), pins::watched(m)),
             value: d.value,
         };
     }
     d
-}
-
-// The answer to an item that was carried out.
-pub fn answer(d: Did) -> Answer
-    requires { ⌜ Levels (d .machine) ⌝ }
-    ensures { λ r. ⌜ r ≡ answerOf d ⌝ }
-{
-    let m = d.machine;
-    let inputs = m.inputs;
-    Answer {
-        ok: true,
-        value: d.value,
-        level: wiring::interrupt_level(viaflags::level(m.via), inputs[5], inputs[6]),
-        lines: linebytes::byte(m.disk),
-        sel: pins::sel_of(m.via.ports),
-    }
 }

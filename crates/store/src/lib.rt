@@ -1,89 +1,94 @@
-// What the clock chip keeps: cells, seconds, protect and test, and what reads and writes do to them.
+// Cells, seconds, protect and test of the clock chip: what reads, writes and seconds do to them.
 ghost use mathlib.Core.Path.{_≡_};
-ghost use Rattle.command.specs.Command.{InRange, Legal};
-ghost use Rattle.store.specs.Shared.{added, stops, writeBy};
-ghost use Rattle.store.specs.Store.{withSeconds, fetch, put, act};
-use command::Command;
-use command::Target;
+ghost use Rattle.clockspec.specs.Command.{InRange, Legal};
+ghost use Rattle.clockspec.specs.Shared.{added, stops, writeBy};
+ghost use Rattle.clockspec.specs.Writable.{writable};
+ghost use Rattle.clockspec.specs.Store.{withSeconds, fetch, put, act};
+use clockspec::Command;
+use clockspec::Store;
+use clockspec::Target;
 
-pub struct Store {
-    pub cells: [u8; 20],
-    pub seconds: u32,
-    pub protect: bool,
-    pub test: u8,
+// The seconds grow by n, modulo 2^32, unless test bit 7 or 6 stops them.
+pub fn add_seconds(store: Store, n: u32) -> Store
+    ensures { λ r. ⌜ r ≡ withSeconds store (added (stops (store .test)) n (store .seconds)) ⌝ }
+{
+    if 64 <= store.test {
+        return store;
+    }
+    let mut s = store;
+    let was = s.seconds;
+    s.seconds = std::num::wrapping_add_u32(was, n);
+    s
 }
 
-impl Store {
-    // The seconds grow by n, modulo 2^32, unless test bit 7 or 6 stops them.
-    pub fn add_seconds(self, n: u32) -> Store
-        ensures { λ r. ⌜ r ≡ withSeconds self (added (stops (self .test)) n (self .seconds)) ⌝ }
-    {
-        if 64 <= self.test {
-            return self;
-        }
-        let mut s = self;
-        let was = s.seconds;
-        s.seconds = std::num::wrapping_add_u32(was, n);
-        s
-    }
-
-    // The byte that a legal read takes.
-    pub fn fetch(self, t: Target) -> u8
-        requires { ⌜ InRange 20 t ⌝ }
-        ensures { λ r. ⌜ r ≡ fetch t self ⌝ }
-    {
-        match t {
-            Target::Seconds(k) => octets::byte_at(self.seconds, k),
-            Target::Test => self.test,
-            Target::Protect => 0,
-            Target::Cell(i) => {
-                let k = i as usize;
-                self.cells[k]
-            }
+// The byte that a legal read takes.
+pub fn fetch(store: Store, t: Target) -> u8
+    requires { ⌜ InRange 20 t ⌝ }
+    ensures { λ r. ⌜ r ≡ fetch t store ⌝ }
+{
+    match t {
+        Target::Seconds(k) => octets::byte_at(store.seconds, k),
+        Target::Test => store.test,
+        Target::Protect => 0,
+        Target::Cell(i) => {
+            let k = i as usize;
+            store.cells[k]
         }
     }
+}
 
-    // A byte put where it goes, whatever protect is.
-    pub fn put(self, t: Target, b: u8) -> Store
-        requires { ⌜ InRange 20 t ⌝ }
-        ensures { λ r. ⌜ r ≡ put t b self ⌝ }
-    {
-        let mut s = self;
-        match t {
-            Target::Seconds(k) => {
-                let n = octets::replaced(s.seconds, k, b);
-                s.seconds = n;
-                s
-            }
-            Target::Test => {
-                s.test = b;
-                s
-            }
-            Target::Protect => {
-                s.protect = 128 <= b;
-                s
-            }
-            Target::Cell(i) => {
-                let k = i as usize;
-                s.cells[k] = b;
-                s
-            }
+// A byte put where it goes, whatever protect is.
+pub fn put(store: Store, t: Target, b: u8) -> Store
+    requires { ⌜ InRange 20 t ⌝ }
+    ensures { λ r. ⌜ r ≡ put t b store ⌝ }
+{
+    let mut s = store;
+    match t {
+        Target::Seconds(k) => {
+            let n = octets::replaced(s.seconds, k, b);
+            s.seconds = n;
+            s
+        }
+        Target::Test => {
+            s.test = b;
+            s
+        }
+        Target::Protect => {
+            s.protect = 128 <= b;
+            s
+        }
+        Target::Cell(i) => {
+            let k = i as usize;
+            s.cells[k] = b;
+            s
         }
     }
+}
 
-    // A command with its data byte carried out: a legal write acts unless protect forbids it.
-    pub fn act(self, c: Command, b: u8) -> Store
-        requires { ⌜ Legal 20 c ⌝ }
-        ensures { λ r. ⌜ r ≡ act (writeBy c b) self ⌝ }
-    {
-        match c {
-            Command::Write(t) => {
-                if command::may_write(t, self.protect) {
-                    return self.put(t, b);
-                }
-                self
+// Whether a write to the target may act while protect is so.
+fn may_write(t: Target, protect: bool) -> bool
+    ensures { λ r. ⌜ r ≡ writable t protect ⌝ }
+{
+    match t {
+        Target::Seconds(_) => !protect,
+        Target::Test => !protect,
+        Target::Protect => true,
+        Target::Cell(_) => !protect,
+    }
+}
+
+// A command with its data byte carried out: a legal write acts unless protect forbids it.
+pub fn act(store: Store, c: Command, b: u8) -> Store
+    requires { ⌜ Legal 20 c ⌝ }
+    ensures { λ r. ⌜ r ≡ act (writeBy c b) store ⌝ }
+{
+    match c {
+        Command::Write(t) => {
+            if may_write(t, store.protect) {
+                return put(store, t, b);
             }
-            _ => self,
+            store
         }
+        _ => store,
     }
 }

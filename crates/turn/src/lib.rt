@@ -3,10 +3,10 @@ ghost use mathlib.Core.Path.{_≡_};
 ghost use mathlib.Core.Bool.{true};
 ghost use Prim.Native.Nat.{_≤_};
 ghost use lib.ListN.{length};
-ghost use Rattle.machine.specs.Machine.{acceptedOf};
+ghost use Rattle.machinespec.specs.Machine.{acceptedOf};
 ghost use Rattle.outcome.specs.Turn.{turnOf};
-use items::Decoded;
-use machine::Machine;
+use itemspec::Decoded;
+use machinespec::Machine;
 use outcome::Turn;
 
 // One whole record, its bytes after the length.
@@ -22,7 +22,7 @@ pub fn turn_of(m: Machine, s: &[u8]) -> Turn
             answer: record::no(items::refusal(d)),
         };
     };
-    let n = stages::refuses(m, item);
+    let n = reply::refuses(m, item);
     if n != 0 {
         return Turn {
             machine: m,
@@ -33,6 +33,6 @@ pub fn turn_of(m: Machine, s: &[u8]) -> Turn
     let next = did.machine;
     Turn {
         machine: next,
-        answer: step::answer(did),
+        answer: reply::answer(did),
     }
 }

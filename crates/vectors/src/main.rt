@@ -1,6 +1,6 @@
 // Runs the script on standard input: the samples, as lines that do something or say something. docs/FORMATS.md has their language.
 ghost use mathlib.Core.Path.{_≡_};
-ghost use Rattle.image.specs.Image.{imageLength};
+ghost use Rattle.imagespec.specs.Image.{imageLength};
 ghost use lib.ListN.{length};
 use operations::Order;
 

@@ -2,3 +2,8 @@ pub mod Accepted
 pub mod Kept
 pub mod Waits
 pub mod Rest
+pub mod AccessAccepted
+pub mod Bits
+pub mod FlagsExact
+pub mod Flags
+pub mod AccessKept

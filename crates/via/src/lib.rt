@@ -1,4 +1,4 @@
-// The VIA: ports, two timers, registers written, reset; what is asked of its flags is in viaflags. The state goes in by value, and the next one comes out.
+// The VIA: ports, two timers, registers written, reset; what is asked of its flags is in viaflags, reading in registers. The state goes in by value, and the next one comes out.
 ghost use mathlib.Core.Path.{_≡_};
 ghost use mathlib.Core.Bool.{cond, false};
 ghost use Prim.Native.Nat.{_<_};
@@ -47,6 +47,12 @@ pub struct Via {
 pub struct Inputs {
     pub b: u8,
     pub a: u8,
+}
+
+// What a read gives: the VIA after it, and the value.
+pub struct Access {
+    pub via: Via,
+    pub value: u8,
 }
 
 // All zero, as after a power cut.

@@ -2,8 +2,8 @@
 ghost use mathlib.Core.Path.{_≡_};
 ghost use lib.ListN.{length};
 ghost use Rattle.octets.specs.Octets.{putAt};
-ghost use Rattle.layout.specs.Layout.{imageLength, viaAt, viaLength, part};
-ghost use Rattle.viabytes.specs.Layout.{viaLayout, viaBytes, viaFields, viaOf, ViaTyped};
+ghost use Rattle.imagespec.specs.Layout.{imageLength, viaAt, viaLength, part};
+ghost use Rattle.imagespec.specs.ViaLayout.{viaLayout, viaBytes, viaFields, viaOf, ViaTyped};
 use layout::PHASE;
 use layout::VIA;
 use layout::VIA_LENGTH;

@@ -1,18 +1,8 @@
 // The levels that a drive's strobe goes by: which they are, which register they address, and which changes spoil a strobe.
 ghost use mathlib.Core.Path.{_≡_};
-ghost use Rattle.watched.specs.Watched.{watchedOf, registerOf, unspoilt};
+ghost use Rattle.diskspec.specs.Watched.{watchedOf, registerOf, unspoilt};
+use diskspec::Watched;
 use iwm::DiskLines;
-
-// SEL is the VIA's line, the others are the disk lines.
-pub struct Watched {
-    pub lstrb: bool,
-    pub enable: bool,
-    pub ca0: bool,
-    pub ca1: bool,
-    pub ca2: bool,
-    pub sel: bool,
-    pub select: bool,
-}
 
 pub fn watched_of(d: DiskLines, sel: u8) -> Watched
     ensures { λ r. ⌜ r ≡ watchedOf d sel ⌝ }
@@ -40,20 +30,18 @@ pub fn leaves_unspoilt(before: Watched, after: Watched) -> bool
                     & ((before.sel == after.sel) & (before.select == after.select)))))
 }
 
-impl Watched {
-    // The register that CA1 and CA0 address: 0 direction, 1 step, 2 motor, 3 eject.
-    pub fn register(self) -> u8
-        ensures { λ r. ⌜ r ≡ registerOf self ⌝ }
-    {
-        if self.ca1 {
-            if self.ca0 {
-                return 3;
-            }
-            return 2;
+// The register that CA1 and CA0 address: 0 direction, 1 step, 2 motor, 3 eject.
+pub fn register(levels: Watched) -> u8
+    ensures { λ r. ⌜ r ≡ registerOf levels ⌝ }
+{
+    if levels.ca1 {
+        if levels.ca0 {
+            return 3;
         }
-        if self.ca0 {
-            return 1;
-        }
-        0
+        return 2;
     }
+    if levels.ca0 {
+        return 1;
+    }
+    0
 }

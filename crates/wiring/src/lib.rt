@@ -3,7 +3,7 @@ ghost use mathlib.Core.Path.{_≡_};
 ghost use mathlib.Core.Bool.{true};
 ghost use Prim.Native.Nat.{_+_, _*_, _<_};
 ghost use Rattle.levels.specs.Levels.{allLevels};
-ghost use Rattle.wiring.specs.Wiring.{inputsOf, interruptLevel};
+ghost use Rattle.machinespec.specs.Wiring.{inputsOf, interruptLevel};
 use via::Inputs;
 
 // Four levels as bits 3 to 6.

@@ -5,8 +5,8 @@ use Rattle.iwm.specs.declared.DiskLines.{DiskLines}
 use Rattle.iwm.specs.Lines.{readLine}
 use borrow.Author.Tests.{ne-eqb}
 use Rattle.iwm.proofs.Laws.{access-levels, sense-below}
-use Rattle.drives.proofs.Laws.{shown-below}
-use Rattle.meaning.specs.Accesses.{iwmRead}
+use Rattle.diskspec.proofs.DrivesLaws.{shown-below}
+use Rattle.machinespec.specs.Accesses.{iwmRead}
 use borrow.Author.Needs.{needs}
 use Rattle.accesses.proofs.read_iwm.Statement.{statement}
 use Rattle.accesses.proofs.read_iwm.Tie as tie

@@ -1,11 +1,11 @@
-use Rattle.meaning.specs.Accesses.{viaRead}
+use Rattle.machinespec.specs.Accesses.{viaRead}
 use borrow.Author.Needs.{needs}
 use borrow.Author.Tests.{lt-ltb, le-ltb, le-leb, lt-leb, eq-eqb, ne-eqb}
 use Rattle.accesses.proofs.read_via.Statement.{statement}
 use Rattle.accesses.proofs.read_via.Tie as tie
 use Rattle.accesses.proofs.read_via.Reads as reads
 use Rattle.accesses.proofs.read_via.Lts as lts
-use Rattle.edges.proofs.shown_line.Reads as shown-line-reads
+use Rattle.phaselevels.proofs.shown_line.Reads as shown-line-reads
 use Rattle.registers.proofs.read.Reads as read-reads
 use Rattle.wiring.proofs.inputs_of.Reads as inputs-of-reads
 

@@ -1,7 +1,7 @@
 use mathlib.Core.Path.{subst}
-use Rattle.meaning.specs.Action.{actedOf}
+use Rattle.machinespec.specs.Action.{actedOf}
 use borrow.Author.Tests.{lt-ltb, le-ltb, le-leb, lt-leb, eq-eqb, ne-eqb}
-use Rattle.items.specs.Items.{InRange}
+use Rattle.itemspec.specs.Items.{InRange}
 use borrow.Author.Needs.{needs}
 use Rattle.action.proofs.act.Statement.{statement}
 use Rattle.action.proofs.act.Tie as tie

@@ -1,5 +1,5 @@
 use borrow.Author.Needs.{needs}
-use Rattle.addresses.specs.Addresses.{foundOf}
+use Rattle.itemspec.specs.Addresses.{foundOf}
 use Rattle.addresses.proofs.find.Statement.{statement}
 use Rattle.addresses.proofs.find.Tie as tie
 

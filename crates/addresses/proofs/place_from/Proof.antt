@@ -1,5 +1,5 @@
 use borrow.Author.Needs.{needs}
-use Rattle.addresses.specs.Addresses.{placeFrom}
+use Rattle.itemspec.specs.Addresses.{placeFrom}
 use borrow.Author.Tests.{lt-ltb, le-ltb, eq-eqb, ne-eqb}
 use Rattle.addresses.proofs.place_from.Statement.{statement}
 use Rattle.addresses.proofs.place_from.Tie as tie

@@ -1,8 +1,8 @@
 use mathlib.Core.Path.{_≡_, ap, _∙_}
 use denote.Ref.{now}
-use Rattle.layout.specs.Layout.{phaseAt, phaseLength, part}
-use Rattle.layout.proofs.Parts.{whole}
-use Rattle.clockbytes.specs.Layout.{phaseOf}
+use Rattle.imagespec.specs.Layout.{phaseAt, phaseLength, part}
+use Rattle.imagespec.proofs.Parts.{whole}
+use Rattle.imagespec.specs.ClockLayout.{phaseOf}
 use borrow.Author.Needs.{needs}
 use Rattle.clockbytes.proofs.phase.Statement.{statement}
 use Rattle.clockbytes.proofs.phase.Tie as tie

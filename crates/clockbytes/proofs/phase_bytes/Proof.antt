@@ -1,5 +1,5 @@
 use borrow.Author.Needs.{needs}
-use Rattle.clockbytes.specs.Layout.{phaseBytes}
+use Rattle.imagespec.specs.ClockLayout.{phaseBytes}
 use borrow.Author.Tests.{lt-ltb, le-ltb, le-leb, lt-leb, eq-eqb, ne-eqb}
 use Rattle.clockbytes.proofs.phase_bytes.Statement.{statement}
 use Rattle.clockbytes.proofs.phase_bytes.Tie as tie

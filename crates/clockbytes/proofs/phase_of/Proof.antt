@@ -1,4 +1,4 @@
-use Rattle.clockbytes.specs.Layout.{phaseBy}
+use Rattle.imagespec.specs.ClockLayout.{phaseBy}
 use borrow.Author.Tests.{eq-eqb, ne-eqb}
 use Rattle.clockbytes.proofs.phase_of.Statement.{statement}
 use Rattle.clockbytes.proofs.phase_of.Tie as tie

@@ -1,9 +1,9 @@
 use native.Mathlib.Omega.{arith}
 use mathlib.Core.Path.{refl}
 use denote.Ref.{now}
-use Rattle.layout.specs.Layout.{phaseAt, registersAt, cellsAt}
-use Rattle.layout.proofs.Parts.{put-three}
-use Rattle.clockbytes.specs.Layout.{registerBytes, StoreTyped}
+use Rattle.imagespec.specs.Layout.{phaseAt, registersAt, cellsAt}
+use Rattle.imagespec.proofs.Parts.{put-three}
+use Rattle.imagespec.specs.ClockLayout.{registerBytes, StoreTyped}
 use borrow.Author.Needs.{needs}
 use Rattle.clockbytes.proofs.put_clock.Statement.{statement}
 use Rattle.clockbytes.proofs.put_clock.Tie as tie

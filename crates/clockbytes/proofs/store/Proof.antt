@@ -1,8 +1,8 @@
 use mathlib.Core.Path.{_≡_, ap₂, _∙_}
 use denote.Ref.{now}
-use Rattle.layout.specs.Layout.{registersAt, registersLength, cellsAt, cellsLength, part}
-use Rattle.layout.proofs.Parts.{whole}
-use Rattle.clockbytes.specs.Layout.{storeFields, storeOf}
+use Rattle.imagespec.specs.Layout.{registersAt, registersLength, cellsAt, cellsLength, part}
+use Rattle.imagespec.proofs.Parts.{whole}
+use Rattle.imagespec.specs.ClockLayout.{storeFields, storeOf}
 use borrow.Author.Needs.{needs}
 use Rattle.clockbytes.proofs.store.Statement.{statement}
 use Rattle.clockbytes.proofs.store.Tie as tie

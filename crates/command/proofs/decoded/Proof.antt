@@ -1,6 +1,6 @@
 use mathlib.Core.Path.{_∙_}
 use borrow.Author.Tests.{eq-eqb, ne-eqb}
-use Rattle.command.specs.Command.{decode}
+use Rattle.clockspec.specs.Command.{decode}
 use borrow.Author.Needs.{needs}
 use Rattle.command.proofs.decoded.Statement.{statement}
 use Rattle.command.proofs.decoded.Tie as tie

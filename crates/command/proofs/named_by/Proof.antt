@@ -1,6 +1,6 @@
 use mathlib.Core.Path.{_∙_}
 use borrow.Author.Tests.{lt-ltb, le-ltb, eq-eqb, ne-eqb}
-use Rattle.command.specs.Command.{named}
+use Rattle.clockspec.specs.Command.{named}
 use borrow.Author.Needs.{needs}
 use Rattle.command.proofs.named_by.Statement.{statement}
 use Rattle.command.proofs.named_by.Tie as tie

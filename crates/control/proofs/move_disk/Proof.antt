@@ -1,12 +1,12 @@
 use mathlib.Core.Path.{sym, ap, _∙_}
 use borrow.Author.Needs.{needs}
-use Rattle.control.specs.Control.{diskMoved}
+use Rattle.diskspec.specs.Control.{diskMoved}
 use Rattle.control.proofs.move_disk.Statement.{statement}
 use Rattle.control.proofs.move_disk.Tie as tie
 use Rattle.control.proofs.move_disk.Reads as reads
 use Rattle.control.proofs.move_disk.Lts as lts
-use Rattle.drive.proofs.Drive.insert.Reads as insert-reads
-use Rattle.drive.proofs.Drive.remove.Reads as remove-reads
+use Rattle.drive.proofs.insert.Reads as insert-reads
+use Rattle.drive.proofs.remove.Reads as remove-reads
 
 insert-requires : tie.Need-insert-requires
 insert-requires c κs = search needs

@@ -2,14 +2,14 @@ use borrow.Author.Needs.{needs}
 use borrow.Author.Tests.{ne-eqb}
 use mathlib.Core.Path.{sym, ap, _∙_}
 use mathlib.Core.Bool.{cond}
-use Rattle.drive.specs.Drive.{withStep, removed}
-use Rattle.control.specs.Control.{registerWritten}
-use Rattle.control.proofs.Laws.{step-at-once, motor-at-once, eject-at-once}
+use Rattle.diskspec.specs.Drive.{withStep, removed}
+use Rattle.diskspec.specs.Control.{registerWritten}
+use Rattle.diskspec.proofs.ControlLaws.{step-at-once, motor-at-once, eject-at-once}
 use Rattle.control.proofs.write_register.Statement.{statement}
 use Rattle.control.proofs.write_register.Tie as tie
 use Rattle.control.proofs.write_register.Reads as reads
 use Rattle.control.proofs.write_register.Lts as lts
-use Rattle.drive.proofs.Drive.remove.Reads as remove-reads
+use Rattle.drive.proofs.remove.Reads as remove-reads
 
 returns : tie.Need-returns
 unfolding registerWritten

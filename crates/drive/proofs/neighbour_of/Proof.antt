@@ -1,5 +1,5 @@
 use borrow.Author.Needs.{needs}
-use Rattle.drive.specs.Drive.{neighbour}
+use Rattle.diskspec.specs.Drive.{neighbour}
 use borrow.Author.Tests.{lt-ltb, le-ltb, eq-eqb, ne-eqb}
 use Rattle.drive.proofs.neighbour_of.Statement.{statement}
 use Rattle.drive.proofs.neighbour_of.Tie as tie

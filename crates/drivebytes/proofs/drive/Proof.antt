@@ -1,7 +1,7 @@
 use mathlib.Core.Path.{_≡_, ap, _∙_}
 use denote.Ref.{now}
-use Rattle.layout.proofs.Parts.{whole}
-use Rattle.drivebytes.specs.Layout.{driveFields, driveOf}
+use Rattle.imagespec.proofs.Parts.{whole}
+use Rattle.imagespec.specs.DriveLayout.{driveFields, driveOf}
 use borrow.Author.Needs.{needs}
 use Rattle.drivebytes.proofs.drive.Statement.{statement}
 use Rattle.drivebytes.proofs.drive.Tie as tie

@@ -1,7 +1,7 @@
 use denote.Ref.{now}
-use Rattle.layout.specs.Layout.{internalAt, externalAt, strobeAt}
-use Rattle.layout.proofs.Parts.{put-three}
-use Rattle.drivebytes.specs.Layout.{driveBytes, strobeBytes, DrivesTyped}
+use Rattle.imagespec.specs.Layout.{internalAt, externalAt, strobeAt}
+use Rattle.imagespec.proofs.Parts.{put-three}
+use Rattle.imagespec.specs.DriveLayout.{driveBytes, strobeBytes, DrivesTyped}
 use borrow.Author.Needs.{needs}
 use Rattle.drivebytes.proofs.put_drives.Statement.{statement}
 use Rattle.drivebytes.proofs.put_drives.Tie as tie

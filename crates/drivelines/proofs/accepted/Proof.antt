@@ -1,11 +1,11 @@
-use Rattle.drives.specs.Drives.{acceptedDrives}
+use Rattle.diskspec.specs.Drives.{acceptedDrives}
 use borrow.Author.Needs.{needs}
 use Rattle.drivelines.proofs.accepted.Statement.{statement}
 use Rattle.drivelines.proofs.accepted.Tie as tie
 use Rattle.drivelines.proofs.accepted.Reads as reads
 use Rattle.drivelines.proofs.accepted.Lts as lts
 use Rattle.sense.proofs.accepted.Reads as sense-accepted-reads
-use Rattle.strobe.proofs.Strobe.accepted.Reads as Strobe-accepted-reads
+use Rattle.strobe.proofs.accepted.Reads as Strobe-accepted-reads
 
 accepted-requires : tie.Need-accepted-requires
 accepted-requires c κs = search needs

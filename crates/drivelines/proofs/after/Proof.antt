@@ -2,24 +2,24 @@ use Prim.Native.Nat.{ℕ}
 use mathlib.Core.Path.{_≡_, refl, sym, ap, _∙_}
 use mathlib.Core.Bool.{Bool, true, false, not, _||_}
 use borrow.Author.Needs.{needs}
-use Rattle.drive.specs.declared.Drive.{Drive}
-use Rattle.control.specs.Control.{registerWritten}
-use Rattle.strobe.specs.declared.Strobe.{Strobe}
-use Rattle.watched.specs.declared.Watched.{Watched}
-use Rattle.watched.specs.Watched.{registerOf}
-use Rattle.strobe.specs.Strobe.{quiet, strobeAfter, strobeWrites}
+use Rattle.diskspec.specs.declared.Drive.{Drive}
+use Rattle.diskspec.specs.Control.{registerWritten}
+use Rattle.diskspec.specs.declared.Strobe.{Strobe}
+use Rattle.diskspec.specs.declared.Watched.{Watched}
+use Rattle.diskspec.specs.Watched.{registerOf}
+use Rattle.diskspec.specs.Strobe.{quiet, strobeAfter, strobeWrites}
 use Rattle.levels.proofs.Laws.{no}
-use Rattle.drives.specs.declared.Drives.{Drives}
-use Rattle.drives.specs.Drives.{withStrobe, selected, withSelected, writtenBy, drivesAfter}
+use Rattle.diskspec.specs.declared.Drives.{Drives}
+use Rattle.diskspec.specs.Drives.{withStrobe, selected, withSelected, writtenBy, drivesAfter}
 use Rattle.drivelines.proofs.after.Statement.{statement}
 use Rattle.drivelines.proofs.after.Tie as tie
 use Rattle.drivelines.proofs.after.Reads as reads
 use Rattle.drivelines.proofs.after.Lts as lts
 use Rattle.control.proofs.write_register.Reads as write-register-reads
-use Rattle.strobe.proofs.Strobe.after.Reads as after-reads
-use Rattle.strobe.proofs.Strobe.writes.Reads as writes-reads
-use Rattle.watched.proofs.Watched.register.Reads as register-reads
-use Rattle.strobe.proofs.Strobe.off.Reads as off-reads
+use Rattle.strobe.proofs.after.Reads as after-reads
+use Rattle.strobe.proofs.writes.Reads as writes-reads
+use Rattle.watched.proofs.register.Reads as register-reads
+use Rattle.strobe.proofs.off.Reads as off-reads
 
 off-requires : tie.Need-off-requires
 off-requires c κs = search needs

@@ -2,8 +2,8 @@ use Prim.Native.Nat.{_%_}
 use mathlib.Core.Path.{sym, ap, _∙_}
 use borrow.Author.Needs.{needs}
 use borrow.Author.Tests.{eq-eqb, ne-eqb}
-use Rattle.sense.specs.Sense.{shownOf}
-use Rattle.drives.specs.Drives.{selected, drivesShown}
+use Rattle.diskspec.specs.Sense.{shownOf}
+use Rattle.diskspec.specs.Drives.{selected, drivesShown}
 use Rattle.drivelines.proofs.shown.Statement.{statement}
 use Rattle.drivelines.proofs.shown.Tie as tie
 use Rattle.drivelines.proofs.shown.Reads as reads

@@ -4,7 +4,7 @@ use Rattle.events.proofs.place_disk.Statement.{statement}
 use Rattle.events.proofs.place_disk.Tie as tie
 use Rattle.events.proofs.place_disk.Reads as reads
 use Rattle.events.proofs.place_disk.Lts as lts
-use Rattle.drives.proofs.Drives.place.Reads as place-reads
+use Rattle.drives.proofs.place.Reads as place-reads
 
 place-requires : tie.Need-place-requires
 place-requires c κs = search needs

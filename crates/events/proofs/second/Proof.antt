@@ -4,17 +4,17 @@ use Rattle.events.proofs.second.Statement.{statement}
 use Rattle.events.proofs.second.Tie as tie
 use Rattle.events.proofs.second.Reads as reads
 use Rattle.events.proofs.second.Lts as lts
-use Rattle.clock.proofs.Clock.second.Reads as second-reads
+use Rattle.store.proofs.add_seconds.Reads as add-seconds-reads
 use Rattle.viaflags.proofs.raise.Reads as raise-reads
 
 raise-requires : tie.Need-raise-requires
 raise-requires c κs = search needs
 
-second-requires : tie.Need-second-requires
-second-requires c κs = search needs
+add-seconds-requires : tie.Need-add-seconds-requires
+add-seconds-requires c κs = search needs
 
 returns : tie.Need-returns
-returns c = simp (← c .before .raise .ensures, ← c .second .ensures)
+returns c = simp (← c .before .before .raise .ensures, ← c .add-seconds .ensures)
 
 pub second-spec : {M : Type 1} → statement M
-second-spec = tie.close (tie.spec raise-requires second-requires returns)
+second-spec = tie.close (tie.spec raise-requires add-seconds-requires returns)

@@ -1,8 +1,8 @@
 use mathlib.Core.Path.{_≡_, sym, ap, subst, _∙_}
 use lib.ListN.{length}
 use denote.Ref.{now}
-use Rattle.machine.specs.declared.Machine.{Machine}
-use Rattle.machine.specs.Machine.{freshMachine}
+use Rattle.machinespec.specs.declared.Machine.{Machine}
+use Rattle.machinespec.specs.Machine.{freshMachine}
 use Rattle.outcome.specs.declared.Ran.{Ran}
 use Rattle.outcome.specs.Outcome.{ranOf, over, runOf}
 use Rattle.demand3.specs.Runs.{Run3}

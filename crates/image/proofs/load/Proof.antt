@@ -1,4 +1,4 @@
-use Rattle.image.specs.Image.{machineOf}
+use Rattle.imagespec.specs.Image.{machineOf}
 use borrow.Author.Needs.{needs}
 use Rattle.image.proofs.load.Statement.{statement}
 use Rattle.image.proofs.load.Tie as tie

@@ -1,9 +1,9 @@
 use mathlib.Core.Path.{_≡_, ap, _∙_}
 use lib.ListN.{length}
 use denote.Ref.{now}
-use Rattle.layout.specs.Layout.{linesLength, inputsLength, senseLength}
-use Rattle.image.specs.Image.{imageOf, machineOf, validImage, Typed}
-use Rattle.image.proofs.Round.{image-saved, restore-saved, saved-valid}
+use Rattle.imagespec.specs.Layout.{linesLength, inputsLength, senseLength}
+use Rattle.imagespec.specs.Image.{imageOf, machineOf, validImage, Typed}
+use Rattle.imagespec.proofs.Round.{image-saved, restore-saved, saved-valid}
 use borrow.Author.Needs.{needs}
 use Rattle.image.proofs.save.Statement.{statement}
 use Rattle.image.proofs.save.Tie as tie

@@ -1,11 +1,11 @@
-use Rattle.machine.specs.Machine.{acceptedOf}
-use Rattle.layout.specs.Layout.{sameBytes}
-use Rattle.image.specs.Image.{imageOf, machineOf}
+use Rattle.machinespec.specs.Machine.{acceptedOf}
+use Rattle.imagespec.specs.Layout.{sameBytes}
+use Rattle.imagespec.specs.Image.{imageOf, machineOf}
 use Prim.Native.Nat.{ℕ, _+_}
 use mathlib.Core.List.{List}
 use denote.Ref.{now}
 use mathlib.Core.Path.{_≡_, refl, sym, ap, ap₂, _∙_}
-use Rattle.image.specs.Image.{validImage}
+use Rattle.imagespec.specs.Image.{validImage}
 use borrow.Author.Tests.{eq-eqb, ne-eqb}
 use borrow.Author.Needs.{needs}
 use Rattle.image.proofs.valid.Statement.{statement}
@@ -15,7 +15,7 @@ use Rattle.image.proofs.valid.Lts as lts
 use Rattle.image.proofs.load.Reads as load-reads
 use Rattle.layout.proofs.same.Reads as same-reads
 use Rattle.image.proofs.save.Reads as save-reads
-use Rattle.machine.proofs.Machine.accepted.Reads as accepted-reads
+use Rattle.machine.proofs.accepted.Reads as accepted-reads
 
 returns : tie.Need-returns
 unfolding validImage

@@ -1,5 +1,5 @@
 use borrow.Author.Needs.{needs}
-use Rattle.items.specs.Items.{plainOf}
+use Rattle.itemspec.specs.Items.{plainOf}
 use borrow.Author.Tests.{eq-eqb, ne-eqb}
 use Rattle.items.proofs.plain_item.Statement.{statement}
 use Rattle.items.proofs.plain_item.Tie as tie

@@ -1,5 +1,5 @@
 use borrow.Author.Needs.{needs}
-use Rattle.items.specs.Items.{powerOf}
+use Rattle.itemspec.specs.Items.{powerOf}
 use borrow.Author.Tests.{eq-eqb, ne-eqb}
 use Rattle.items.proofs.power_item.Statement.{statement}
 use Rattle.items.proofs.power_item.Tie as tie

@@ -1,5 +1,5 @@
 use borrow.Author.Needs.{needs}
-use Rattle.items.specs.Items.{readOf}
+use Rattle.itemspec.specs.Items.{readOf}
 use borrow.Author.Tests.{eq-eqb, ne-eqb}
 use Rattle.items.proofs.read_item.Statement.{statement}
 use Rattle.items.proofs.read_item.Tie as tie

@@ -1,5 +1,5 @@
 use borrow.Author.Needs.{needs}
-use Rattle.items.specs.Items.{writeOf}
+use Rattle.itemspec.specs.Items.{writeOf}
 use borrow.Author.Tests.{eq-eqb, ne-eqb}
 use Rattle.items.proofs.write_item.Statement.{statement}
 use Rattle.items.proofs.write_item.Tie as tie

@@ -1,6 +1,6 @@
 use borrow.Author.Needs.{needs}
 use borrow.Author.Tests.{lt-ltb, le-ltb, le-leb, lt-leb, eq-eqb, ne-eqb}
-use Rattle.kinds.specs.Kinds.{decodedOf}
+use Rattle.itemspec.specs.Kinds.{decodedOf}
 use Rattle.kinds.proofs.decode.Statement.{statement}
 use Rattle.kinds.proofs.decode.Tie as tie
 use Rattle.kinds.proofs.decode.Reads as reads

@@ -1,5 +1,5 @@
 use borrow.Author.Needs.{needs}
-use Rattle.kinds.specs.Kinds.{isKind}
+use Rattle.itemspec.specs.Kinds.{isKind}
 use borrow.Author.Tests.{eq-eqb, ne-eqb}
 use Rattle.kinds.proofs.is.Statement.{statement}
 use Rattle.kinds.proofs.is.Tie as tie

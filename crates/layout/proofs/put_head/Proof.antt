@@ -1,4 +1,4 @@
-use Rattle.layout.specs.Layout.{headBytes}
+use Rattle.imagespec.specs.Layout.{headBytes}
 use borrow.Author.Needs.{needs}
 use Rattle.layout.proofs.put_head.Statement.{statement}
 use Rattle.layout.proofs.put_head.Tie as tie

@@ -1,7 +1,7 @@
 use mathlib.Core.Path.{refl}
 use denote.Ref.{now}
-use Rattle.layout.specs.Layout.{linesAt, inputsAt, senseAt}
-use Rattle.layout.proofs.Parts.{put-three}
+use Rattle.imagespec.specs.Layout.{linesAt, inputsAt, senseAt}
+use Rattle.imagespec.proofs.Parts.{put-three}
 use borrow.Author.Needs.{needs}
 use Rattle.layout.proofs.put_levels.Statement.{statement}
 use Rattle.layout.proofs.put_levels.Tie as tie

@@ -10,7 +10,7 @@ use lib.Seq.{drop-cons}
 use lib.Dec.{eqb}
 use borrow.Author.Tests.{eq-eqb, ne-eqb}
 use denote.Ref.{now}
-use Rattle.layout.specs.Layout.{sameBytes}
+use Rattle.imagespec.specs.Layout.{sameBytes}
 use Rattle.layout.proofs.same.Statement.{statement}
 use Rattle.layout.proofs.same.Tie as tie
 

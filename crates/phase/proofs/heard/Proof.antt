@@ -1,7 +1,7 @@
 use mathlib.Core.Path.{_∙_}
 use native.Mathlib.Omega.{arith}
 use borrow.Author.Tests.{eq-eqb, ne-eqb}
-use Rattle.phase.proofs.Range.{few-count, few-small}
+use Rattle.clockspec.proofs.PhaseRange.{few-count, few-small}
 use borrow.Author.Needs.{needs}
 use Rattle.phase.proofs.heard.Statement.{statement}
 use Rattle.phase.proofs.heard.Tie as tie

@@ -1,7 +1,7 @@
 use mathlib.Core.Path.{sym, ap, subst, _∙_}
-use Rattle.phase.specs.Phase.{judged}
-use Rattle.command.specs.Command.{Legal}
-use Rattle.command.proofs.Range.{decode-legal}
+use Rattle.clockspec.specs.Phase.{judged}
+use Rattle.clockspec.specs.Command.{Legal}
+use Rattle.clockspec.proofs.CommandRange.{decode-legal}
 use borrow.Author.Needs.{needs}
 use Rattle.phase.proofs.judged_by.Statement.{statement}
 use Rattle.phase.proofs.judged_by.Tie as tie

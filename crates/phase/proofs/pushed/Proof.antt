@@ -1,6 +1,6 @@
 use native.Mathlib.Omega.{arith}
 use mathlib.Core.Path.{ap}
-use Rattle.command.specs.Command.{bit}
+use Rattle.clockspec.specs.Command.{bit}
 use borrow.Author.Needs.{needs}
 use Rattle.phase.proofs.pushed.Statement.{statement}
 use Rattle.phase.proofs.pushed.Tie as tie

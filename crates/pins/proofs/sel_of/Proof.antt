@@ -1,9 +1,9 @@
 use mathlib.Core.Path.{ap, _∙_}
 use native.Mathlib.Omega.{arith}
 use borrow.Author.Needs.{needs}
-use Rattle.command.specs.Command.{bit}
-use Rattle.command.proofs.Range.{bit-le, cast}
-use Rattle.pins.specs.Pins.{selOf}
+use Rattle.clockspec.specs.Command.{bit}
+use Rattle.clockspec.proofs.CommandRange.{bit-le, cast}
+use Rattle.machinespec.specs.Pins.{selOf}
 use Rattle.pins.proofs.sel_of.Statement.{statement}
 use Rattle.pins.proofs.sel_of.Tie as tie
 use Rattle.pins.proofs.sel_of.Reads as reads

@@ -1,5 +1,5 @@
 use borrow.Author.Needs.{needs}
-use Rattle.pins.specs.Pins.{wiresOf}
+use Rattle.machinespec.specs.Pins.{wiresOf}
 use Rattle.pins.proofs.wires_of.Statement.{statement}
 use Rattle.pins.proofs.wires_of.Tie as tie
 use Rattle.pins.proofs.wires_of.Reads as reads

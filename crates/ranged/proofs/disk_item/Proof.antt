@@ -1,7 +1,7 @@
 use borrow.Author.Needs.{needs}
-use Rattle.ranged.specs.Ranged.{diskOf}
+use Rattle.itemspec.specs.Ranged.{diskOf}
 use borrow.Author.Tests.{eq-eqb, ne-eqb}
-use Rattle.ranged.proofs.Any.{any4}
+use Rattle.itemspec.proofs.Any.{any4}
 use Rattle.ranged.proofs.disk_item.Statement.{statement}
 use Rattle.ranged.proofs.disk_item.Tie as tie
 use Rattle.ranged.proofs.disk_item.Reads as reads

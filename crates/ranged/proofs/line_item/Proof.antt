@@ -1,7 +1,7 @@
 use borrow.Author.Needs.{needs}
-use Rattle.ranged.specs.Ranged.{lineOf}
+use Rattle.itemspec.specs.Ranged.{lineOf}
 use borrow.Author.Tests.{eq-eqb, ne-eqb}
-use Rattle.ranged.proofs.Any.{any2}
+use Rattle.itemspec.proofs.Any.{any2}
 use Rattle.ranged.proofs.line_item.Statement.{statement}
 use Rattle.ranged.proofs.line_item.Tie as tie
 use Rattle.ranged.proofs.line_item.Reads as reads

@@ -1,7 +1,7 @@
 use borrow.Author.Needs.{needs}
-use Rattle.ranged.specs.Ranged.{senseOf}
+use Rattle.itemspec.specs.Ranged.{senseOf}
 use borrow.Author.Tests.{eq-eqb, ne-eqb}
-use Rattle.ranged.proofs.Any.{any3}
+use Rattle.itemspec.proofs.Any.{any3}
 use Rattle.ranged.proofs.sense_item.Statement.{statement}
 use Rattle.ranged.proofs.sense_item.Tie as tie
 use Rattle.ranged.proofs.sense_item.Reads as reads

@@ -1,5 +1,5 @@
 use borrow.Author.Needs.{needs}
-use Rattle.record.specs.Record.{answerBytes}
+use Rattle.itemspec.specs.Record.{answerBytes}
 use Rattle.record.proofs.answer_bytes.Statement.{statement}
 use Rattle.record.proofs.answer_bytes.Tie as tie
 

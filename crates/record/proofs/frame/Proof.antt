@@ -1,6 +1,6 @@
 use borrow.Author.Needs.{needs}
 use borrow.Author.Tests.{lt-ltb, le-ltb}
-use Rattle.record.specs.Record.{frameOf}
+use Rattle.itemspec.specs.Record.{frameOf}
 use Rattle.record.proofs.frame.Statement.{statement}
 use Rattle.record.proofs.frame.Tie as tie
 

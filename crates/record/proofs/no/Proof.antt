@@ -1,5 +1,5 @@
 use mathlib.Core.Path.{refl}
-use Rattle.record.specs.Record.{noOf}
+use Rattle.itemspec.specs.Record.{noOf}
 use Rattle.record.proofs.no.Statement.{statement}
 use Rattle.record.proofs.no.Tie as tie
 

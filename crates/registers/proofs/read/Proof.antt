@@ -1,5 +1,5 @@
 use borrow.Author.Needs.{needs}
-use Rattle.registers.specs.Registers.{readOf}
+use Rattle.via.specs.Registers.{readOf}
 use Rattle.registers.proofs.read.Statement.{statement}
 use Rattle.registers.proofs.read.Tie as tie
 use Rattle.registers.proofs.read.Reads as reads

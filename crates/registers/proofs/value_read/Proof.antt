@@ -1,6 +1,6 @@
 use borrow.Author.Needs.{needs}
 use Rattle.via.proofs.Rest.{fifteen}
-use Rattle.registers.specs.Registers.{valueRead}
+use Rattle.via.specs.Registers.{valueRead}
 use Rattle.registers.proofs.value_read.Statement.{statement}
 use Rattle.registers.proofs.value_read.Tie as tie
 use Rattle.registers.proofs.value_read.Reads as reads

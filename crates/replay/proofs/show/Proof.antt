@@ -1,4 +1,4 @@
-use Rattle.record.proofs.Laws.{whole-fits}
+use Rattle.itemspec.proofs.RecordLaws.{whole-fits}
 use mathlib.Core.Path.{sym, _∙_}
 use borrow.Author.Needs.{needs}
 use Rattle.replay.proofs.show.Statement.{statement}

@@ -1,7 +1,7 @@
 use borrow.Author.Needs.{needs}
 use denote.Ref.{now}
 use Rattle.report.proofs.Rest.{rest-all}
-use Rattle.kinds.specs.Kinds.{decodedOf}
+use Rattle.itemspec.specs.Kinds.{decodedOf}
 use mathlib.Core.Path.{ap, _∙_}
 use Rattle.report.specs.Report.{kindOf}
 use borrow.Author.Tests.{lt-ltb, le-ltb, le-leb, lt-leb, eq-eqb, ne-eqb}

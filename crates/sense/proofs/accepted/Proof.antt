@@ -1,6 +1,6 @@
 use mathlib.Core.Path.{refl}
 use Rattle.sense.proofs.accepted.Statement.{statement}
-use Rattle.sense.specs.Sense.{acceptedDrive}
+use Rattle.diskspec.specs.Sense.{acceptedDrive}
 use Rattle.sense.proofs.accepted.Tie as tie
 use Rattle.sense.proofs.accepted.Reads as reads
 use Rattle.sense.proofs.accepted.Lts as lts

@@ -1,6 +1,6 @@
 use mathlib.Core.Path.{refl}
 use Rattle.sense.proofs.drives_sense.Statement.{statement}
-use Rattle.sense.specs.Sense.{drivesSense}
+use Rattle.diskspec.specs.Sense.{drivesSense}
 use Rattle.sense.proofs.drives_sense.Tie as tie
 use Rattle.sense.proofs.drives_sense.Reads as reads
 use Rattle.sense.proofs.drives_sense.Lts as lts

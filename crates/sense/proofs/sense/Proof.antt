@@ -1,6 +1,6 @@
 use borrow.Author.Needs.{needs}
 use mathlib.Core.Path.{sym, ap, _∙_}
-use Rattle.sense.specs.Sense.{level}
+use Rattle.diskspec.specs.Sense.{level}
 use Rattle.sense.proofs.sense.Statement.{statement}
 use Rattle.sense.proofs.sense.Tie as tie
 use Rattle.sense.proofs.sense.Reads as reads

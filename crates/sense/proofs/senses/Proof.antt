@@ -1,6 +1,6 @@
 use mathlib.Core.Path.{sym, ap}
 use borrow.Author.Tests.{ne-eqb}
-use Rattle.sense.specs.Sense.{senseOf}
+use Rattle.diskspec.specs.Sense.{senseOf}
 use Rattle.sense.proofs.senses.Statement.{statement}
 use Rattle.sense.proofs.senses.Tie as tie
 use Rattle.sense.proofs.senses.Reads as reads

@@ -1,5 +1,5 @@
 use borrow.Author.Needs.{needs}
-use Rattle.sense.specs.Sense.{shownOf}
+use Rattle.diskspec.specs.Sense.{shownOf}
 use Rattle.sense.proofs.shown.Statement.{statement}
 use Rattle.sense.proofs.shown.Tie as tie
 use Rattle.sense.proofs.shown.Reads as reads

@@ -6,8 +6,8 @@ use Rattle.stages.proofs.compare.Reads as reads
 use Rattle.stages.proofs.compare.Lts as lts
 use Rattle.clock.proofs.Clock.step.Reads as step-reads
 use Rattle.drivelines.proofs.after.Reads as after-reads
-use Rattle.machine.proofs.Machine.watched.Reads as watched-reads
-use Rattle.machine.proofs.Machine.wires.Reads as wires-reads
+use Rattle.pins.proofs.watched.Reads as watched-reads
+use Rattle.pins.proofs.wires.Reads as wires-reads
 
 wires-requires : tie.Need-wires-requires
 wires-requires c κs = search needs

@@ -4,7 +4,7 @@ use Rattle.stages.proofs.wait.Statement.{statement}
 use Rattle.stages.proofs.wait.Tie as tie
 use Rattle.stages.proofs.wait.Reads as reads
 use Rattle.stages.proofs.wait.Lts as lts
-use Rattle.drives.proofs.Drives.wait.Reads as Drives-wait-reads
+use Rattle.drives.proofs.wait.Reads as Drives-wait-reads
 use Rattle.via.proofs.Via.wait.Reads as Via-wait-reads
 
 wait-requires : tie.Need-wait-requires

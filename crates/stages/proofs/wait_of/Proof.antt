@@ -1,5 +1,5 @@
 use borrow.Author.Needs.{needs}
-use Rattle.meaning.specs.Stages.{waitOf}
+use Rattle.machinespec.specs.Stages.{waitOf}
 use borrow.Author.Tests.{lt-ltb, le-ltb, le-leb, lt-leb, eq-eqb, ne-eqb}
 use Rattle.stages.proofs.wait_of.Statement.{statement}
 use Rattle.stages.proofs.wait_of.Tie as tie

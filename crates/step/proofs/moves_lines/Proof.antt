@@ -1,6 +1,6 @@
 use mathlib.Core.Path.{sym}
 use Rattle.levels.proofs.Laws.{no}
-use Rattle.meaning.proofs.Step.{kinds-quiet}
+use Rattle.machinespec.proofs.Step.{kinds-quiet}
 use borrow.Author.Needs.{needs}
 use Rattle.step.proofs.moves_lines.Statement.{statement}
 use Rattle.step.proofs.moves_lines.Tie as tie

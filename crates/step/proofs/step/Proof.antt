@@ -1,20 +1,20 @@
 use Prim.Native.Nat.{ℕ}
 use mathlib.Core.Path.{sym, ap, subst, _∙_}
-use Rattle.machine.specs.declared.Machine.{Machine}
-use Rattle.machine.specs.Machine.{Levels}
-use Rattle.machine.proofs.Laws.{parts}
-use Rattle.meaning.specs.Action.{actedOf}
-use Rattle.meaning.specs.Stages.{waited}
-use Rattle.meaning.specs.Step.{stepOf}
-use Rattle.meaning.proofs.Step.{met, quiet-step}
+use Rattle.machinespec.specs.declared.Machine.{Machine}
+use Rattle.machinespec.specs.Machine.{Levels}
+use Rattle.machinespec.proofs.MachineLaws.{parts}
+use Rattle.machinespec.specs.Action.{actedOf}
+use Rattle.machinespec.specs.Stages.{waited}
+use Rattle.machinespec.specs.Step.{stepOf}
+use Rattle.machinespec.proofs.Step.{met, quiet-step}
 use borrow.Author.Needs.{needs}
 use Rattle.step.proofs.step.Statement.{statement}
 use Rattle.step.proofs.step.Tie as tie
 use Rattle.step.proofs.step.Reads as reads
 use Rattle.step.proofs.step.Lts as lts
 use Rattle.action.proofs.act.Reads as act-reads
-use Rattle.machine.proofs.Machine.watched.Reads as watched-reads
-use Rattle.machine.proofs.Machine.wires.Reads as wires-reads
+use Rattle.pins.proofs.watched.Reads as watched-reads
+use Rattle.pins.proofs.wires.Reads as wires-reads
 use Rattle.stages.proofs.compare.Reads as compare-reads
 use Rattle.step.proofs.moves_lines.Reads as moves-lines-reads
 use Rattle.stages.proofs.wait.Reads as wait-reads

@@ -1,5 +1,5 @@
 use Rattle.strobe.proofs.long_enough.Statement.{statement}
-use Rattle.strobe.specs.Strobe.{longEnough}
+use Rattle.diskspec.specs.Strobe.{longEnough}
 use borrow.Author.Tests.{eq-eqb, ne-eqb}
 use Rattle.strobe.proofs.long_enough.Tie as tie
 use Rattle.strobe.proofs.long_enough.Reads as reads

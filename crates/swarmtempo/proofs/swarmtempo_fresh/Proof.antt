@@ -8,8 +8,8 @@ use native.Mathlib.Nat.{zero-add}
 use lib.ListN.{length, take, drop}
 use lib.Seq.{length-take-le}
 use Rattle.octets.specs.Octets.{putAt}
-use Rattle.machine.specs.Machine.{freshMachine}
-use Rattle.image.specs.Image.{imageOf}
+use Rattle.machinespec.specs.Machine.{freshMachine}
+use Rattle.imagespec.specs.Image.{imageOf}
 use Rattle.call.specs.Call.{freshStop, freshImage}
 use Rattle.swarmtempo.proofs.swarmtempo_fresh.Statement.{statement}
 use Rattle.swarmtempo.proofs.swarmtempo_fresh.Tie as tie

@@ -1,6 +1,6 @@
-use Rattle.image.specs.Image.{imageLength, validImage}
+use Rattle.imagespec.specs.Image.{imageLength, validImage}
 use lib.ListN.{length}
-use Rattle.image.proofs.Round.{valid-is}
+use Rattle.imagespec.proofs.Round.{valid-is}
 use mathlib.Core.Bool.{true, false}
 use Rattle.call.proofs.Entry as call
 use borrow.Author.Tests.{not-true, not-false, lt-ltb, le-ltb}

@@ -1,9 +1,9 @@
 use Rattle.levels.specs.Levels.{allLevels}
-use Rattle.items.specs.Items.{InRange}
-use Rattle.kinds.proofs.Range.{decoded-range}
-use Rattle.machine.specs.declared.Did.{Did}
-use Rattle.machine.proofs.Laws.{parts}
-use Rattle.meaning.proofs.Keeps.{step-keeps}
+use Rattle.itemspec.specs.Items.{InRange}
+use Rattle.itemspec.proofs.ItemRange.{decoded-range}
+use Rattle.machinespec.specs.declared.Did.{Did}
+use Rattle.machinespec.proofs.MachineLaws.{parts}
+use Rattle.machinespec.proofs.Keeps.{step-keeps}
 use borrow.Author.Needs.{needs}
 use Rattle.outcome.specs.Turn.{turnOf}
 use native.Mathlib.Omega.{arith}
@@ -15,9 +15,9 @@ use Rattle.turn.proofs.turn_of.Reads as reads
 use Rattle.turn.proofs.turn_of.Lts as lts
 use Rattle.kinds.proofs.decode.Reads as decode-reads
 use Rattle.items.proofs.refusal.Reads as refusal-reads
-use Rattle.stages.proofs.refuses.Reads as refuses-reads
+use Rattle.reply.proofs.refuses.Reads as refuses-reads
 use Rattle.step.proofs.step.Reads as step-reads
-use Rattle.step.proofs.answer.Reads as answer-reads
+use Rattle.reply.proofs.answer.Reads as answer-reads
 use Rattle.record.proofs.no.Reads as no-reads
 
 decode-requires : tie.Need-decode-requires

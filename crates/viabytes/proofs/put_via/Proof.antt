@@ -1,8 +1,8 @@
 use mathlib.Core.Path.{ap, _∙_}
 use denote.Ref.{now}
 use Rattle.octets.specs.Octets.{putAt}
-use Rattle.layout.specs.Layout.{viaAt}
-use Rattle.viabytes.specs.Layout.{viaBytes, ViaTyped}
+use Rattle.imagespec.specs.Layout.{viaAt}
+use Rattle.imagespec.specs.ViaLayout.{viaBytes, ViaTyped}
 use borrow.Author.Needs.{needs}
 use Rattle.viabytes.proofs.put_via.Statement.{statement}
 use Rattle.viabytes.proofs.put_via.Tie as tie

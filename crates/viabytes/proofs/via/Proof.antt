@@ -1,8 +1,8 @@
 use mathlib.Core.Path.{_≡_, ap, _∙_}
 use denote.Ref.{now}
-use Rattle.layout.specs.Layout.{viaAt, viaLength, part}
-use Rattle.layout.proofs.Parts.{whole}
-use Rattle.viabytes.specs.Layout.{viaFields, viaOf}
+use Rattle.imagespec.specs.Layout.{viaAt, viaLength, part}
+use Rattle.imagespec.proofs.Parts.{whole}
+use Rattle.imagespec.specs.ViaLayout.{viaFields, viaOf}
 use borrow.Author.Needs.{needs}
 use Rattle.viabytes.proofs.via.Statement.{statement}
 use Rattle.viabytes.proofs.via.Tie as tie

@@ -1,5 +1,5 @@
 use mathlib.Core.Path.{refl}
-use Rattle.watched.specs.Watched.{heldStill, unspoilt}
+use Rattle.diskspec.specs.Watched.{heldStill, unspoilt}
 use Rattle.watched.proofs.leaves_unspoilt.Statement.{statement}
 use Rattle.watched.proofs.leaves_unspoilt.Tie as tie
 use Rattle.watched.proofs.leaves_unspoilt.Reads as reads

@@ -1,5 +1,5 @@
 use mathlib.Core.Path.{refl}
-use Rattle.watched.specs.Watched.{watchedOf}
+use Rattle.diskspec.specs.Watched.{watchedOf}
 use borrow.Author.Needs.{needs}
 use Rattle.watched.proofs.watched_of.Statement.{statement}
 use Rattle.watched.proofs.watched_of.Tie as tie

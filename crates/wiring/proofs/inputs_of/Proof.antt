@@ -1,6 +1,6 @@
 use native.Mathlib.Omega.{arith}
-use Rattle.wiring.specs.Wiring.{inputsOf}
-use Rattle.command.proofs.Range.{bit-le, cast}
+use Rattle.machinespec.specs.Wiring.{inputsOf}
+use Rattle.clockspec.proofs.CommandRange.{bit-le, cast}
 use Rattle.levels.proofs.Laws.{level-at}
 use borrow.Author.Needs.{needs}
 use Rattle.wiring.proofs.inputs_of.Statement.{statement}

@@ -1,6 +1,6 @@
 use borrow.Author.Tests.{eq-eqb, ne-eqb}
 use native.Mathlib.Nat.{add-zero}
-use Rattle.wiring.specs.Wiring.{interruptLevel}
+use Rattle.machinespec.specs.Wiring.{interruptLevel}
 use borrow.Author.Needs.{needs}
 use Rattle.wiring.proofs.interrupt_level.Statement.{statement}
 use Rattle.wiring.proofs.interrupt_level.Tie as tie

@@ -1,0 +1,7 @@
+pub mod CommandRange
+pub mod Commands
+pub mod Places
+pub mod Stopped
+pub mod Unwritten
+pub mod PhaseRange
+pub mod Undriven

@@ -1,3 +1,0 @@
-pub mod Command
-pub mod Patterns
-pub mod Writable

@@ -1,0 +1,5 @@
+pub mod Layout
+pub mod ViaLayout
+pub mod ClockLayout
+pub mod DriveLayout
+pub mod Image

@@ -1,0 +1,5 @@
+pub mod Addresses
+pub mod Record
+pub mod Items
+pub mod Ranged
+pub mod Kinds

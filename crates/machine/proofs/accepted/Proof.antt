@@ -1,0 +1,69 @@
+use Rattle.machinespec.specs.Machine.{acceptedOf}
+use borrow.Author.Needs.{needs}
+use Rattle.machine.proofs.accepted.Statement.{statement}
+use Rattle.machine.proofs.accepted.Tie as tie
+use Rattle.machine.proofs.accepted.Reads as reads
+use Rattle.machine.proofs.accepted.Lts as lts
+use Rattle.phaselevels.proofs.accepted_phase.Reads as accepted-phase-reads
+use Rattle.drivelines.proofs.accepted.Reads as drivelines-accepted-reads
+use Rattle.levels.proofs.all_levels.Reads as all-levels-reads
+use Rattle.pins.proofs.watched.Reads as watched-reads
+use Rattle.pins.proofs.wires.Reads as wires-reads
+use Rattle.viaflags.proofs.accepted.Reads as viaflags-accepted-reads
+
+wires-requires : tie.Need-wires-requires
+wires-requires c κs = search needs
+
+slice-aggregate-all-levels : tie.Need-slice-aggregate-all-levels
+slice-aggregate-all-levels c = search needs
+
+all-levels-requires : tie.Need-all-levels-requires
+all-levels-requires c κs = search needs
+
+slice-aggregate-all-levels-2 : tie.Need-slice-aggregate-all-levels-2
+slice-aggregate-all-levels-2 c = search needs
+
+all-levels-requires-2 : tie.Need-all-levels-requires-2
+all-levels-requires-2 c κs = search needs
+
+slice-aggregate-all-levels-3 : tie.Need-slice-aggregate-all-levels-3
+slice-aggregate-all-levels-3 c = search needs
+
+all-levels-requires-3 : tie.Need-all-levels-requires-3
+all-levels-requires-3 c κs = search needs
+
+accepted-requires : tie.Need-accepted-requires
+accepted-requires c κs = search needs
+
+accepted-phase-requires : tie.Need-accepted-phase-requires
+accepted-phase-requires c κs = search needs
+
+watched-requires : tie.Need-watched-requires
+watched-requires c κs = search needs
+
+accepted-requires-2 : tie.Need-accepted-requires-2
+accepted-requires-2 c κs = search needs
+
+returns : tie.Need-returns
+unfolding acceptedOf
+returns c =
+    let a = c .before .before in
+    let b = a .before .before in
+    simp (c .accepted2 .ensures, c .before .watched .ensures, a .accepted-phase .ensures, a .before .accepted .ensures, b .all-levels3 .ensures, b .before .before .all-levels2 .ensures, b .before .before .before .before .all-levels .ensures, b .before .before .before .before .before .before .wires .ensures)
+
+pub accepted-spec : {M : Type 1} → statement M
+accepted-spec =
+    tie.close
+    (tie.spec
+    wires-requires
+    slice-aggregate-all-levels
+    all-levels-requires
+    slice-aggregate-all-levels-2
+    all-levels-requires-2
+    slice-aggregate-all-levels-3
+    all-levels-requires-3
+    accepted-requires
+    accepted-phase-requires
+    watched-requires
+    accepted-requires-2
+    returns)

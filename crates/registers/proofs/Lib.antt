@@ -1,5 +1,0 @@
-pub mod Accepted
-pub mod Bits
-pub mod Exact
-pub mod Flags
-pub mod Kept

@@ -1,3 +1,0 @@
-pub mod Bounds
-pub mod Pulses
-pub mod Ticks
