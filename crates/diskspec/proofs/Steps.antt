@@ -1,4 +1,4 @@
--- What a drive promises its users: steps, the motor, and a disk that leaves.
+-- What a drive promises its users: steps, the motor, a disk that leaves, and a power cut.
 use Prim.Native.Nat.{ℕ, zero, suc, _+_, _-_, _<_}
 use mathlib.Core.Path.{_≡_, refl, sym, ap, _∙_}
 use mathlib.Core.Bool.{Bool, true, false}
@@ -6,7 +6,7 @@ use native.Mathlib.Omega.{arith}
 use borrow.Author.Tests.{eq-eqb, ne-eqb, lt-ltb}
 use lib.Dec.{eqb}
 use Rattle.diskspec.proofs.DriveTicks.{driveTicks-add, early, late}
-use Rattle.diskspec.specs.Drive.{withDirection, withStep, withTrack, tickBy, tickDrive, driveTicks, neighbour, removed, freshDrive}
+use Rattle.diskspec.specs.Drive.{withDirection, withStep, withTrack, tickBy, tickDrive, driveTicks, neighbour, removed, powered, freshDrive}
 use Rattle.diskspec.specs.Control.{motorOn, ejected, registerWritten}
 use Rattle.diskspec.specs.Sense.{senseOf}
 use Rattle.diskspec.specs.declared.Drive.{Drive}
@@ -105,6 +105,12 @@ eject-removes d e = ap (λ (b : Bool). ejected b d) e
 pub leaves : (d : Drive)
     → (removed d .disk ≡ false) × (removed d .motor ≡ false) × (removed d .locked ≡ false) × (removed d .sides ≡ d .sides)
 leaves d = (refl, refl, refl, refl)
+
+-- "PW stops motors, drops pending steps and keeps the rest of each drive."
+pub power-cut : (d : Drive)
+    → (powered d .motor ≡ false) × (powered d .pending ≡ 0) × (powered d .heading ≡ false) × (powered d .track ≡ d .track) × (powered d .direction ≡ d .direction)
+    × (powered d .disk ≡ d .disk) × (powered d .locked ≡ d .locked) × (powered d .sides ≡ d .sides)
+power-cut d = (refl, refl, refl, refl, refl, refl, refl, refl)
 
 -- ---- a seek: n steps, each with its ticks
 

@@ -8,16 +8,16 @@ use clockspec::Command;
 use clockspec::Store;
 use clockspec::Target;
 
-// The seconds grow by n, modulo 2^32, unless test bit 7 or 6 stops them.
-pub fn add_seconds(store: Store, n: u32) -> Store
-    ensures { λ r. ⌜ r ≡ withSeconds store (added (stops (store .test)) n (store .seconds)) ⌝ }
+// The seconds grow by so many, modulo 2^32, unless test bit 7 or 6 stops them.
+pub fn add_seconds(store: Store, seconds: u32) -> Store
+    ensures { λ r. ⌜ r ≡ withSeconds store (added (stops (store .test)) seconds (store .seconds)) ⌝ }
 {
     if 64 <= store.test {
         return store;
     }
     let mut s = store;
     let was = s.seconds;
-    s.seconds = std::num::wrapping_add_u32(was, n);
+    s.seconds = std::num::wrapping_add_u32(was, seconds);
     s
 }
 
