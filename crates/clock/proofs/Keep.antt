@@ -7,20 +7,20 @@ use native.Mathlib.Omega.{arith}
 use native.Mathlib.Numerals.{add-one}
 use lib.Dec.{ltb, eqb}
 use borrow.Author.Tests.{ltb-true, lt-ltb, eqb-false}
-use Rattle.clockspec.specs.Command.{decode, bit, isWrite}
-use Rattle.clockspec.specs.Shared.{Written}
-use Rattle.clockspec.specs.Store.{act}
-use Rattle.clockspec.specs.Phase.{edgeOf, between, judged, fewBits, acceptedPhase}
+use Rattle.clock_spec.specs.Command.{decode, bit, isWrite}
+use Rattle.clock_spec.specs.Shared.{Written}
+use Rattle.clock_spec.specs.Store.{act}
+use Rattle.clock_spec.specs.Phase.{edgeOf, between, judged, fewBits, acceptedPhase}
 use Rattle.clock.specs.Step.{next, acts, stepWires}
-use Rattle.clockspec.specs.declared.Command.{Command}
-use Rattle.clockspec.specs.declared.Command.the-variants.{Write, Read, Illegal}
-use Rattle.clockspec.specs.declared.Phase.{Phase}
-use Rattle.clockspec.specs.declared.Phase.the-variants.{Idle, Listening, Taking, Sending, Ignoring}
-use Rattle.clockspec.specs.declared.Wires.{Wires}
-use Rattle.clockspec.specs.declared.Store.{Store}
+use Rattle.clock_spec.specs.declared.Command.{Command}
+use Rattle.clock_spec.specs.declared.Command.the-variants.{Write, Read, Illegal}
+use Rattle.clock_spec.specs.declared.Phase.{Phase}
+use Rattle.clock_spec.specs.declared.Phase.the-variants.{Idle, Listening, Taking, Sending, Ignoring}
+use Rattle.clock_spec.specs.declared.Wires.{Wires}
+use Rattle.clock_spec.specs.declared.Store.{Store}
 use Rattle.clock.specs.declared.Clock.{Clock}
-use Rattle.clockspec.proofs.CommandRange.{bit-le}
-use Rattle.clockspec.proofs.PhaseRange.{few-count, few-value}
+use Rattle.clock_spec.proofs.CommandRange.{bit-le}
+use Rattle.clock_spec.proofs.PhaseRange.{few-count, few-value}
 use Rattle.levels.proofs.Laws.{both, joined}
 
 judged-ok : (N : ℕ) (s : Store) (v : ℕ) (c : Command) → decode N v ≡ c → acceptedPhase N (judged s v c) false ≡ true

@@ -5,17 +5,17 @@ use mathlib.Core.Bool.{Bool, true, false, cond}
 use mathlib.Core.Option.{Option}
 use Prim.Native.Nat.{ℕ, _+_, _*_}
 use lib.Dec.{eqb}
-use Rattle.clockspec.specs.Command.{decode, bit}
-use Rattle.clockspec.specs.Shared.{Written}
-use Rattle.clockspec.specs.Store.{act}
-use Rattle.clockspec.specs.Phase.{edgeOf, between, withLine, judged, shown}
+use Rattle.clock_spec.specs.Command.{decode, bit}
+use Rattle.clock_spec.specs.Shared.{Written}
+use Rattle.clock_spec.specs.Store.{act}
+use Rattle.clock_spec.specs.Phase.{edgeOf, between, withLine, judged, shown}
 use Rattle.clock.specs.Step.{next, acts, stepWires}
-use Rattle.clockspec.specs.declared.Command.{Command}
-use Rattle.clockspec.specs.declared.Command.the-variants.{Write, Read, Illegal}
-use Rattle.clockspec.specs.declared.Phase.{Phase}
-use Rattle.clockspec.specs.declared.Phase.the-variants.{Idle, Listening, Taking, Sending, Ignoring}
-use Rattle.clockspec.specs.declared.Wires.{Wires}
-use Rattle.clockspec.specs.declared.Store.{Store}
+use Rattle.clock_spec.specs.declared.Command.{Command}
+use Rattle.clock_spec.specs.declared.Command.the-variants.{Write, Read, Illegal}
+use Rattle.clock_spec.specs.declared.Phase.{Phase}
+use Rattle.clock_spec.specs.declared.Phase.the-variants.{Idle, Listening, Taking, Sending, Ignoring}
+use Rattle.clock_spec.specs.declared.Wires.{Wires}
+use Rattle.clock_spec.specs.declared.Store.{Store}
 use Rattle.clock.specs.declared.Clock.{Clock}
 
 judged-shown : (s : Store) (v : ℕ) (c : Command) → shown (judged s v c) ≡ true

@@ -4,14 +4,14 @@ use mathlib.Core.Bool.{Bool, true, false}
 use mathlib.Core.List.{List, [], _∷_, _++_}
 use Prim.Native.Nat.{ℕ, _/_}
 use lib.ListN.{getD}
-use Rattle.clockspec.specs.Command.{decode, named}
-use Rattle.clockspec.specs.Patterns.{bitsOf}
+use Rattle.clock_spec.specs.Command.{decode, named}
+use Rattle.clock_spec.specs.Patterns.{bitsOf}
 use Rattle.octets.specs.Octets.{replace}
-use Rattle.clockspec.specs.Store.{fetch, put, act}
-use Rattle.clockspec.specs.Phase.{between}
+use Rattle.clock_spec.specs.Store.{fetch, put, act}
+use Rattle.clock_spec.specs.Phase.{between}
 use Rattle.clock.specs.Step.{freshClock, next, acts, stepWires}
-use Rattle.clockspec.specs.declared.Phase.the-variants.{Listening, Sending, Ignoring}
-use Rattle.clockspec.specs.declared.Wires.{Wires}
+use Rattle.clock_spec.specs.declared.Phase.the-variants.{Listening, Sending, Ignoring}
+use Rattle.clock_spec.specs.declared.Wires.{Wires}
 use Rattle.clock.specs.declared.Clock.{Clock}
 
 abbrev levels : Bool → Bool → Bool → Wires

@@ -5,11 +5,11 @@ use mathlib.Core.List.{List, [], _∷_}
 use Prim.Native.Nat.{ℕ}
 use types.Run.{OneOf, miss}
 use denote.Enum.Declared.{tagOf}
-use Rattle.clockspec.specs.Store.{act}
-use Rattle.clockspec.proofs.Phase.{the-type}
-use Rattle.clockspec.specs.declared.Phase.{Phase}
-use Rattle.clockspec.specs.declared.Phase.the-variants.{Idle, Listening, Taking, Sending, Ignoring}
-use Rattle.clockspec.specs.declared.Edge.the-variants.{Fall, Rise}
+use Rattle.clock_spec.specs.Store.{act}
+use Rattle.clock_spec.proofs.Phase.{the-type}
+use Rattle.clock_spec.specs.declared.Phase.{Phase}
+use Rattle.clock_spec.specs.declared.Phase.the-variants.{Idle, Listening, Taking, Sending, Ignoring}
+use Rattle.clock_spec.specs.declared.Edge.the-variants.{Fall, Rise}
 use Rattle.clock.specs.Step.{withPhase, next, acts, edged}
 use Rattle.clock.specs.declared.Clock.{Clock}
 

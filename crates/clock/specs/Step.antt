@@ -4,16 +4,16 @@ use mathlib.Core.Option.{Option, none}
 use Prim.Native.Nat.{ℕ, _+_, _*_}
 use lib.Dec.{eqb}
 use lib.ListN.{replicate}
-use Rattle.clockspec.specs.Command.{decode, bit}
-use Rattle.clockspec.specs.Shared.{Event, Written, writeBy}
-use Rattle.clockspec.specs.Store.{act, counted}
-use Rattle.clockspec.specs.declared.Store.{Store}
-use Rattle.clockspec.specs.Phase.{between, shifted, listened, taken}
-use Rattle.clockspec.specs.declared.Phase.{Phase}
-use Rattle.clockspec.specs.declared.Phase.the-variants.{Idle, Listening, Taking, Sending, Ignoring}
-use Rattle.clockspec.specs.declared.Edge.{Edge}
-use Rattle.clockspec.specs.declared.Edge.the-variants.{Up, Starts, Still, Fall, Rise}
-use Rattle.clockspec.specs.declared.Wires.{Wires}
+use Rattle.clock_spec.specs.Command.{decode, bit}
+use Rattle.clock_spec.specs.Shared.{Event, Written, writeBy}
+use Rattle.clock_spec.specs.Store.{act, counted}
+use Rattle.clock_spec.specs.declared.Store.{Store}
+use Rattle.clock_spec.specs.Phase.{between, shifted, listened, taken}
+use Rattle.clock_spec.specs.declared.Phase.{Phase}
+use Rattle.clock_spec.specs.declared.Phase.the-variants.{Idle, Listening, Taking, Sending, Ignoring}
+use Rattle.clock_spec.specs.declared.Edge.{Edge}
+use Rattle.clock_spec.specs.declared.Edge.the-variants.{Up, Starts, Still, Fall, Rise}
+use Rattle.clock_spec.specs.declared.Wires.{Wires}
 use Rattle.clock.specs.declared.Clock.{Clock}
 
 -- ---- the state, field by field

@@ -5,30 +5,30 @@ use Prim.Native.Nat.{ℕ, zero, suc, _+_, _-_, _*_, _/_, _%_, _^_}
 use lib.ListN.{getD}
 use Rattle.levels.specs.Levels.{allLevels}
 use Rattle.octets.specs.Octets.{le16Of, le32Of}
-use Rattle.itemspec.specs.Record.{frameOf}
+use Rattle.item_spec.specs.Record.{frameOf}
 use Rattle.via.specs.Via.{freshVia, ticks, acceptedVia}
 use Rattle.via.specs.Writes.{written, portsWritten}
-use Rattle.clockspec.specs.Command.{named, decode}
+use Rattle.clock_spec.specs.Command.{named, decode}
 use Rattle.octets.specs.Octets.{replace}
-use Rattle.clockspec.specs.Store.{fetch, put, act}
-use Rattle.clockspec.specs.Phase.{between, shown, acceptedPhase}
+use Rattle.clock_spec.specs.Store.{fetch, put, act}
+use Rattle.clock_spec.specs.Phase.{between, shown, acceptedPhase}
 use Rattle.clock.specs.Step.{next, acts, stepWires}
-use Rattle.clockspec.specs.declared.Target.the-variants.{Cell}
-use Rattle.iwm.specs.Lines.{linesOff}
-use Rattle.diskspec.specs.Sense.{acceptedDrive}
-use Rattle.diskspec.specs.Strobe.{acceptedStrobe}
-use Rattle.diskspec.specs.Drives.{acceptedDrives}
-use Rattle.itemspec.specs.Addresses.{placeFrom, foundOf}
-use Rattle.itemspec.specs.Items.{writeOf, powerOf}
-use Rattle.itemspec.specs.Kinds.{isKind, decodedOf}
-use Rattle.machinespec.specs.declared.Machine.{Machine}
-use Rattle.machinespec.specs.Pins.{wiresOf}
-use Rattle.machinespec.specs.Machine.{acceptedOf, freshMachine}
-use Rattle.machinespec.specs.Action.{eventOf, actedOf}
-use Rattle.machinespec.specs.Stages.{waitOf, refusesOf}
-use Rattle.machinespec.specs.Step.{stepOf}
-use Rattle.outcome.specs.Turn.{turnOf}
-use Rattle.outcome.specs.Outcome.{cut, piecesFrom, onto, onPiece, runPieces, runOf}
+use Rattle.clock_spec.specs.declared.Target.the-variants.{Cell}
+use Rattle.disk_lines.specs.Lines.{linesOff}
+use Rattle.disk_spec.specs.Sense.{acceptedDrive}
+use Rattle.disk_spec.specs.Strobe.{acceptedStrobe}
+use Rattle.disk_spec.specs.Drives.{acceptedDrives}
+use Rattle.item_spec.specs.Addresses.{placeFrom, foundOf}
+use Rattle.item_spec.specs.Items.{writeOf, powerOf}
+use Rattle.item_spec.specs.Kinds.{isKind, decodedOf}
+use Rattle.machine_spec.specs.declared.Machine.{Machine}
+use Rattle.machine_spec.specs.Pins.{wiresOf}
+use Rattle.machine_spec.specs.Machine.{acceptedOf, freshMachine}
+use Rattle.machine_spec.specs.Action.{eventOf, actedOf}
+use Rattle.machine_spec.specs.Stages.{waitOf, refusesOf}
+use Rattle.machine_spec.specs.Step.{stepOf}
+use Rattle.run_spec.specs.Turn.{turnOf}
+use Rattle.run_spec.specs.Outcome.{cut, piecesFrom, onto, onPiece, runPieces, runOf}
 use Rattle.history.specs.History.{History, wiresAt, rises, ended, protectAt, endedClear, last, secondsAt}
 use Rattle.history.specs.Start.{freshStart}
 use Rattle.history.specs.Items.{stateAfter, historyOf}

@@ -9,33 +9,33 @@ use lib.ListN.{length, getD}
 use Rattle.levels.specs.Levels.{allLevels}
 use Rattle.via.specs.declared.Ports.{Ports}
 use Rattle.via.specs.Via.{freshVia, acceptedVia}
-use Rattle.iwm.specs.Lines.{linesOff}
-use Rattle.clockspec.specs.Shared.{quiet}
-use Rattle.clockspec.specs.Store.{counted}
-use Rattle.clockspec.specs.Phase.{shown, acceptedPhase}
+use Rattle.disk_lines.specs.Lines.{linesOff}
+use Rattle.clock_spec.specs.Shared.{quiet}
+use Rattle.clock_spec.specs.Store.{counted}
+use Rattle.clock_spec.specs.Phase.{shown, acceptedPhase}
 use Rattle.clock.specs.Step.{withStore, stepWires, stepClock}
 use Rattle.clock.proofs.Line.{settled-step}
-use Rattle.clockspec.specs.declared.Wires.{Wires}
+use Rattle.clock_spec.specs.declared.Wires.{Wires}
 use Rattle.clock.specs.declared.Clock.{Clock}
-use Rattle.diskspec.specs.Sense.{acceptedDrive}
-use Rattle.diskspec.specs.Strobe.{acceptedStrobe}
-use Rattle.diskspec.specs.Drives.{acceptedDrives}
-use Rattle.itemspec.specs.declared.Item.{Item}
-use Rattle.itemspec.specs.declared.Item.the-variants.{ReadVia, ReadIwm, WriteVia, WriteIwm, Blank, Second, Line, Sense, Reset, Power, Disk}
-use Rattle.itemspec.specs.declared.Decoded.{Decoded}
-use Rattle.itemspec.specs.declared.Decoded.the-variants.{Done, Refused}
-use Rattle.itemspec.specs.Kinds.{decodedOf}
-use Rattle.machinespec.specs.declared.Machine.{Machine}
-use Rattle.machinespec.specs.Pins.{pin, wiresOf}
-use Rattle.machinespec.specs.Machine.{cellCount, wires, acceptedOf, freshMachine}
-use Rattle.machinespec.specs.Accesses.{viaRead, iwmRead}
-use Rattle.machinespec.specs.Action.{eventOf, actedOf}
-use Rattle.machinespec.specs.Stages.{waitOf, waited, refusesOf}
-use Rattle.machinespec.specs.Step.{stepOf}
-use Rattle.machinespec.proofs.MachineLaws.{parts}
-use Rattle.machinespec.proofs.Drives.{disk-wires}
-use Rattle.outcome.specs.Turn.{refused, carriedOut, turnBy, turnOf}
-use Rattle.outcome.specs.Outcome.{Piece, whole, broken, pieces, halt, onto, onPiece, runPieces, runOf}
+use Rattle.disk_spec.specs.Sense.{acceptedDrive}
+use Rattle.disk_spec.specs.Strobe.{acceptedStrobe}
+use Rattle.disk_spec.specs.Drives.{acceptedDrives}
+use Rattle.item_spec.specs.declared.Item.{Item}
+use Rattle.item_spec.specs.declared.Item.the-variants.{ReadVia, ReadIwm, WriteVia, WriteIwm, Blank, Second, Line, Sense, Reset, Power, Disk}
+use Rattle.item_spec.specs.declared.Decoded.{Decoded}
+use Rattle.item_spec.specs.declared.Decoded.the-variants.{Done, Refused}
+use Rattle.item_spec.specs.Kinds.{decodedOf}
+use Rattle.machine_spec.specs.declared.Machine.{Machine}
+use Rattle.machine_spec.specs.Pins.{pin, wiresOf}
+use Rattle.machine_spec.specs.Machine.{cellCount, wires, acceptedOf, freshMachine}
+use Rattle.machine_spec.specs.Accesses.{viaRead, iwmRead}
+use Rattle.machine_spec.specs.Action.{eventOf, actedOf}
+use Rattle.machine_spec.specs.Stages.{waitOf, waited, refusesOf}
+use Rattle.machine_spec.specs.Step.{stepOf}
+use Rattle.machine_spec.proofs.MachineLaws.{parts}
+use Rattle.machine_spec.proofs.Drives.{disk-wires}
+use Rattle.run_spec.specs.Turn.{refused, carriedOut, turnBy, turnOf}
+use Rattle.run_spec.specs.Outcome.{Piece, whole, broken, pieces, halt, onto, onPiece, runPieces, runOf}
 use Rattle.history.specs.History.{wiresAt}
 use Rattle.history.specs.Start.{Accepted, freshStart}
 use Rattle.history.specs.Demand3.{clockAfter}

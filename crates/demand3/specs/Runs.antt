@@ -5,17 +5,17 @@ use mathlib.Core.List.{List, [], _∷_, _++_}
 use Prim.Native.Nat.{ℕ, _+_, _-_, _<_}
 use lib.Dec.{ltb, eqb}
 use lib.ListN.{getD}
-use Rattle.clockspec.specs.Shared.{Event, quiet, wrap}
+use Rattle.clock_spec.specs.Shared.{Event, quiet, wrap}
 use Rattle.clock.specs.declared.Clock.{Clock}
-use Rattle.itemspec.specs.declared.Decoded.{Decoded}
-use Rattle.itemspec.specs.declared.Decoded.the-variants.{Done, Refused}
-use Rattle.itemspec.specs.Kinds.{decodedOf}
-use Rattle.machinespec.specs.declared.Machine.{Machine}
-use Rattle.machinespec.specs.Machine.{cellCount, wires}
-use Rattle.machinespec.specs.Action.{eventOf}
-use Rattle.machinespec.specs.Stages.{refusesOf}
-use Rattle.outcome.specs.Turn.{turnOf}
-use Rattle.outcome.specs.Outcome.{Piece, whole, broken, pieces}
+use Rattle.item_spec.specs.declared.Decoded.{Decoded}
+use Rattle.item_spec.specs.declared.Decoded.the-variants.{Done, Refused}
+use Rattle.item_spec.specs.Kinds.{decodedOf}
+use Rattle.machine_spec.specs.declared.Machine.{Machine}
+use Rattle.machine_spec.specs.Machine.{cellCount, wires}
+use Rattle.machine_spec.specs.Action.{eventOf}
+use Rattle.machine_spec.specs.Stages.{refusesOf}
+use Rattle.run_spec.specs.Turn.{turnOf}
+use Rattle.run_spec.specs.Outcome.{Piece, whole, broken, pieces}
 use Rattle.history.specs.History.{Start, Entry, History, cellAt, testAt, protectAt, secondsAt, gained, Kept}
 use Rattle.history.specs.Start.{startOf}
 use Rattle.history.specs.Items.{stateAfter, historyOf, entriesSince}

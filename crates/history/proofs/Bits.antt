@@ -9,9 +9,9 @@ use lib.Dec.{eqb}
 use lib.ListN.{length, take, drop, length-append}
 use lib.Seq.{append-snoc, drop-at}
 use borrow.Author.Tests.{eqb-true, eqb-false, eq-eqb, ne-eqb}
-use Rattle.clockspec.specs.Command.{decode, bit, num}
-use Rattle.clockspec.specs.Shared.{writeBy}
-use Rattle.clockspec.proofs.CommandRange.{bit-le}
+use Rattle.clock_spec.specs.Command.{decode, bit, num}
+use Rattle.clock_spec.specs.Shared.{writeBy}
+use Rattle.clock_spec.proofs.CommandRange.{bit-le}
 use Rattle.history.specs.History.{complete}
 use Rattle.history.specs.Start.{bitsOf}
 

@@ -3,9 +3,9 @@ use mathlib.Core.Path.{_≡_, refl, sym, ap, ap₂, subst, _∙_}
 use mathlib.Core.List.{List, [], _∷_, _++_, append-assoc}
 use Prim.Native.Nat.{ℕ, _+_}
 use lib.ListN.{getD}
-use Rattle.clockspec.specs.Shared.{wrap}
+use Rattle.clock_spec.specs.Shared.{wrap}
 use Rattle.clock.specs.Step.{stepClock}
-use Rattle.clockspec.specs.declared.Wires.{Wires}
+use Rattle.clock_spec.specs.declared.Wires.{Wires}
 use Rattle.clock.specs.declared.Clock.{Clock}
 use Rattle.history.specs.History.{Entry, History, wiresAt, gained}
 use Rattle.history.specs.Start.{startOf, Accepted}

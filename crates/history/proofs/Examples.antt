@@ -6,14 +6,14 @@ use mathlib.Core.Option.{some}
 use Prim.Native.Nat.{ℕ, zero, suc, _-_, _/_, _%_, _^_}
 use lib.Dec.{eqb}
 use lib.ListN.{getD}
-use Rattle.clockspec.specs.Command.{named, decode}
+use Rattle.clock_spec.specs.Command.{named, decode}
 use Rattle.octets.specs.Octets.{replace}
-use Rattle.clockspec.specs.Shared.{Event, quiet, second, off}
-use Rattle.clockspec.specs.Store.{fetch, put, act}
-use Rattle.clockspec.specs.Phase.{between}
+use Rattle.clock_spec.specs.Shared.{Event, quiet, second, off}
+use Rattle.clock_spec.specs.Store.{fetch, put, act}
+use Rattle.clock_spec.specs.Phase.{between}
 use Rattle.clock.specs.Step.{freshClock, next, acts, stepWires}
-use Rattle.clockspec.specs.declared.Phase.the-variants.{Taking}
-use Rattle.clockspec.specs.declared.Wires.{Wires}
+use Rattle.clock_spec.specs.declared.Phase.the-variants.{Taking}
+use Rattle.clock_spec.specs.declared.Wires.{Wires}
 use Rattle.clock.specs.declared.Clock.{Clock}
 use Rattle.history.specs.History.{Entry, History, wiresAt, rises, ended, protectAt, endedClear, last, cellAt, testAt, secondsAt}
 use Rattle.history.specs.Start.{startOf, undriven, freshStart}

@@ -10,11 +10,11 @@ use lib.Dec.{leb}
 use lib.ListN.{length, take, drop, length-append}
 use lib.Seq.{drop-at, drop-drop}
 use borrow.Author.Tests.{eq-eqb, le-leb}
-use Rattle.clockspec.specs.Command.{decode, num}
-use Rattle.clockspec.specs.Shared.{Written, writeBy, bit7}
-use Rattle.clockspec.specs.declared.Target.{Target}
-use Rattle.clockspec.specs.declared.Target.the-variants.{Seconds, Test, Protect, Cell}
-use Rattle.clockspec.specs.declared.Wires.{Wires}
+use Rattle.clock_spec.specs.Command.{decode, num}
+use Rattle.clock_spec.specs.Shared.{Written, writeBy, bit7}
+use Rattle.clock_spec.specs.declared.Target.{Target}
+use Rattle.clock_spec.specs.declared.Target.the-variants.{Seconds, Test, Protect, Cell}
+use Rattle.clock_spec.specs.declared.Wires.{Wires}
 use Rattle.history.specs.History.{Start, Entry, History, push, complete, protectBy, same, byteTo, wiresAt, rises, ended, protectAt, endedClear, last}
 use Rattle.history.specs.Start.{freshStart}
 use Rattle.history.proofs.Bits.{is-16}

@@ -7,13 +7,13 @@ use Prim.Native.Nat.{ℕ, _+_, _^_, _<_}
 use native.Mathlib.Omega.{arith}
 use native.Mathlib.Nat.{mod-eq-of-lt, mod-add-mod, add-zero}
 use lib.ListN.{length, getD, length-replicate, getD-replicate}
-use Rattle.clockspec.specs.Shared.{Event, quiet, second, off, stops, wrap, elapse, Written}
-use Rattle.clockspec.specs.Store.{act, counted}
-use Rattle.clockspec.specs.Phase.{between, acceptedPhase}
+use Rattle.clock_spec.specs.Shared.{Event, quiet, second, off, stops, wrap, elapse, Written}
+use Rattle.clock_spec.specs.Store.{act, counted}
+use Rattle.clock_spec.specs.Phase.{between, acceptedPhase}
 use Rattle.clock.specs.Step.{freshClock, acts, stepWires}
-use Rattle.clockspec.specs.declared.Target.the-variants.{Test, Cell}
-use Rattle.clockspec.specs.declared.Wires.{Wires}
-use Rattle.clockspec.specs.declared.Store.{Store}
+use Rattle.clock_spec.specs.declared.Target.the-variants.{Test, Cell}
+use Rattle.clock_spec.specs.declared.Wires.{Wires}
+use Rattle.clock_spec.specs.declared.Store.{Store}
 use Rattle.clock.specs.declared.Clock.{Clock}
 use Rattle.history.specs.History.{Start, Entry, History, protectBy, byteTo, met, replaced, gained, wiresAt, rises, ended, protectAt, endedClear, last, cellAt, testAt, secondsAt, Kept}
 use Rattle.history.specs.Start.{startOf, Accepted, undriven, freshStart}

@@ -3,11 +3,11 @@ use mathlib.Core.Path.{_≡_}
 use mathlib.Core.Bool.{true}
 use mathlib.Core.List.{[], _∷_}
 use Prim.Native.Nat.{ℕ}
-use Rattle.clockspec.specs.Shared.{quiet}
-use Rattle.clockspec.specs.Store.{counted}
-use Rattle.clockspec.specs.Phase.{acceptedPhase}
+use Rattle.clock_spec.specs.Shared.{quiet}
+use Rattle.clock_spec.specs.Store.{counted}
+use Rattle.clock_spec.specs.Phase.{acceptedPhase}
 use Rattle.clock.specs.Step.{withStore, stepClock}
-use Rattle.clockspec.specs.declared.Wires.{Wires}
+use Rattle.clock_spec.specs.declared.Wires.{Wires}
 use Rattle.clock.specs.declared.Clock.{Clock}
 use Rattle.clock.proofs.Keep.{keeps-step, still}
 use Rattle.history.specs.History.{Start, History, wiresAt}

@@ -7,15 +7,15 @@ use native.Mathlib.Omega.{arith}
 use native.Mathlib.Nat.{mod-lt}
 use lib.Dec.{eqb}
 use lib.ListN.{length, take, drop}
-use Rattle.clockspec.specs.Command.{decode, num, InRange, Legal}
-use Rattle.clockspec.specs.Shared.{stops, Written, writeBy, wrap}
-use Rattle.clockspec.specs.declared.Target.{Target}
-use Rattle.clockspec.specs.declared.Target.the-variants.{Seconds, Test, Protect, Cell}
-use Rattle.clockspec.specs.declared.Command.{Command}
-use Rattle.clockspec.specs.declared.Command.the-variants.{Write, Read, Illegal}
+use Rattle.clock_spec.specs.Command.{decode, num, InRange, Legal}
+use Rattle.clock_spec.specs.Shared.{stops, Written, writeBy, wrap}
+use Rattle.clock_spec.specs.declared.Target.{Target}
+use Rattle.clock_spec.specs.declared.Target.the-variants.{Seconds, Test, Protect, Cell}
+use Rattle.clock_spec.specs.declared.Command.{Command}
+use Rattle.clock_spec.specs.declared.Command.the-variants.{Write, Read, Illegal}
 use Rattle.history.specs.History.{Start, History, rose, complete, completeIn, met, testAt, replaced, wiresAt, rises, ended, protectAt, endedClear, secondsAt}
 use Rattle.octets.proofs.Laws.{replace-small}
-use Rattle.clockspec.proofs.CommandRange.{cond-case, decode-legal}
+use Rattle.clock_spec.proofs.CommandRange.{cond-case, decode-legal}
 use Rattle.history.proofs.Bits.{num-bound}
 
 abbrev Fine : ℕ → Option Written → Type 0

@@ -8,12 +8,12 @@ use lib.Dec.{eqb}
 use lib.ListN.{length, getD, set, length-set}
 use lib.Seq.{getD-set-same, getD-set-other}
 use borrow.Author.Tests.{eqb-true, eqb-false, not-false}
-use Rattle.clockspec.specs.Writable.{writable}
-use Rattle.clockspec.specs.Shared.{Written, bit7}
-use Rattle.clockspec.specs.Store.{put, act}
-use Rattle.clockspec.specs.declared.Target.{Target}
-use Rattle.clockspec.specs.declared.Target.the-variants.{Seconds, Test, Protect, Cell}
-use Rattle.clockspec.specs.declared.Store.{Store}
+use Rattle.clock_spec.specs.Writable.{writable}
+use Rattle.clock_spec.specs.Shared.{Written, bit7}
+use Rattle.clock_spec.specs.Store.{put, act}
+use Rattle.clock_spec.specs.declared.Target.{Target}
+use Rattle.clock_spec.specs.declared.Target.the-variants.{Seconds, Test, Protect, Cell}
+use Rattle.clock_spec.specs.declared.Store.{Store}
 use Rattle.history.specs.History.{protectBy, clears, same, byteTo, replaced}
 
 abbrev wr : Target → ℕ → Option Written

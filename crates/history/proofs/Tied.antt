@@ -10,15 +10,15 @@ use lib.Dec.{eqb}
 use lib.ListN.{length, take, drop, length-append}
 use lib.Seq.{take-at, drop-at}
 use borrow.Author.Tests.{eqb-true, eqb-false}
-use Rattle.clockspec.specs.Command.{decode, bit, num}
-use Rattle.clockspec.specs.Shared.{Written, writeBy}
-use Rattle.clockspec.specs.Phase.{edgeOf, judged}
+use Rattle.clock_spec.specs.Command.{decode, bit, num}
+use Rattle.clock_spec.specs.Shared.{Written, writeBy}
+use Rattle.clock_spec.specs.Phase.{edgeOf, judged}
 use Rattle.clock.specs.Step.{next, acts}
-use Rattle.clockspec.specs.declared.Command.{Command}
-use Rattle.clockspec.specs.declared.Command.the-variants.{Write, Read, Illegal}
-use Rattle.clockspec.specs.declared.Phase.{Phase}
-use Rattle.clockspec.specs.declared.Phase.the-variants.{Idle, Listening, Taking, Sending, Ignoring}
-use Rattle.clockspec.specs.declared.Store.{Store}
+use Rattle.clock_spec.specs.declared.Command.{Command}
+use Rattle.clock_spec.specs.declared.Command.the-variants.{Write, Read, Illegal}
+use Rattle.clock_spec.specs.declared.Phase.{Phase}
+use Rattle.clock_spec.specs.declared.Phase.the-variants.{Idle, Listening, Taking, Sending, Ignoring}
+use Rattle.clock_spec.specs.declared.Store.{Store}
 use Rattle.history.specs.History.{push, complete, completeIn}
 use Rattle.history.specs.Start.{bitsOf, begunBy}
 use Rattle.history.proofs.Phases.{Parts, write-small}

@@ -4,10 +4,10 @@ use mathlib.Core.Bool.{true}
 use mathlib.Core.List.{List, [], _∷_, _++_}
 use Prim.Native.Nat.{ℕ, _+_, _<_}
 use lib.ListN.{getD}
-use Rattle.clockspec.specs.Shared.{wrap}
+use Rattle.clock_spec.specs.Shared.{wrap}
 use Rattle.clock.specs.Step.{stepClock}
-use Rattle.clockspec.specs.declared.Wires.{Wires}
-use Rattle.clockspec.specs.declared.Store.{Store}
+use Rattle.clock_spec.specs.declared.Wires.{Wires}
+use Rattle.clock_spec.specs.declared.Store.{Store}
 use Rattle.clock.specs.declared.Clock.{Clock}
 use Rattle.history.specs.History.{Entry, History, wiresAt, cellAt, testAt, protectAt, secondsAt, gained, Kept}
 use Rattle.history.specs.Start.{startOf}

@@ -7,12 +7,12 @@ use mathlib.Core.Option.{Option, none, some}
 use Prim.Native.Nat.{ℕ, _+_}
 use lib.Dec.{eqb}
 use lib.ListN.{length, take, drop, getD}
-use Rattle.clockspec.specs.Command.{decode, num}
+use Rattle.clock_spec.specs.Command.{decode, num}
 use Rattle.octets.specs.Octets.{replace}
-use Rattle.clockspec.specs.Shared.{Event, quiet, second, off, stops, wrap, Written, writeBy, bit7}
-use Rattle.clockspec.specs.declared.Target.{Target}
-use Rattle.clockspec.specs.declared.Target.the-variants.{Seconds, Test, Protect, Cell}
-use Rattle.clockspec.specs.declared.Wires.{Wires}
+use Rattle.clock_spec.specs.Shared.{Event, quiet, second, off, stops, wrap, Written, writeBy, bit7}
+use Rattle.clock_spec.specs.declared.Target.{Target}
+use Rattle.clock_spec.specs.declared.Target.the-variants.{Seconds, Test, Protect, Cell}
+use Rattle.clock_spec.specs.declared.Wires.{Wires}
 
 -- "It has an entry for the start and for each item answered: enable, data-clock and data after it, unchanged by a refused one."
 -- The start's entry has with the wires what is known there. `begun` is the stretch that is open at the start: the bits of the rises already

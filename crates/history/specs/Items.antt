@@ -5,8 +5,8 @@ use mathlib.Core.Bool.{true}
 use mathlib.Core.List.{List, [], _∷_, _++_}
 use Prim.Native.Nat.{ℕ, _+_, _<_}
 use lib.ListN.{getD}
-use Rattle.clockspec.specs.Shared.{wrap}
-use Rattle.clockspec.specs.declared.Wires.{Wires}
+use Rattle.clock_spec.specs.Shared.{wrap}
+use Rattle.clock_spec.specs.declared.Wires.{Wires}
 use Rattle.clock.specs.declared.Clock.{Clock}
 use Rattle.history.specs.History.{Start, Entry, History, wiresAt, cellAt, testAt, protectAt, secondsAt, gained, Kept}
 use Rattle.history.specs.Start.{startOf, Accepted}

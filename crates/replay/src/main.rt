@@ -2,7 +2,7 @@
 // one line for the run. A longer list gets one line on standard error, and nothing is run.
 ghost use Prim.Native.Nat.{_≤_};
 ghost use lib.ListN.{length};
-use itemspec::Framed;
+use item_spec::Framed;
 use libc::STDERR_FILENO;
 use libc::STDIN_FILENO;
 
@@ -11,8 +11,8 @@ fn show(rest: &[u8], offset: usize, answer: &[u8]) -> usize
     requires { ⌜ 8 ≤ length (now answer) ⌝ }
     ensures { λ r. ⌜ r ≤ length (now (rest .entry)) ⌝ }
 {
-    show::answer(offset, rest, answer);
-    match record::frame(rest) {
+    vectors_print::answer(offset, rest, answer);
+    match item_record::frame(rest) {
         Framed::Whole(size) => size,
         Framed::Cut => 0,
     }
@@ -34,7 +34,7 @@ fn replay(list: &[u8], mut answers: [u8; 2097152]) {
     let r = run::run(machine::fresh(), list, &mut answers);
     let w = r.written;
     show_all(list, &answers[..w]);
-    show::end(r.stop, r.consumed, w);
+    vectors_print::end(r.stop, r.consumed, w);
 }
 
 // Reads the list. The room has one byte more than a list may have, by which a longer one is noticed.

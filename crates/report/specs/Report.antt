@@ -5,8 +5,8 @@ use mathlib.Core.List.{List, [], _∷_, _++_}
 use lib.ListN.{length, getD, drop}
 use lib.Dec.{ltb, eqb}
 use Rattle.octets.specs.Octets.{le16Of}
-use Rattle.itemspec.specs.Items.{refusalOf}
-use Rattle.itemspec.specs.Kinds.{decodedOf}
+use Rattle.item_spec.specs.Items.{refusalOf}
+use Rattle.item_spec.specs.Kinds.{decodedOf}
 use Rattle.text.specs.Text.{decimalOf}
 use Rattle.answers.specs.Answers.{saidOf}
 

@@ -23,7 +23,7 @@ fn kind_of(rest: &[u8]) -> [u8; 4]
     if octets::le16(rest, 0) < 2 {
         return NONE;
     }
-    if items::refusal(kinds::decode(&rest[2..])) == 2 {
+    if item_plain::refusal(item_decode::decode(&rest[2..])) == 2 {
         return UNKNOWN;
     }
     [32, rest[2], rest[3], 32]

@@ -4,36 +4,36 @@ use Rattle.levels.specs.Levels.{allLevels}
 use Rattle.via.specs.Via.{freshVia, portLevel, latchOf, tickOf, ticks, raisedOf, resetOf, asking, levelOf, acceptedVia}
 use Rattle.via.specs.Writes.{written}
 use Rattle.via.specs.Registers.{readOf}
-use Rattle.clockspec.specs.Command.{named, decode}
-use Rattle.clockspec.specs.Store.{fetch, put, act}
-use Rattle.clockspec.specs.Phase.{between, shown, acceptedPhase}
+use Rattle.clock_spec.specs.Command.{named, decode}
+use Rattle.clock_spec.specs.Store.{fetch, put, act}
+use Rattle.clock_spec.specs.Phase.{between, shown, acceptedPhase}
 use Rattle.clock.specs.Step.{next, acts, stepWires}
-use Rattle.iwm.specs.Lines.{linesOff, accessed, lineByteOf, senseAt, readLine}
-use Rattle.diskspec.specs.Sense as sense
-use Rattle.diskspec.specs.Drive.{neighbour, tickDrive, driveTicks}
-use Rattle.diskspec.specs.Control.{registerWritten}
-use Rattle.diskspec.specs.Sense.{drivesSense, shownOf, acceptedDrive}
-use Rattle.diskspec.specs.Watched.{heldStill, unspoilt, registerOf}
-use Rattle.diskspec.specs.Strobe.{tickStrobe, strobeTicks, strobeAfter, longEnough, strobeWrites, acceptedStrobe}
-use Rattle.diskspec.specs.Drives.{drivesTicks, placed, placeRefused, drivesPowered, drivesAfter, drivesShown, acceptedDrives}
-use Rattle.machinespec.specs.Pins.{wiresOf, selOf}
-use Rattle.diskspec.specs.Watched.{watchedOf}
-use Rattle.machinespec.specs.Wiring.{inputsOf, interruptLevel}
+use Rattle.disk_lines.specs.Lines.{linesOff, accessed, lineByteOf, senseAt, readLine}
+use Rattle.disk_spec.specs.Sense as sense
+use Rattle.disk_spec.specs.Drive.{neighbour, tickDrive, driveTicks}
+use Rattle.disk_spec.specs.Control.{registerWritten}
+use Rattle.disk_spec.specs.Sense.{drivesSense, shownOf, acceptedDrive}
+use Rattle.disk_spec.specs.Watched.{heldStill, unspoilt, registerOf}
+use Rattle.disk_spec.specs.Strobe.{tickStrobe, strobeTicks, strobeAfter, longEnough, strobeWrites, acceptedStrobe}
+use Rattle.disk_spec.specs.Drives.{drivesTicks, placed, placeRefused, drivesPowered, drivesAfter, drivesShown, acceptedDrives}
+use Rattle.machine_spec.specs.Pins.{wiresOf, selOf}
+use Rattle.disk_spec.specs.Watched.{watchedOf}
+use Rattle.machine_spec.specs.Wiring.{inputsOf, interruptLevel}
 use Rattle.octets.specs.Octets.{le16Of, le32Of}
-use Rattle.itemspec.specs.Record.{frameOf, answerBytes, noOf}
-use Rattle.itemspec.specs.Addresses.{placeFrom, foundOf}
-use Rattle.itemspec.specs.Items.{writeOf, plainOf, powerOf}
-use Rattle.itemspec.specs.Ranged.{diskOf}
-use Rattle.itemspec.specs.Kinds.{isKind, decodedOf}
-use Rattle.itemspec.specs.Items as items
-use Rattle.itemspec.specs.Ranged as ranged
-use Rattle.machinespec.specs.Machine.{acceptedOf}
-use Rattle.machinespec.specs.Accesses.{viaRead, iwmRead}
-use Rattle.machinespec.specs.Action.{actedOf}
-use Rattle.machinespec.specs.Stages.{waitOf, refusesOf}
-use Rattle.machinespec.specs.Step.{stepOf, answerOf}
-use Rattle.outcome.specs.Turn.{turnOf}
-use Rattle.outcome.specs.Outcome.{cut, piecesFrom, onto, onPiece, runPieces, runOf}
+use Rattle.item_spec.specs.Record.{frameOf, answerBytes, noOf}
+use Rattle.item_spec.specs.Addresses.{placeFrom, foundOf}
+use Rattle.item_spec.specs.Items.{writeOf, plainOf, powerOf}
+use Rattle.item_spec.specs.Ranged.{diskOf}
+use Rattle.item_spec.specs.Kinds.{isKind, decodedOf}
+use Rattle.item_spec.specs.Items as items
+use Rattle.item_spec.specs.Ranged as ranged
+use Rattle.machine_spec.specs.Machine.{acceptedOf}
+use Rattle.machine_spec.specs.Accesses.{viaRead, iwmRead}
+use Rattle.machine_spec.specs.Action.{actedOf}
+use Rattle.machine_spec.specs.Stages.{waitOf, refusesOf}
+use Rattle.machine_spec.specs.Step.{stepOf, answerOf}
+use Rattle.run_spec.specs.Turn.{turnOf}
+use Rattle.run_spec.specs.Outcome.{cut, piecesFrom, onto, onPiece, runPieces, runOf}
 use Rattle.samples.specs.Lists.{sent}
 use Rattle.samples.specs.Samples.{Samples, values}
 use Rattle.samples.specs.Drives.{DriveSamples}

@@ -6,7 +6,7 @@ use native.Mathlib.Nat.{mod-lt, lt-of-le-of-lt}
 use native.Mathlib.Omega.{arith}
 use lib.Dec.{eqb}
 use lib.Bits.{or-lt, and-le-l}
-use Rattle.viabits.specs.Bytes.{bit, clear, portAFlags}
+use Rattle.via_bits.specs.Bytes.{bit, clear, portAFlags}
 use Rattle.via.specs.Via.{acceptedVia}
 use Rattle.via.specs.declared.Inputs.{Inputs}
 use Rattle.via.specs.declared.Via.{Via}

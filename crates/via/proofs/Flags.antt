@@ -6,7 +6,7 @@ use native.Mathlib.Omega.{arith}
 use borrow.Author.Tests.{eq-eqb, ne-eqb}
 use lib.Dec.{eqb}
 use lib.Bits.{bitAnd, bitOr}
-use Rattle.viabits.specs.Bytes.{bit, clear, portAFlags, enabledBy}
+use Rattle.via_bits.specs.Bytes.{bit, clear, portAFlags, enabledBy}
 use Rattle.via.specs.Via.{portLevel, asking, levelOf, raisedOf}
 use Rattle.via.specs.Writes.{written}
 use Rattle.via.specs.Registers.{readOf}

@@ -5,11 +5,11 @@ use Prim.Native.Nat.{ℕ, _+_, _*_, _<_}
 use native.Mathlib.Omega.{arith}
 use lib.Dec.{ltb}
 use lib.Bits.{bitOr}
-use Rattle.timer.specs.Timer.{at, steps}
-use Rattle.timer.specs.declared.Counter.{Counter}
-use Rattle.timer.proofs.Exact.{exactly, passages, again, unarmed}
+use Rattle.via_timer.specs.Timer.{at, steps}
+use Rattle.via_timer.specs.declared.Counter.{Counter}
+use Rattle.via_timer.proofs.Exact.{exactly, passages, again, unarmed}
 use Rattle.via.specs.Setters.{withFlags}
-use Rattle.viabits.specs.Bytes.{bit, clear}
+use Rattle.via_bits.specs.Bytes.{bit, clear}
 use Rattle.via.specs.Via.{latchOf, counter1, counter2, settled, ticks}
 use Rattle.via.specs.Writes.{written}
 use Rattle.via.specs.declared.Via.{Via}

@@ -5,11 +5,11 @@ use Prim.Native.Nat.{ℕ, zero, suc, _+_, _-_}
 use native.Mathlib.Nat.{add-zero, add-suc}
 use lib.Dec.{eqb}
 use lib.Bits.{bitOr, or-zero-r}
-use Rattle.viabits.proofs.Or.{or-assoc}
-use Rattle.timer.specs.Timer.{at, stepBy, step, steps}
-use Rattle.timer.specs.declared.Counter.{Counter}
+use Rattle.via_bits.proofs.Or.{or-assoc}
+use Rattle.via_timer.specs.Timer.{at, stepBy, step, steps}
+use Rattle.via_timer.specs.declared.Counter.{Counter}
 use Rattle.via.specs.Setters.{withCounter2, withArmed2, withFlags}
-use Rattle.viabits.specs.Bytes.{bit}
+use Rattle.via_bits.specs.Bytes.{bit}
 use Rattle.via.specs.Via.{latchOf, counter1, counter2, settled, tickOf, ticks, resetOf}
 use Rattle.via.specs.declared.Timer2.{Timer2}
 use Rattle.via.specs.declared.Via.{Via}

@@ -3,7 +3,7 @@ use Prim.Native.Nat.{ℕ, _+_, _/_, _%_}
 use mathlib.Core.Bool.{Bool, cond}
 use lib.Dec.{eqb}
 use Rattle.via.specs.Setters.{withFlags}
-use Rattle.viabits.specs.Bytes.{clear, portAFlags}
+use Rattle.via_bits.specs.Bytes.{clear, portAFlags}
 use Rattle.via.specs.Via.{portLevel, asking}
 use Rattle.via.specs.declared.Via.{Via}
 use Rattle.via.specs.declared.Inputs.{Inputs}

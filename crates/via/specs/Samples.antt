@@ -2,7 +2,7 @@
 use Prim.Native.Nat.{ℕ}
 use mathlib.Core.Bool.{Bool, true, false}
 use mathlib.Core.Path.{_≡_, refl}
-use Rattle.viabits.specs.Bytes.{bit}
+use Rattle.via_bits.specs.Bytes.{bit}
 use Rattle.via.specs.Via.{freshVia, tickOf, ticks}
 use Rattle.via.specs.Writes.{written}
 use Rattle.via.specs.Registers.{readOf}

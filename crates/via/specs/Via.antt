@@ -4,9 +4,9 @@ use Prim.Native.Nat.{ℕ, zero, suc, _+_, _*_}
 use mathlib.Core.Bool.{Bool, true, false, cond, not, _&&_}
 use lib.Dec.{eqb, ltb}
 use lib.Bits.{bitAnd, bitOr}
-use Rattle.viabits.specs.Bytes.{bit, clear}
-use Rattle.timer.specs.Timer.{at, step}
-use Rattle.timer.specs.declared.Counter.{Counter}
+use Rattle.via_bits.specs.Bytes.{bit, clear}
+use Rattle.via_timer.specs.Timer.{at, step}
+use Rattle.via_timer.specs.declared.Counter.{Counter}
 use Rattle.via.specs.declared.Timer1.{Timer1}
 use Rattle.via.specs.declared.Timer2.{Timer2}
 use Rattle.via.specs.declared.Via.{Via}

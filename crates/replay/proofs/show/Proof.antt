@@ -1,11 +1,11 @@
-use Rattle.itemspec.proofs.RecordLaws.{whole-fits}
+use Rattle.item_spec.proofs.RecordLaws.{whole-fits}
 use mathlib.Core.Path.{sym, _∙_}
 use borrow.Author.Needs.{needs}
 use Rattle.replay.proofs.show.Statement.{statement}
 use Rattle.replay.proofs.show.Tie as tie
 use Rattle.replay.proofs.show.Reads as reads
 use Rattle.replay.proofs.show.Lts as lts
-use Rattle.record.proofs.frame.Reads as frame-reads
+use Rattle.item_record.proofs.frame.Reads as frame-reads
 
 answer-requires : tie.Need-answer-requires
 answer-requires c κs = search needs

@@ -1,7 +1,7 @@
 use borrow.Author.Needs.{needs}
 use denote.Ref.{now}
 use Rattle.report.proofs.Rest.{rest-all}
-use Rattle.itemspec.specs.Kinds.{decodedOf}
+use Rattle.item_spec.specs.Kinds.{decodedOf}
 use mathlib.Core.Path.{ap, _∙_}
 use Rattle.report.specs.Report.{kindOf}
 use borrow.Author.Tests.{lt-ltb, le-ltb, le-leb, lt-leb, eq-eqb, ne-eqb}
@@ -9,8 +9,8 @@ use Rattle.report.proofs.kind_of.Statement.{statement}
 use Rattle.report.proofs.kind_of.Tie as tie
 use Rattle.report.proofs.kind_of.Reads as reads
 use Rattle.report.proofs.kind_of.Lts as lts
-use Rattle.kinds.proofs.decode.Reads as decode-reads
-use Rattle.items.proofs.refusal.Reads as refusal-reads
+use Rattle.item_decode.proofs.decode.Reads as decode-reads
+use Rattle.item_plain.proofs.refusal.Reads as refusal-reads
 use Rattle.octets.proofs.le16.Reads as le16-reads
 
 returns : tie.Need-returns

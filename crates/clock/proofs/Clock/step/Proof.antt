@@ -1,7 +1,7 @@
 use mathlib.Core.Path.{sym, ap, _∙_}
-use Rattle.clockspec.specs.Store.{act}
+use Rattle.clock_spec.specs.Store.{act}
 use Rattle.clock.specs.Step.{next, acts, stepWires, edged}
-use Rattle.clockspec.proofs.PhaseRange.{accepted-counts}
+use Rattle.clock_spec.proofs.PhaseRange.{accepted-counts}
 use borrow.Author.Needs.{needs}
 use Rattle.clock.proofs.Clock.step.Statement.{statement}
 use Rattle.clock.proofs.Clock.step.Tie as tie

@@ -1,10 +1,10 @@
 use mathlib.Core.Path.{sym, subst}
 use native.Mathlib.Omega.{arith}
 use borrow.Author.Tests.{eq-eqb, ne-eqb}
-use Rattle.clockspec.specs.Command.{Legal}
-use Rattle.clockspec.proofs.CommandRange.{decode-legal}
-use Rattle.clockspec.specs.Store.{act}
-use Rattle.clockspec.proofs.PhaseRange.{few-count, few-small}
+use Rattle.clock_spec.specs.Command.{Legal}
+use Rattle.clock_spec.proofs.CommandRange.{decode-legal}
+use Rattle.clock_spec.specs.Store.{act}
+use Rattle.clock_spec.proofs.PhaseRange.{few-count, few-small}
 use Rattle.clock.specs.Step.{next, acts, edged}
 use borrow.Author.Needs.{needs}
 use Rattle.clock.proofs.Clock.take.Statement.{statement}

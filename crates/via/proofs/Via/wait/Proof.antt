@@ -11,7 +11,7 @@ use Rattle.via.proofs.Via.wait.Reads as reads
 use Rattle.via.proofs.Via.wait.Lts as lts
 use Rattle.via.proofs.run1.Reads as run1-reads
 use Rattle.via.proofs.run2.Reads as run2-reads
-use Rattle.viabits.proofs.pick.Reads as pick-reads
+use Rattle.via_bits.proofs.pick.Reads as pick-reads
 
 run1-requires : tie.Need-run1-requires
 run1-requires c κs = search needs

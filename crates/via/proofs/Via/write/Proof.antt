@@ -6,9 +6,9 @@ use Rattle.via.proofs.Via.write.Statement.{statement}
 use Rattle.via.proofs.Via.write.Tie as tie
 use Rattle.via.proofs.Via.write.Reads as reads
 use Rattle.via.proofs.Via.write.Lts as lts
-use Rattle.viabits.proofs.enable.Reads as enable-reads
-use Rattle.viabits.proofs.word.Reads as word-reads
-use Rattle.viabits.proofs.port_a_flags.Reads as port-a-flags-reads
+use Rattle.via_bits.proofs.enable.Reads as enable-reads
+use Rattle.via_bits.proofs.word.Reads as word-reads
+use Rattle.via_bits.proofs.port_a_flags.Reads as port-a-flags-reads
 use Rattle.via.proofs.Timer1.load.Reads as load-reads
 
 port-a-flags-requires : tie.Need-port-a-flags-requires
