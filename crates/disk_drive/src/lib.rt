@@ -98,10 +98,10 @@ pub fn power_cut(drive: Drive) -> Drive
 }
 
 // DI: a disk comes or leaves.
-pub fn move_disk(d: Drive, insert: bool, locked: bool, sides: bool) -> Drive
-    ensures { λ r. ⌜ r ≡ diskMoved insert locked sides d ⌝ }
+pub fn move_disk(d: Drive, inserted: bool, locked: bool, sides: bool) -> Drive
+    ensures { λ r. ⌜ r ≡ diskMoved inserted locked sides d ⌝ }
 {
-    if insert {
+    if inserted {
         return insert(d, locked, sides);
     }
     remove(d)
