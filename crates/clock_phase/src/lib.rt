@@ -2,8 +2,8 @@
 ghost use mathlib.Core.Path.{_≡_};
 ghost use mathlib.Core.Bool.{true};
 ghost use Prim.Native.Nat.{_<_, _+_, _*_};
-ghost use Rattle.clock_spec.specs.Command.{bit, decode, isWrite};
-ghost use Rattle.clock_spec.specs.Phase.{between, judged, shifted, listened, fewBits, shown, acceptedPhase};
+ghost use Rattle.clock_spec.specs.Command.{bitNumber, decode, isWrite};
+ghost use Rattle.clock_spec.specs.Phase.{between, commandPhase, fallPhase, commandBitPhase, fewBits, shownLevel, acceptedPhase};
 ghost use Rattle.clock_spec.specs.declared.Phase.{Phase};
 use clock_spec::Command;
 use clock_spec::Edge;
@@ -36,14 +36,14 @@ pub fn edge_between(before: Wires, after: Wires) -> Edge
 // One bit more on the right.
 pub fn pushed(v: u8, b: bool) -> u8
     requires { ⌜ v < 128 ⌝ }
-    ensures { λ r. ⌜ r ≡ 2 * v + bit b ⌝ }
+    ensures { λ r. ⌜ r ≡ 2 * v + bitNumber b ⌝ }
 {
     if b { 2 * v + 1 } else { 2 * v }
 }
 
 // What the chip does with the command byte at the eighth rise.
 fn judged_by(s: Store, c: u8) -> Phase
-    ensures { λ r. ⌜ r ≡ judged s c (decode 20 c) ⌝ }
+    ensures { λ r. ⌜ r ≡ commandPhase s c (decode 20 c) ⌝ }
 {
     match clock_command::decoded(20, c) {
         Command::Write(_) => Phase::Taking {
@@ -62,7 +62,7 @@ fn judged_by(s: Store, c: u8) -> Phase
 // A rise while command bits are taken.
 pub fn heard(s: Store, n: u8, v: u8, b: bool) -> Phase
     requires { ⌜ fewBits n v ≡ true ⌝ }
-    ensures { λ r. ⌜ r ≡ listened 20 s n (2 * v + bit b) ⌝ }
+    ensures { λ r. ⌜ r ≡ commandBitPhase 20 s n (2 * v + bitNumber b) ⌝ }
 {
     let w = pushed(v, b);
     if n == 7 {
@@ -77,7 +77,7 @@ pub fn heard(s: Store, n: u8, v: u8, b: bool) -> Phase
 // A fall while sending.
 pub fn shift(y: u8, n: u8) -> Phase
     requires { ⌜ n < 9 ⌝ }
-    ensures { λ r. ⌜ r ≡ shifted y n ⌝ }
+    ensures { λ r. ⌜ r ≡ fallPhase y n ⌝ }
 {
     if n == 8 {
         return Phase::Ignoring;
@@ -90,7 +90,7 @@ pub fn shift(y: u8, n: u8) -> Phase
 
 // The bit that the chip shows after so many falls.
 fn bit_shown(y: u8, n: u8) -> bool
-    ensures { λ r. ⌜ r ≡ shown (Phase.Sending y n) ⌝ }
+    ensures { λ r. ⌜ r ≡ shownLevel (Phase.Sending y n) ⌝ }
 {
     if n == 0 {
         return true;
@@ -103,7 +103,7 @@ fn bit_shown(y: u8, n: u8) -> bool
 
 // The level that the chip gives the data line.
 pub fn shown_line(p: Phase) -> bool
-    ensures { λ r. ⌜ r ≡ shown p ⌝ }
+    ensures { λ r. ⌜ r ≡ shownLevel p ⌝ }
 {
     match p {
         Phase::Sending { byte, falls } => bit_shown(byte, falls),

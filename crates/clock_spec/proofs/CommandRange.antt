@@ -6,16 +6,16 @@ use native.Mathlib.Omega.{arith}
 use lib.Dec.{ltb, leb, eqb}
 use mir.Val.{boolByte}
 use borrow.Author.Tests.{ltb-true}
-use Rattle.clock_spec.specs.Command.{either, writeOnly, cellOf, named, decode, bit, InRange, Legal}
+use Rattle.clock_spec.specs.Command.{either, writeOnly, cellOf, named, decode, bitNumber, TargetInRange, Legal}
 use Rattle.clock_spec.specs.declared.Target.{Target}
 use Rattle.clock_spec.specs.declared.Target.the-variants.{Seconds, Test, Protect, Cell}
 
-pub bit-le : (b : Bool) → bit b ≤ 1
+pub bit-le : (b : Bool) → bitNumber b ≤ 1
 bit-le true = omega arith
 bit-le false = omega arith
 
 -- A level cast to a byte.
-pub cast : (b : Bool) → boolByte b ≡ bit b
+pub cast : (b : Bool) → boolByte b ≡ bitNumber b
 cast true = refl
 cast false = refl
 
@@ -24,11 +24,11 @@ abbrev pub cond-case : {A : Type 0} (P : A → Type 0) (t : Bool) {x y : A} → 
 cond-case P true f g = f refl
 cond-case P false f g = g refl
 
-either-legal : (N : ℕ) (z : Bool) (t : Target) → InRange N t → Legal N (either z t)
+either-legal : (N : ℕ) (z : Bool) (t : Target) → TargetInRange N t → Legal N (either z t)
 either-legal N true t h = h
 either-legal N false t h = h
 
-only-legal : (N : ℕ) (z : Bool) (t : Target) → InRange N t → Legal N (writeOnly z t)
+only-legal : (N : ℕ) (z : Bool) (t : Target) → TargetInRange N t → Legal N (writeOnly z t)
 only-legal N true t h = tt
 only-legal N false t h = h
 

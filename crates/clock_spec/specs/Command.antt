@@ -42,23 +42,23 @@ isWrite (Read t) = false
 isWrite Illegal = false
 
 -- A bit as a number.
-abbrev pub bit : Bool → ℕ
-bit b = cond b 1 0
+abbrev pub bitNumber : Bool → ℕ
+bitNumber b = cond b 1 0
 
 -- Bits, the newest first, as a number: "bits go high-order first".
 abbrev pub num : List Bool → ℕ
 num [] = 0
-num (b ∷ bs) = 2 * num bs + bit b
+num (b ∷ bs) = 2 * num bs + bitNumber b
 
 -- A seconds byte 0 to 3, a cell that the chip has.
-abbrev pub InRange : ℕ → Target → Type 0
-InRange N (Seconds k) = k < 4
-InRange N Test = Unit {0}
-InRange N Protect = Unit {0}
-InRange N (Cell i) = i < N
+abbrev pub TargetInRange : ℕ → Target → Type 0
+TargetInRange N (Seconds k) = k < 4
+TargetInRange N Test = Unit {0}
+TargetInRange N Protect = Unit {0}
+TargetInRange N (Cell i) = i < N
 
 -- A command whose target is in range, if it names one.
 abbrev pub Legal : ℕ → Command → Type 0
-Legal N (Write t) = InRange N t
-Legal N (Read t) = InRange N t
+Legal N (Write t) = TargetInRange N t
+Legal N (Read t) = TargetInRange N t
 Legal N Illegal = Unit {0}

@@ -3,7 +3,7 @@ use mathlib.Core.Bool.{Bool, true, false, cond, not, _&&_}
 use mathlib.Core.List.{List, [], _∷_}
 use Prim.Native.Nat.{ℕ, zero, suc, _+_, _*_, _/_, _%_, _^_}
 use lib.Dec.{eqb}
-use Rattle.clock_spec.specs.Command.{either, bit}
+use Rattle.clock_spec.specs.Command.{either, bitNumber}
 use Rattle.clock_spec.specs.declared.Target.{Target}
 use Rattle.clock_spec.specs.declared.Target.the-variants.{Seconds, Test, Protect, Cell}
 use Rattle.clock_spec.specs.declared.Command.{Command}
@@ -38,9 +38,9 @@ rows =
     ∷ []
 
 -- The n low bits of a number, the highest first.
-abbrev pub bitsOf : ℕ → ℕ → List Bool
-bitsOf zero c = []
-bitsOf (suc n) c = eqb (c / 2 ^ n % 2) 1 ∷ bitsOf n c
+abbrev pub bitsHighFirst : ℕ → ℕ → List Bool
+bitsHighFirst zero c = []
+bitsHighFirst (suc n) c = eqb (c / 2 ^ n % 2) 1 ∷ bitsHighFirst n c
 
 -- Whether a bit may stand at a place.
 abbrev pub may : Mark → Bool → Bool
@@ -67,7 +67,7 @@ readBit (A ∷ ms) (b ∷ bs) = readBit ms bs
 abbrev pub digits : ℕ → List Mark → List Bool → ℕ
 digits v [] bs = v
 digits v (m ∷ ms) [] = v
-digits v (A ∷ ms) (b ∷ bs) = digits (2 * v + bit b) ms bs
+digits v (A ∷ ms) (b ∷ bs) = digits (2 * v + bitNumber b) ms bs
 digits v (O ∷ ms) (b ∷ bs) = digits v ms bs
 digits v (I ∷ ms) (b ∷ bs) = digits v ms bs
 digits v (Z ∷ ms) (b ∷ bs) = digits v ms bs
@@ -80,4 +80,4 @@ among (r ∷ rs) bs =
 
 -- What a byte means by the table.
 unfoldable pub meant : ℕ → Command
-meant c = among rows (bitsOf 8 c)
+meant c = among rows (bitsHighFirst 8 c)

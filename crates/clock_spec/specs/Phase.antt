@@ -1,5 +1,5 @@
 -- Where a transaction with the clock chip stands, by document 01, "The clock's wires". N is the number of cells.
--- The code of `between`, `judged`, `listened` and `shifted` is in phase, that of `shown`, `fewBits` and `acceptedPhase` in phaselevels.
+-- The code of `between`, `commandPhase`, `commandBitPhase` and `fallPhase` is in phase, that of `shownLevel`, `fewBits` and `acceptedPhase` in phaselevels.
 use mathlib.Core.Bool.{Bool, true, false, cond, not, _&&_}
 use Prim.Native.Nat.{ℕ, _+_, _-_, _/_, _%_, _^_}
 use lib.Dec.{eqb, ltb}
@@ -34,31 +34,31 @@ withLine w x = record { enable = w .enable; dataclock = w .dataclock; dataline =
 -- ---- the phase
 
 -- "At the eighth rise: a legal read takes its byte at once"; "a legal write takes eight more bits"; "anything else is ignored until enable goes up".
-abbrev pub judged : Store → ℕ → Command → Phase
-judged s c (Write t) = Taking c 0 0
-judged s c (Read t) = Sending (fetch t s) 0
-judged s c Illegal = Ignoring
+abbrev pub commandPhase : Store → ℕ → Command → Phase
+commandPhase s c (Write t) = Taking c 0 0
+commandPhase s c (Read t) = Sending (fetch t s) 0
+commandPhase s c Illegal = Ignoring
 
 -- A fall while sending: the next eight show bits 7 to 0; at the ninth "the chip turns to ignoring".
-abbrev pub shifted : ℕ → ℕ → Phase
-shifted y n = cond (eqb n 8) Ignoring (Sending y (n + 1))
+abbrev pub fallPhase : ℕ → ℕ → Phase
+fallPhase y n = cond (eqb n 8) Ignoring (Sending y (n + 1))
 
 -- A rise while command bits are taken, and while data bits are; after the sixteenth "the chip ignores".
-abbrev pub listened : ℕ → Store → ℕ → ℕ → Phase
-listened N s n v = cond (eqb n 7) (judged s v (decode N v)) (Listening (n + 1) v)
+abbrev pub commandBitPhase : ℕ → Store → ℕ → ℕ → Phase
+commandBitPhase N s n v = cond (eqb n 7) (commandPhase s v (decode N v)) (Listening (n + 1) v)
 
-abbrev pub taken : ℕ → ℕ → ℕ → Phase
-taken c n v = cond (eqb n 7) Ignoring (Taking c (n + 1) v)
+abbrev pub dataBitPhase : ℕ → ℕ → ℕ → Phase
+dataBitPhase c n v = cond (eqb n 7) Ignoring (Taking c (n + 1) v)
 
 -- ---- the data line
 
 -- The level that the chip gives the data line: fall n shows bit 8-n; "the line is undriven before the first and from the ninth", and undriven is 1.
-unfoldable pub shown : Phase → Bool
-shown Idle = true
-shown (Listening n v) = true
-shown (Taking c n v) = true
-shown (Sending y n) = cond (eqb n 0) true (eqb (y / 2 ^ (8 - n) % 2) 1)
-shown Ignoring = true
+unfoldable pub shownLevel : Phase → Bool
+shownLevel Idle = true
+shownLevel (Listening n v) = true
+shownLevel (Taking c n v) = true
+shownLevel (Sending y n) = cond (eqb n 0) true (eqb (y / 2 ^ (8 - n) % 2) 1)
+shownLevel Ignoring = true
 
 -- ---- accepted states
 

@@ -1,7 +1,7 @@
 // Cells, seconds, protect and test of the clock chip: what reads, writes and seconds do to them.
 ghost use mathlib.Core.Path.{_≡_};
-ghost use Rattle.clock_spec.specs.Command.{InRange, Legal};
-ghost use Rattle.clock_spec.specs.Shared.{added, stops, writeBy};
+ghost use Rattle.clock_spec.specs.Command.{TargetInRange, Legal};
+ghost use Rattle.clock_spec.specs.Shared.{advance, stops, writeBy};
 ghost use Rattle.clock_spec.specs.Writable.{writable};
 ghost use Rattle.clock_spec.specs.Store.{withSeconds, fetch, put, act};
 use clock_spec::Command;
@@ -10,7 +10,7 @@ use clock_spec::Target;
 
 // The seconds grow by so many, modulo 2^32, unless test bit 7 or 6 stops them.
 pub fn add_seconds(store: Store, seconds: u32) -> Store
-    ensures { λ r. ⌜ r ≡ withSeconds store (added (stops (store .test)) seconds (store .seconds)) ⌝ }
+    ensures { λ r. ⌜ r ≡ withSeconds store (advance (stops (store .test)) seconds (store .seconds)) ⌝ }
 {
     if 64 <= store.test {
         return store;
@@ -23,7 +23,7 @@ pub fn add_seconds(store: Store, seconds: u32) -> Store
 
 // The byte that a legal read takes.
 pub fn fetch(store: Store, t: Target) -> u8
-    requires { ⌜ InRange 20 t ⌝ }
+    requires { ⌜ TargetInRange 20 t ⌝ }
     ensures { λ r. ⌜ r ≡ fetch t store ⌝ }
 {
     match t {
@@ -39,7 +39,7 @@ pub fn fetch(store: Store, t: Target) -> u8
 
 // A byte put where it goes, whatever protect is.
 pub fn put(store: Store, t: Target, b: u8) -> Store
-    requires { ⌜ InRange 20 t ⌝ }
+    requires { ⌜ TargetInRange 20 t ⌝ }
     ensures { λ r. ⌜ r ≡ put t b store ⌝ }
 {
     let mut s = store;

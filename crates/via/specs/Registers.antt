@@ -45,6 +45,6 @@ flagsRead r s =
     (cond (eqb r 8) (clear (s .flags) 32)
     (s .flags)))
 
-unfoldable pub readOf : ℕ → Inputs → Via → Access
+unfoldable pub registerRead : ℕ → Inputs → Via → Access
 unfolding valueRead flagsRead
-readOf r i s = record { via = withFlags s (flagsRead r s); value = valueRead r i s }
+registerRead r i s = record { via = withFlags s (flagsRead r s); value = valueRead r i s }

@@ -1,5 +1,5 @@
 use mathlib.Core.Path.{sym, ap, subst, _∙_}
-use Rattle.clock_spec.specs.Phase.{judged}
+use Rattle.clock_spec.specs.Phase.{commandPhase}
 use Rattle.clock_spec.specs.Command.{Legal}
 use Rattle.clock_spec.proofs.CommandRange.{decode-legal}
 use borrow.Author.Needs.{needs}
@@ -22,13 +22,13 @@ enum-told-2 : tie.Need-enum-told-2
 enum-told-2 c = search needs
 
 returns : tie.Need-returns
-returns c = ap (judged _ _) (sym (c .enum-told .given .1) ∙ c .before .before .decoded .ensures)
+returns c = ap (commandPhase _ _) (sym (c .enum-told .given .1) ∙ c .before .before .decoded .ensures)
 
 returns-2 : tie.Need-returns-2
 returns-2 c = simp (← c .before .before .before .before .decoded .ensures, c .before .before .t .given .1, c .fetch .ensures)
 
 returns-3 : tie.Need-returns-3
-returns-3 c = ap (judged _ _) (sym (c .enum-told2 .given .1) ∙ c .before .before .decoded .ensures)
+returns-3 c = ap (commandPhase _ _) (sym (c .enum-told2 .given .1) ∙ c .before .before .decoded .ensures)
 
 pub judged-by-spec : {M : Type 1} → statement M
 judged-by-spec =
