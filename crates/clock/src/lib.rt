@@ -1,12 +1,12 @@
 // The clock chip: its phase and its store, fresh, and its step by the three wires.
 ghost use mathlib.Core.Path.{_≡_};
 ghost use mathlib.Core.Bool.{true};
-ghost use Rattle.clockspec.specs.Phase.{counts, fewBits, acceptedPhase};
-ghost use Rattle.clock.specs.Step.{withPhase, freshClock, edged, stepWires};
-use clockspec::Edge;
-use clockspec::Phase;
-use clockspec::Store;
-use clockspec::Wires;
+ghost use Rattle.clock_spec.specs.Phase.{counts, fewBits, acceptedPhase};
+ghost use Rattle.clock.specs.Step.{withPhase, freshClock, afterEdge, stepWires};
+use clock_spec::Edge;
+use clock_spec::Phase;
+use clock_spec::Store;
+use clock_spec::Wires;
 
 pub struct Clock {
     pub phase: Phase,
@@ -32,12 +32,12 @@ impl Clock {
     // A rise while data bits are taken: the last one completes the write.
     fn take(self, command: u8, n: u8, v: u8, b: bool) -> Clock
         requires { ⌜ fewBits n v ≡ true ⌝ }
-        ensures { λ r. ⌜ r ≡ edged 20 (withPhase self (Phase.Taking command n v)) (Edge.Rise b) ⌝ }
+        ensures { λ r. ⌜ r ≡ afterEdge 20 (withPhase self (Phase.Taking command n v)) (Edge.Rise b) ⌝ }
     {
-        let w = phase::pushed(v, b);
+        let w = clock_phase::pushed(v, b);
         let s = self.store;
         if n == 7 {
-            let t = store::act(s, command::decoded(20, command), w);
+            let t = clock_store::act(s, clock_command::decoded(20, command), w);
             return Clock {
                 phase: Phase::Ignoring,
                 store: t,
@@ -55,13 +55,13 @@ impl Clock {
 
     fn rise(self, b: bool) -> Clock
         requires { ⌜ counts (self .phase) ≡ true ⌝ }
-        ensures { λ r. ⌜ r ≡ edged 20 self (Edge.Rise b) ⌝ }
+        ensures { λ r. ⌜ r ≡ afterEdge 20 self (Edge.Rise b) ⌝ }
     {
         let p = self.phase;
         match p {
             Phase::Listening { count, bits } => {
                 let s = self.store;
-                let q = phase::heard(s, count, bits, b);
+                let q = clock_phase::heard(s, count, bits, b);
                 Clock { phase: q, store: s }
             }
             Phase::Taking {
@@ -75,12 +75,12 @@ impl Clock {
 
     fn fall(self) -> Clock
         requires { ⌜ counts (self .phase) ≡ true ⌝ }
-        ensures { λ r. ⌜ r ≡ edged 20 self Edge.Fall ⌝ }
+        ensures { λ r. ⌜ r ≡ afterEdge 20 self Edge.Fall ⌝ }
     {
         let p = self.phase;
         match p {
             Phase::Sending { byte, falls } => {
-                let q = phase::shift(byte, falls);
+                let q = clock_phase::shift(byte, falls);
                 let s = self.store;
                 Clock { phase: q, store: s }
             }
@@ -93,7 +93,7 @@ impl Clock {
         requires { ⌜ acceptedPhase 20 (self .phase) (before .enable) ≡ true ⌝ }
         ensures { λ r. ⌜ r ≡ stepWires 20 self before after ⌝ }
     {
-        match phase::edge_between(before, after) {
+        match clock_phase::edge_between(before, after) {
             Edge::Up => {
                 let s = self.store;
                 Clock {

@@ -6,16 +6,16 @@ use mathlib.Core.Option.{some}
 use Prim.Native.Nat.{ℕ, zero, suc, _-_, _/_, _%_, _^_}
 use lib.Dec.{eqb}
 use lib.ListN.{getD}
-use Rattle.clockspec.specs.Command.{named, decode}
+use Rattle.clock_spec.specs.Command.{named, decode}
 use Rattle.octets.specs.Octets.{replace}
-use Rattle.clockspec.specs.Shared.{Event, quiet, second, off}
-use Rattle.clockspec.specs.Store.{fetch, put, act}
-use Rattle.clockspec.specs.Phase.{between}
+use Rattle.clock_spec.specs.Shared.{Event, quiet, second, off}
+use Rattle.clock_spec.specs.Store.{fetch, put, act}
+use Rattle.clock_spec.specs.Phase.{between}
 use Rattle.clock.specs.Step.{freshClock, next, acts, stepWires}
-use Rattle.clockspec.specs.declared.Phase.the-variants.{Taking}
-use Rattle.clockspec.specs.declared.Wires.{Wires}
+use Rattle.clock_spec.specs.declared.Phase.the-variants.{Taking}
+use Rattle.clock_spec.specs.declared.Wires.{Wires}
 use Rattle.clock.specs.declared.Clock.{Clock}
-use Rattle.history.specs.History.{Entry, History, wiresAt, rises, ended, protectAt, endedClear, last, cellAt, testAt, secondsAt}
+use Rattle.history.specs.History.{Entry, History, wiresAt, rises, endingAt, protectAt, endingClear, last, cellAt, testAt, secondsAt}
 use Rattle.history.specs.Start.{startOf, undriven, freshStart}
 use Rattle.history.specs.Demand3.{clockAfter, storeAfter}
 
@@ -112,7 +112,7 @@ pub record Examples : Type 0 where
   pub amidTest : (storeAfter 20 amid low goesOn .test ≡ 0x11) × (testAt 20 (startOf amid low) goesOn ≡ 0x11)
 
 pub examples : Examples
-unfolding clockAfter stepWires between next acts act put decode named fetch wiresAt rises ended protectAt endedClear last secondsAt replace
+unfolding clockAfter stepWires between next acts act put decode named fetch wiresAt rises endingAt protectAt endingClear last secondsAt replace
 examples = record {
   write = (refl, refl);
   fifteenRises = (refl, refl);

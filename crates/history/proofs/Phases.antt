@@ -5,13 +5,13 @@ use Prim.Native.Nat.{ℕ, _+_, _-_, _/_, _%_, _^_, _<_}
 use lib.Dec.{ltb, leb, eqb}
 use borrow.Author.Tests.{ltb-true, leb-false, not-true}
 use Rattle.levels.proofs.Laws.{both}
-use Rattle.clockspec.specs.Command.{named, decode, isWrite}
-use Rattle.clockspec.specs.Phase.{fewBits, acceptedPhase}
-use Rattle.clockspec.proofs.CommandRange.{cond-case}
-use Rattle.clockspec.proofs.PhaseRange.{few-count, few-value}
-use Rattle.clockspec.specs.declared.Command.{Command}
-use Rattle.clockspec.specs.declared.Phase.{Phase}
-use Rattle.clockspec.specs.declared.Phase.the-variants.{Idle, Listening, Taking, Sending, Ignoring}
+use Rattle.clock_spec.specs.Command.{named, decode, isWrite}
+use Rattle.clock_spec.specs.Phase.{fewBits, acceptedPhase}
+use Rattle.clock_spec.proofs.CommandRange.{cond-case}
+use Rattle.clock_spec.proofs.PhaseRange.{few-count, few-value}
+use Rattle.clock_spec.specs.declared.Command.{Command}
+use Rattle.clock_spec.specs.declared.Phase.{Phase}
+use Rattle.clock_spec.specs.declared.Phase.the-variants.{Idle, Listening, Taking, Sending, Ignoring}
 
 -- The chip is idle exactly while enable, e, is 1; n bits taken have a value below 2 ^ n.
 abbrev pub Parts : ℕ → Phase → Bool → Type 0

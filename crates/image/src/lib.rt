@@ -2,12 +2,12 @@
 ghost use mathlib.Core.Path.{_≡_};
 ghost use mathlib.Core.Bool.{true};
 ghost use lib.ListN.{length};
-ghost use Rattle.machinespec.specs.Machine.{acceptedOf};
-ghost use Rattle.imagespec.specs.Image.{imageLength, imageOf, machineOf, validImage};
-use iwm::DiskLines;
-use machinespec::Machine;
+ghost use Rattle.machine_spec.specs.Machine.{acceptedOf};
+ghost use Rattle.image_spec.specs.Image.{imageLength, imageOf, machineOf, validImage};
+use disk_lines::DiskLines;
+use machine_spec::Machine;
 
-pub const LENGTH: usize = layout::LENGTH;
+pub const LENGTH: usize = image_layout::LENGTH;
 
 // Writes a state's image, which gives the state back; that of an accepted state is valid.
 pub fn save(image: &mut [u8], m: Machine)
@@ -19,11 +19,11 @@ pub fn save(image: &mut [u8], m: Machine)
     let lines = m.disk.lines;
     let inputs = m.inputs;
     let sense = m.sense;
-    layout::put_head(image);
-    viabytes::put_via(image, m.via);
-    clockbytes::put_clock(image, m.clock);
-    layout::put_levels(image, lines, inputs, sense);
-    drivebytes::put_drives(image, m.drives);
+    image_layout::put_head(image);
+    image_via::put_via(image, m.via);
+    image_clock::put_clock(image, m.clock);
+    image_layout::put_levels(image, lines, inputs, sense);
+    image_drives::put_drives(image, m.drives);
 }
 
 // The state of an image.
@@ -32,14 +32,14 @@ pub fn load(image: &[u8]) -> Machine
     ensures { λ r. ⌜ r ≡ machineOf (now (image .entry)) ⌝ }
 {
     Machine {
-        via: viabytes::via(image),
-        clock: clockbytes::clock(image),
+        via: image_via::via(image),
+        clock: image_clock::clock(image),
         disk: DiskLines {
-            lines: layout::lines(image),
+            lines: image_layout::lines(image),
         },
-        inputs: layout::inputs(image),
-        sense: layout::sense(image),
-        drives: drivebytes::drives(image),
+        inputs: image_layout::inputs(image),
+        sense: image_layout::sense(image),
+        drives: image_drives::drives(image),
     }
 }
 
@@ -63,7 +63,7 @@ pub fn valid(image: &[u8]) -> bool
     let m = load(image);
     let mut own = [0; LENGTH];
     save(&mut own, m);
-    let written = layout::same(&own, image);
+    let written = image_layout::same(&own, image);
     let taken = machine::accepted(m);
     written & taken
 }

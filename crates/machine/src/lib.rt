@@ -1,7 +1,7 @@
 // The fresh machine, and whether a state is accepted.
 ghost use mathlib.Core.Path.{_≡_};
-ghost use Rattle.machinespec.specs.Machine.{acceptedOf, freshMachine};
-use machinespec::Machine;
+ghost use Rattle.machine_spec.specs.Machine.{acceptedOf, freshMachine};
+use machine_spec::Machine;
 
 pub fn fresh() -> Machine
     ensures { λ r. ⌜ r ≡ freshMachine ⌝ }
@@ -9,10 +9,10 @@ pub fn fresh() -> Machine
     Machine {
         via: via::fresh(),
         clock: clock::fresh(),
-        disk: iwm::off(),
+        disk: disk_lines::off(),
         inputs: [1, 1, 1, 1, 1, 0, 0],
         sense: [1; 32],
-        drives: drives::fresh(),
+        drives: disk_drives::fresh(),
     }
 }
 
@@ -25,12 +25,12 @@ pub fn accepted(m: Machine) -> bool
     let sense = m.sense;
     let c = m.clock;
     let p = c.phase;
-    let w = pins::wires(m);
+    let w = machine_pins::wires(m);
     let a = levels::all_levels(&lines);
     let b = levels::all_levels(&inputs);
     let s = levels::all_levels(&sense);
-    let v = viaflags::accepted(m.via);
-    let k = phaselevels::accepted_phase(p, w.enable);
-    let g = drivelines::accepted(m.drives, pins::watched(m));
+    let v = via_flags::accepted(m.via);
+    let k = clock_phase::accepted_phase(p, w.enable);
+    let g = disk_drives::accepted(m.drives, machine_pins::watched(m));
     a & b & s & v & k & g
 }

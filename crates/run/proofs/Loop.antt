@@ -8,19 +8,19 @@ use native.Mathlib.Nat.{le-of-eq, add-zero, sub-zero, sub-add-eq}
 use lib.ListN.{length, take, drop, length-append, length-drop, take-append-drop, drop-of-length-le}
 use lib.Seq.{take-all, length-take-le, take-at, drop-at, drop-drop}
 use Rattle.octets.specs.Octets.{putAt}
-use Rattle.itemspec.specs.Record.{frameOf, answerBytes, noOf}
-use Rattle.itemspec.specs.declared.Framed.{Framed}
-use Rattle.itemspec.specs.declared.Framed.the-variants.{Whole, Cut}
-use Rattle.itemspec.proofs.RecordLaws.{answer-long, whole-fits}
-use Rattle.machinespec.specs.declared.Machine.{Machine}
-use Rattle.machinespec.specs.Machine.{acceptedOf}
-use Rattle.outcome.proofs.Keeps.{turn-keeps}
-use Rattle.outcome.specs.declared.Ran.{Ran}
-use Rattle.outcome.specs.declared.Turn.{Turn}
-use Rattle.outcome.specs.Turn.{turnOf}
-use Rattle.outcome.specs.Outcome.{Piece, piecesFrom, pieces, Out, halt, onto, runPieces, runOf, ranOf, over}
-use Rattle.outcome.proofs.Users.{item-after-item, no-record, written-fits}
-use Rattle.outcome.proofs.Pieces.{pieces-broken, pieces-whole, bytes-left, onto-none, onto-onto}
+use Rattle.item_spec.specs.Record.{frameOf, answerBytes, noOf}
+use Rattle.item_spec.specs.declared.Framed.{Framed}
+use Rattle.item_spec.specs.declared.Framed.the-variants.{Whole, Cut}
+use Rattle.item_spec.proofs.RecordLaws.{answer-long, whole-fits}
+use Rattle.machine_spec.specs.declared.Machine.{Machine}
+use Rattle.machine_spec.specs.Machine.{acceptedOf}
+use Rattle.run_spec.proofs.Keeps.{turn-keeps}
+use Rattle.run_spec.specs.declared.Ran.{Ran}
+use Rattle.run_spec.specs.declared.Turn.{Turn}
+use Rattle.run_spec.specs.Turn.{turnOf}
+use Rattle.run_spec.specs.Outcome.{Piece, piecesFrom, pieces, Out, halt, onto, runPieces, runOf, ranOf, over}
+use Rattle.run_spec.proofs.Users.{item-after-item, no-record, written-fits}
+use Rattle.run_spec.proofs.Pieces.{pieces-broken, pieces-whole, bytes-left, onto-none, onto-onto}
 
 -- what a slice from `at` on is
 pub at-rest : (l : List ℕ) (at : ℕ) → take (length l - at) (drop at l) ≡ drop at l

@@ -2,10 +2,10 @@
 ghost use mathlib.Core.Path.{_≡_};
 ghost use Prim.Native.Nat.{_≤_};
 ghost use lib.ListN.{length};
-ghost use Rattle.outcome.specs.Outcome.{halt, ranOf, over, runOf};
-use itemspec::Framed;
-use machinespec::Machine;
-use outcome::Ran;
+ghost use Rattle.run_spec.specs.Outcome.{halt, ranOf, over, runOf};
+use item_spec::Framed;
+use machine_spec::Machine;
+use run_spec::Ran;
 
 // A state that is not accepted: handed back as given, nothing read or written.
 fn unaccepted(m: Machine) -> Ran
@@ -37,14 +37,14 @@ pub fn run(mut m: Machine, list: &[u8], answers: &mut [u8]) -> Ran
             break;
         }
         let rest = &list[at..];
-        let Framed::Whole(n) = record::frame(rest) else {
-            slot::put(answers, out, record::answer_bytes(record::no(1)));
+        let Framed::Whole(n) = item_record::frame(rest) else {
+            item_record::put(answers, out, item_record::answer_bytes(item_record::no(1)));
             out += 8;
             stop = 1;
             break;
         };
-        let t = turn::turn_of(m, &rest[2..n]);
-        slot::put(answers, out, record::answer_bytes(t.answer));
+        let t = run_record::turn_of(m, &rest[2..n]);
+        item_record::put(answers, out, item_record::answer_bytes(t.answer));
         m = t.machine;
         at += n;
         out += 8;

@@ -3,7 +3,7 @@ use mathlib.Core.Path.{_≡_}
 use mathlib.Core.Bool.{true, false}
 use mathlib.Core.List.{List, [], _∷_, _++_}
 use Prim.Native.Nat.{ℕ}
-use Rattle.machinespec.specs.declared.Machine.{Machine}
+use Rattle.machine_spec.specs.declared.Machine.{Machine}
 use Rattle.samples.specs.Lists.{wr, access, rdIwm, sn, di, rs, pw, selDown, ready, strobe}
 use Rattle.samples.specs.Samples.{ran, valuesFrom}
 

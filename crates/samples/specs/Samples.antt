@@ -3,10 +3,10 @@ use Prim.Native.Nat.{ℕ, zero, suc, _+_, _*_}
 use mathlib.Core.Path.{_≡_}
 use mathlib.Core.List.{List, [], _∷_, _++_}
 use lib.ListN.{getD}
-use Rattle.clockspec.specs.declared.Phase.{Phase}
-use Rattle.clockspec.specs.declared.Phase.the-variants.{Listening, Ignoring}
-use Rattle.machinespec.specs.Machine.{freshMachine}
-use Rattle.outcome.specs.Outcome.{Out, halt, runOf}
+use Rattle.clock_spec.specs.declared.Phase.{Phase}
+use Rattle.clock_spec.specs.declared.Phase.the-variants.{Listening, Ignoring}
+use Rattle.machine_spec.specs.Machine.{freshMachine}
+use Rattle.run_spec.specs.Outcome.{Out, halt, runOf}
 use Rattle.samples.specs.Lists.{rd, wr, se, begin, end, select, sent, byte, transaction}
 
 -- The fresh machine run over a list, with room for 100 answers.

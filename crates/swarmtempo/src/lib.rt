@@ -2,10 +2,10 @@
 ghost use mathlib.Core.Path.{_≡_};
 ghost use lib.ListN.{length};
 ghost use mathlib.Core.Bool.{true};
-ghost use Rattle.imagespec.specs.Image.{imageLength, machineOf, validImage};
+ghost use Rattle.image_spec.specs.Image.{imageLength, machineOf, validImage};
 ghost use Rattle.demand3.specs.Runs.{Run3};
 ghost use Rattle.units.specs.Units.{ticksOf};
-ghost use Rattle.call.specs.Call.{callOf, callImage, callAnswers, freshStop, freshImage};
+ghost use Rattle.entry_spec.specs.Call.{callOf, callImage, callAnswers, freshStop, freshImage};
 use units::Micros;
 
 // The length of an image in bytes.

@@ -1,8 +1,8 @@
 // Runs the script on standard input: the samples, as lines that do something or say something. docs/FORMATS.md has their language.
 ghost use mathlib.Core.Path.{_≡_};
-ghost use Rattle.imagespec.specs.Image.{imageLength};
+ghost use Rattle.image_spec.specs.Image.{imageLength};
 ghost use lib.ListN.{length};
-use operations::Order;
+use vectors_operations::Order;
 
 // Makes the machine fresh: 0.
 fn fresh(image: &mut [u8]) -> u64
@@ -18,7 +18,7 @@ fn carry_out(image: &mut [u8], op: u8, list: &[u8], answers: &mut [u8])
 {
     let r = run::run(image::load(image), list, answers);
     image::save(image, r.machine);
-    show::shown(op, list, answers, r.stop, r.consumed, r.written);
+    vectors_print::shown(op, answers, r.stop, r.consumed, r.written);
 }
 
 // A line of an answer room, whose bytes hold $ee, and a list: the value as it was, or 256 where the line is bad.
@@ -26,7 +26,7 @@ fn raw(image: &mut [u8], op: u8, text: &[u8], value: u64) -> u64
     requires { ⌜ length (now image) ≡ imageLength ⌝ }
 {
     let mut answers = [0xee; 32];
-    let given = words::read_list(text);
+    let given = vectors_words::read_list(text);
     let list = given.list;
     let size = given.size;
     let room = given.room;
@@ -41,7 +41,7 @@ fn raw(image: &mut [u8], op: u8, text: &[u8], value: u64) -> u64
 fn once(image: &mut [u8], x: Order) -> u8
     requires { ⌜ length (now image) ≡ imageLength ⌝ }
 {
-    let list = operations::record(x);
+    let list = vectors_operations::record(x);
     let mut answers = [0u8; 8];
     carry_out(image, x.op, &list, &mut answers);
     answers[4]
@@ -51,12 +51,12 @@ fn once(image: &mut [u8], x: Order) -> u8
 fn many(image: &mut [u8], x: Order, value: u64) -> u64
     requires { ⌜ length (now image) ≡ imageLength ⌝ }
 {
-    let n = operations::accesses(x);
-    let mut byte = operations::start(x, value);
+    let n = vectors_operations::accesses(x);
+    let mut byte = vectors_operations::start(x, value);
     let mut k: u64 = 0;
     while k < n {
-        let read = once(image, operations::access(x, k, byte));
-        byte = operations::seen(x.op, k, byte, read);
+        let read = once(image, vectors_operations::access(x, k, byte));
+        byte = vectors_operations::seen(x.op, k, byte, read);
         k += 1;
     }
     byte
@@ -69,7 +69,7 @@ fn operation(image: &mut [u8], x: Order, value: u64) -> u64
     let op = x.op;
     match op {
         0 => 256,
-        b'm' | b'z' => operations::byte(image, x),
+        b'm' | b'z' => vectors_operations::byte(image, x),
         _ => many(image, x, value),
     }
 }
@@ -84,9 +84,9 @@ fn line(image: &mut [u8], text: &[u8], value: u64) -> u64
     let c = text[0];
     match c {
         b'#' => value,
-        b'-' | b'.' => show::say(text, value),
+        b'-' | b'.' => vectors_print::say(text, value),
         b'x' | b'l' | b'e' => raw(image, c, text, value),
-        _ => operation(image, words::read_order(text), value),
+        _ => operation(image, vectors_words::read_order(text), value),
     }
 }
 
@@ -98,10 +98,10 @@ fn script(image: &mut [u8], s: &[u8])
     let mut number: u64 = 1;
     let mut value: u64 = 0;
     while at < s.len() {
-        let end = words::line_end(s, at);
+        let end = vectors_words::line_end(s, at);
         value = line(image, &s[at..end], value);
         if 255 < value {
-            show::say(b". line #: not understood", number);
+            vectors_print::say(b". line #: not understood", number);
             return;
         }
         number = std::num::wrapping_add_u64(number, 1);
@@ -115,7 +115,7 @@ fn main() {
     let mut text = io::large_buffer();
     let n = io::read_full(0, &mut text);
     if text.len() <= n {
-        show::say(b". the script is too long", 0);
+        vectors_print::say(b". the script is too long", 0);
         return;
     }
     script(&mut image, &text[..n]);

@@ -7,7 +7,7 @@ use borrow.Author.Tests.{lt-ltb, ltb-true}
 use lib.Dec.{ltb}
 use lib.Bits.{bitOr, or-lt}
 use Rattle.levels.proofs.Laws.{both, joined}
-use Rattle.viabits.specs.Bytes.{bit}
+use Rattle.via_bits.specs.Bytes.{bit}
 use Rattle.via.specs.Via.{freshVia, ticks, raisedOf, resetOf, acceptedVia}
 use Rattle.via.specs.declared.Via.{Via}
 use Rattle.via.proofs.Waits.{first, second, waits}

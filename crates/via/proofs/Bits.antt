@@ -9,9 +9,9 @@ use lib.Pow.{pow-pos}
 use lib.Dec.{eqb}
 use borrow.Author.Tests.{eqb-true, eqb-false}
 use lib.Bits.{bitAnd, bitOr, and-step, and-shr, or-shr, and-mask}
-use Rattle.viabits.specs.Bytes.{bit, clear}
+use Rattle.via_bits.specs.Bytes.{bit, clear}
 use Rattle.via.specs.Via.{portLevel}
-use Rattle.viabits.proofs.Or.{low, or-odd}
+use Rattle.via_bits.proofs.Or.{low, or-odd}
 
 and-odd : (a b : ℕ) → bitAnd a b % 2 ≡ min (a % 2) (b % 2)
 and-odd a b =

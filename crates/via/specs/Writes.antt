@@ -3,7 +3,7 @@ use Prim.Native.Nat.{ℕ, _+_, _*_, _%_}
 use mathlib.Core.Bool.{cond, not, _&&_, _||_}
 use lib.Dec.{eqb}
 use Rattle.via.specs.Setters.{withPorts, withT1, withT2, withSr, withAcr, withPcr, withFlags, withEnables}
-use Rattle.viabits.specs.Bytes.{clear, portAFlags, enabledBy}
+use Rattle.via_bits.specs.Bytes.{clear, portAFlags, enabledBy}
 use Rattle.via.specs.declared.Ports.{Ports}
 use Rattle.via.specs.declared.Timer1.{Timer1}
 use Rattle.via.specs.declared.Timer2.{Timer2}
@@ -51,9 +51,9 @@ flagsWritten r v s =
     (s .flags))))
 
 -- "Registers 10 to 12 store."
-unfoldable pub written : ℕ → ℕ → Via → Via
+unfoldable pub viaWritten : ℕ → ℕ → Via → Via
 unfolding portsWritten timer1Written timer2Written portAFlags flagsWritten enabledBy
-written r v s =
+viaWritten r v s =
     withEnables
     (withFlags
     (withPcr

@@ -1,11 +1,11 @@
-// The VIA: ports, two timers, registers written, reset; what is asked of its flags is in viaflags, reading in registers. The state goes in by value, and the next one comes out.
+// The VIA: ports, two timers, registers written, reset; what is asked of its flags is in via_flags, reading in via_registers. The state goes in by value, and the next one comes out.
 ghost use mathlib.Core.Path.{_≡_};
 ghost use mathlib.Core.Bool.{cond, false};
 ghost use Prim.Native.Nat.{_<_};
-ghost use Rattle.timer.specs.Timer.{steps};
-ghost use Rattle.via.specs.Writes.{timer1Written, written};
+ghost use Rattle.via_timer.specs.Timer.{steps};
+ghost use Rattle.via.specs.Writes.{timer1Written, viaWritten};
 ghost use Rattle.via.specs.Via.{freshVia, latchOf, counter1, counter2, ticks, resetOf};
-use timer::Counter;
+use via_timer::Counter;
 
 // Output bits and directions of ports B and A; a direction bit of 1 is an output.
 pub struct Ports {
@@ -91,7 +91,7 @@ impl Timer1 {
     fn load(mut self, value: u8) -> Timer1
         ensures { λ r. ⌜ r ≡ timer1Written 5 value self ⌝ }
     {
-        self.counter = viabits::word(value, self.low);
+        self.counter = via_bits::word(value, self.low);
         self.high = value;
         self.armed = true;
         self.due = false;
@@ -103,7 +103,7 @@ impl Timer1 {
 fn run1(t: Timer1, free: bool, n: u16) -> Counter
     ensures { λ r. ⌜ r ≡ steps n free (latchOf t) (counter1 t) ⌝ }
 {
-    let latch = viabits::word(t.high, t.low);
+    let latch = via_bits::word(t.high, t.low);
     let counter = Counter {
         value: t.counter,
         armed: t.armed,
@@ -142,7 +142,7 @@ impl Via {
         self.t1.due = a.due;
         self.t2.counter = b.value;
         self.t2.armed = b.armed;
-        self.flags = self.flags | viabits::pick(a.fired, 64, 0) | viabits::pick(b.fired, 32, 0);
+        self.flags = self.flags | via_bits::pick(a.fired, 64, 0) | via_bits::pick(b.fired, 32, 0);
         self
     }
 
@@ -163,13 +163,13 @@ impl Via {
     // The value is written to a register.
     pub fn write(mut self, register: u8, value: u8) -> Via
         requires { ⌜ register < 16 ⌝ }
-        ensures { λ r. ⌜ r ≡ written register value self ⌝ }
+        ensures { λ r. ⌜ r ≡ viaWritten register value self ⌝ }
     {
         match register {
             0 => self.ports.outb = value,
             1 => {
                 self.ports.outa = value;
-                self.flags = self.flags & !viabits::port_a_flags(self.pcr);
+                self.flags = self.flags & !via_bits::port_a_flags(self.pcr);
             },
             2 => self.ports.dirb = value,
             3 => self.ports.dira = value,
@@ -185,7 +185,7 @@ impl Via {
             },
             8 => self.t2.low = value,
             9 => {
-                let counter = viabits::word(value, self.t2.low);
+                let counter = via_bits::word(value, self.t2.low);
                 self.t2.counter = counter;
                 self.t2.armed = true;
                 self.flags = self.flags & !32;
@@ -194,7 +194,7 @@ impl Via {
             11 => self.acr = value,
             12 => self.pcr = value,
             13 => self.flags = self.flags & !(value % 128),
-            14 => self.enables = viabits::enable(value, self.enables),
+            14 => self.enables = via_bits::enable(value, self.enables),
             _ => self.ports.outa = value,
         }
         self

@@ -1,15 +1,15 @@
-use Rattle.imagespec.specs.Image.{machineOf}
+use Rattle.image_spec.specs.Image.{machineOf}
 use borrow.Author.Needs.{needs}
 use Rattle.image.proofs.load.Statement.{statement}
 use Rattle.image.proofs.load.Tie as tie
 use Rattle.image.proofs.load.Reads as reads
 use Rattle.image.proofs.load.Lts as lts
-use Rattle.clockbytes.proofs.clock.Reads as clock-reads
-use Rattle.drivebytes.proofs.drives.Reads as drives-reads
-use Rattle.layout.proofs.inputs.Reads as inputs-reads
-use Rattle.layout.proofs.lines.Reads as lines-reads
-use Rattle.layout.proofs.sense.Reads as sense-reads
-use Rattle.viabytes.proofs.via.Reads as via-reads
+use Rattle.image_clock.proofs.clock.Reads as clock-reads
+use Rattle.image_drives.proofs.drives.Reads as drives-reads
+use Rattle.image_layout.proofs.inputs.Reads as inputs-reads
+use Rattle.image_layout.proofs.lines.Reads as lines-reads
+use Rattle.image_layout.proofs.sense.Reads as sense-reads
+use Rattle.image_via.proofs.via.Reads as via-reads
 
 via-requires : tie.Need-via-requires
 via-requires c κs = search needs

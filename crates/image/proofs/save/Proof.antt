@@ -1,19 +1,19 @@
 use mathlib.Core.Path.{_≡_, ap, _∙_}
 use lib.ListN.{length}
 use denote.Ref.{now}
-use Rattle.imagespec.specs.Layout.{linesLength, inputsLength, senseLength}
-use Rattle.imagespec.specs.Image.{imageOf, machineOf, validImage, Typed}
-use Rattle.imagespec.proofs.Round.{image-saved, restore-saved, saved-valid}
+use Rattle.image_spec.specs.Layout.{linesLength, inputsLength, senseLength}
+use Rattle.image_spec.specs.Image.{imageOf, machineOf, validImage, Typed}
+use Rattle.image_spec.proofs.Round.{image-saved, restore-saved, saved-valid}
 use borrow.Author.Needs.{needs}
 use Rattle.image.proofs.save.Statement.{statement}
 use Rattle.image.proofs.save.Tie as tie
 use Rattle.image.proofs.save.Reads as reads
 use Rattle.image.proofs.save.Lts as lts
-use Rattle.clockbytes.proofs.put_clock.Reads as put-clock-reads
-use Rattle.drivebytes.proofs.put_drives.Reads as put-drives-reads
-use Rattle.layout.proofs.put_head.Reads as put-head-reads
-use Rattle.layout.proofs.put_levels.Reads as put-levels-reads
-use Rattle.viabytes.proofs.put_via.Reads as put-via-reads
+use Rattle.image_clock.proofs.put_clock.Reads as put-clock-reads
+use Rattle.image_drives.proofs.put_drives.Reads as put-drives-reads
+use Rattle.image_layout.proofs.put_head.Reads as put-head-reads
+use Rattle.image_layout.proofs.put_levels.Reads as put-levels-reads
+use Rattle.image_via.proofs.put_via.Reads as put-via-reads
 
 -- what the type of the machine handed in says of its levels
 levels : (c : tie.Start) → (length (c .args .m .disk .lines) ≡ linesLength) × (length (c .args .m .inputs) ≡ inputsLength) × (length (c .args .m .sense) ≡ senseLength)

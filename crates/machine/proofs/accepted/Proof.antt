@@ -1,15 +1,15 @@
-use Rattle.machinespec.specs.Machine.{acceptedOf}
+use Rattle.machine_spec.specs.Machine.{acceptedOf}
 use borrow.Author.Needs.{needs}
 use Rattle.machine.proofs.accepted.Statement.{statement}
 use Rattle.machine.proofs.accepted.Tie as tie
 use Rattle.machine.proofs.accepted.Reads as reads
 use Rattle.machine.proofs.accepted.Lts as lts
-use Rattle.phaselevels.proofs.accepted_phase.Reads as accepted-phase-reads
-use Rattle.drivelines.proofs.accepted.Reads as drivelines-accepted-reads
+use Rattle.clock_phase.proofs.accepted_phase.Reads as accepted-phase-reads
+use Rattle.disk_drives.proofs.accepted.Reads as drivelines-accepted-reads
 use Rattle.levels.proofs.all_levels.Reads as all-levels-reads
-use Rattle.pins.proofs.watched.Reads as watched-reads
-use Rattle.pins.proofs.wires.Reads as wires-reads
-use Rattle.viaflags.proofs.accepted.Reads as viaflags-accepted-reads
+use Rattle.machine_pins.proofs.watched.Reads as watched-reads
+use Rattle.machine_pins.proofs.wires.Reads as wires-reads
+use Rattle.via_flags.proofs.accepted.Reads as viaflags-accepted-reads
 
 wires-requires : tie.Need-wires-requires
 wires-requires c κs = search needs

@@ -4,9 +4,9 @@ use Rattle.machine.proofs.fresh.Tie as tie
 use Rattle.machine.proofs.fresh.Reads as reads
 use Rattle.machine.proofs.fresh.Lts as lts
 use Rattle.clock.proofs.fresh.Reads as fresh-reads
-use Rattle.iwm.proofs.off.Reads as off-reads
+use Rattle.disk_lines.proofs.off.Reads as off-reads
 use Rattle.via.proofs.fresh.Reads as fresh-reads′
-use Rattle.drives.proofs.fresh.Reads as Drives-fresh-reads
+use Rattle.disk_drives.proofs.fresh.Reads as Drives-fresh-reads
 
 fresh-requires : tie.Need-fresh-requires
 fresh-requires c κs = search needs

@@ -8,9 +8,9 @@ use native.Mathlib.Nat.{zero-add}
 use lib.ListN.{length, take, drop}
 use lib.Seq.{length-take-le}
 use Rattle.octets.specs.Octets.{putAt}
-use Rattle.machinespec.specs.Machine.{freshMachine}
-use Rattle.imagespec.specs.Image.{imageOf}
-use Rattle.call.specs.Call.{freshStop, freshImage}
+use Rattle.machine_spec.specs.Machine.{freshMachine}
+use Rattle.image_spec.specs.Image.{imageOf}
+use Rattle.entry_spec.specs.Call.{freshStop, freshImage}
 use Rattle.swarmtempo.proofs.swarmtempo_fresh.Statement.{statement}
 use Rattle.swarmtempo.proofs.swarmtempo_fresh.Tie as tie
 use Rattle.swarmtempo.proofs.swarmtempo_fresh.Reads as reads

@@ -1,8 +1,8 @@
-use Rattle.imagespec.specs.Image.{imageLength, validImage}
+use Rattle.image_spec.specs.Image.{imageLength, validImage}
 use lib.ListN.{length}
-use Rattle.imagespec.proofs.Round.{valid-is}
+use Rattle.image_spec.proofs.Round.{valid-is}
 use mathlib.Core.Bool.{true, false}
-use Rattle.call.proofs.Entry as call
+use Rattle.entry_spec.proofs.Entry as call
 use borrow.Author.Tests.{not-true, not-false, lt-ltb, le-ltb}
 use denote.Ref.{now}
 use mathlib.Core.Path.{_≡_, sym, ap, _∙_}

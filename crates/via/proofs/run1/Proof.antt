@@ -4,7 +4,7 @@ use Rattle.via.proofs.run1.Statement.{statement}
 use Rattle.via.proofs.run1.Tie as tie
 use Rattle.via.proofs.run1.Reads as reads
 use Rattle.via.proofs.run1.Lts as lts
-use Rattle.timer.proofs.Counter.run.Reads as run-reads
+use Rattle.via_timer.proofs.Counter.run.Reads as run-reads
 
 word-requires : tie.Need-word-requires
 word-requires c κs = search needs

@@ -3,7 +3,7 @@ use Rattle.via.proofs.run2.Statement.{statement}
 use Rattle.via.proofs.run2.Tie as tie
 use Rattle.via.proofs.run2.Reads as reads
 use Rattle.via.proofs.run2.Lts as lts
-use Rattle.timer.proofs.Counter.run.Reads as run-reads
+use Rattle.via_timer.proofs.Counter.run.Reads as run-reads
 
 run-requires : tie.Need-run-requires
 run-requires c κs = search needs

@@ -4,7 +4,7 @@ use Rattle.via.proofs.Timer1.load.Statement.{statement}
 use Rattle.via.proofs.Timer1.load.Tie as tie
 use Rattle.via.proofs.Timer1.load.Reads as reads
 use Rattle.via.proofs.Timer1.load.Lts as lts
-use Rattle.viabits.proofs.word.Reads as word-reads
+use Rattle.via_bits.proofs.word.Reads as word-reads
 
 word-requires : tie.Need-word-requires
 word-requires c κs = search needs

@@ -1,2 +1,0 @@
-// The image of a state: what W-201 says of its bytes (specs/) and the laws of that (proofs/). The code is in layout, viabytes, clockbytes, drivebytes
-// and image.

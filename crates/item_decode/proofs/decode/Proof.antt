@@ -1,0 +1,142 @@
+use borrow.Author.Needs.{needs}
+use borrow.Author.Tests.{lt-ltb, le-ltb, le-leb, lt-leb, eq-eqb, ne-eqb}
+use Rattle.item_spec.specs.Kinds.{decodedOf}
+use Rattle.item_decode.proofs.decode.Statement.{statement}
+use Rattle.item_decode.proofs.decode.Tie as tie
+use Rattle.item_decode.proofs.decode.Reads as reads
+use Rattle.item_decode.proofs.decode.Lts as lts
+use Rattle.item_ranged.proofs.disk_item.Reads as disk-item-reads
+use Rattle.item_decode.proofs.is.Reads as is-reads
+use Rattle.item_ranged.proofs.line_item.Reads as line-item-reads
+use Rattle.item_plain.proofs.plain_item.Reads as plain-item-reads
+use Rattle.item_plain.proofs.power_item.Reads as power-item-reads
+use Rattle.item_plain.proofs.read_item.Reads as read-item-reads
+use Rattle.item_ranged.proofs.sense_item.Reads as sense-item-reads
+use Rattle.item_plain.proofs.write_item.Reads as write-item-reads
+
+is-requires : tie.Need-is-requires
+is-requires c κs = search needs
+
+read-item-requires : tie.Need-read-item-requires
+read-item-requires c κs = search needs
+
+returns : tie.Need-returns
+unfolding decodedOf
+returns c = simp (← c .before .before .is .ensures, c .before .if1 .taken, ← c .read-item .ensures)
+
+is-requires-2 : tie.Need-is-requires-2
+is-requires-2 c κs = search needs
+
+write-item-requires : tie.Need-write-item-requires
+write-item-requires c κs = search needs
+
+returns-2 : tie.Need-returns-2
+unfolding decodedOf
+returns-2 c = simp (← c .before .before .before .before .before .is .ensures, c .before .before .before .before .if1 .left, ← c .before .before .is2 .ensures, c .before .if2 .taken, ← c .write-item .ensures)
+
+is-requires-3 : tie.Need-is-requires-3
+is-requires-3 c κs = search needs
+
+plain-item-requires : tie.Need-plain-item-requires
+plain-item-requires c κs = search needs
+
+returns-3 : tie.Need-returns-3
+unfolding decodedOf
+returns-3 c = simp (← c .before .before .before .before .before .before .before .before .is .ensures, c .before .before .before .before .before .before .before .if1 .left, ← c .before .before .before .before .before .is2 .ensures, c .before .before .before .before .if2 .left, ← c .before .before .is3 .ensures, c .before .if3 .taken, ← c .plain-item .ensures)
+
+is-requires-4 : tie.Need-is-requires-4
+is-requires-4 c κs = search needs
+
+plain-item-requires-2 : tie.Need-plain-item-requires-2
+plain-item-requires-2 c κs = search needs
+
+returns-4 : tie.Need-returns-4
+unfolding decodedOf
+returns-4 c = simp (← c .before .before .before .before .before .before .before .before .before .before .before .is .ensures, c .before .before .before .before .before .before .before .before .before .before .if1 .left, ← c .before .before .before .before .before .before .before .before .is2 .ensures, c .before .before .before .before .before .before .before .if2 .left, ← c .before .before .before .before .before .is3 .ensures, c .before .before .before .before .if3 .left, ← c .before .before .is4 .ensures, c .before .if4 .taken, ← c .plain-item2 .ensures)
+
+is-requires-5 : tie.Need-is-requires-5
+is-requires-5 c κs = search needs
+
+line-item-requires : tie.Need-line-item-requires
+line-item-requires c κs = search needs
+
+returns-5 : tie.Need-returns-5
+unfolding decodedOf
+returns-5 c = simp (← c .before .before .before .before .before .before .before .before .before .before .before .before .before .before .is .ensures, c .before .before .before .before .before .before .before .before .before .before .before .before .before .if1 .left, ← c .before .before .before .before .before .before .before .before .before .before .before .is2 .ensures, c .before .before .before .before .before .before .before .before .before .before .if2 .left, ← c .before .before .before .before .before .before .before .before .is3 .ensures, c .before .before .before .before .before .before .before .if3 .left, ← c .before .before .before .before .before .is4 .ensures, c .before .before .before .before .if4 .left, ← c .before .before .is5 .ensures, c .before .if5 .taken, ← c .line-item .ensures)
+
+is-requires-6 : tie.Need-is-requires-6
+is-requires-6 c κs = search needs
+
+sense-item-requires : tie.Need-sense-item-requires
+sense-item-requires c κs = search needs
+
+returns-6 : tie.Need-returns-6
+unfolding decodedOf
+returns-6 c = simp (← c .before .before .before .before .before .before .before .before .before .before .before .before .before .before .before .before .before .is .ensures, c .before .before .before .before .before .before .before .before .before .before .before .before .before .before .before .before .if1 .left, ← c .before .before .before .before .before .before .before .before .before .before .before .before .before .before .is2 .ensures, c .before .before .before .before .before .before .before .before .before .before .before .before .before .if2 .left, ← c .before .before .before .before .before .before .before .before .before .before .before .is3 .ensures, c .before .before .before .before .before .before .before .before .before .before .if3 .left, ← c .before .before .before .before .before .before .before .before .is4 .ensures, c .before .before .before .before .before .before .before .if4 .left, ← c .before .before .before .before .before .is5 .ensures, c .before .before .before .before .if5 .left, ← c .before .before .is6 .ensures, c .before .if6 .taken, ← c .sense-item .ensures)
+
+is-requires-7 : tie.Need-is-requires-7
+is-requires-7 c κs = search needs
+
+plain-item-requires-3 : tie.Need-plain-item-requires-3
+plain-item-requires-3 c κs = search needs
+
+returns-7 : tie.Need-returns-7
+unfolding decodedOf
+returns-7 c = simp (← c .before .before .before .before .before .before .before .before .before .before .before .before .before .before .before .before .before .before .before .before .is .ensures, c .before .before .before .before .before .before .before .before .before .before .before .before .before .before .before .before .before .before .before .if1 .left, ← c .before .before .before .before .before .before .before .before .before .before .before .before .before .before .before .before .before .is2 .ensures, c .before .before .before .before .before .before .before .before .before .before .before .before .before .before .before .before .if2 .left, ← c .before .before .before .before .before .before .before .before .before .before .before .before .before .before .is3 .ensures, c .before .before .before .before .before .before .before .before .before .before .before .before .before .if3 .left, ← c .before .before .before .before .before .before .before .before .before .before .before .is4 .ensures, c .before .before .before .before .before .before .before .before .before .before .if4 .left, ← c .before .before .before .before .before .before .before .before .is5 .ensures, c .before .before .before .before .before .before .before .if5 .left, ← c .before .before .before .before .before .is6 .ensures, c .before .before .before .before .if6 .left, ← c .before .before .is7 .ensures, c .before .if7 .taken, ← c .plain-item3 .ensures)
+
+is-requires-8 : tie.Need-is-requires-8
+is-requires-8 c κs = search needs
+
+power-item-requires : tie.Need-power-item-requires
+power-item-requires c κs = search needs
+
+returns-8 : tie.Need-returns-8
+unfolding decodedOf
+returns-8 c = simp (← c .before .before .before .before .before .before .before .before .before .before .before .before .before .before .before .before .before .before .before .before .before .before .before .is .ensures, c .before .before .before .before .before .before .before .before .before .before .before .before .before .before .before .before .before .before .before .before .before .before .if1 .left, ← c .before .before .before .before .before .before .before .before .before .before .before .before .before .before .before .before .before .before .before .before .is2 .ensures, c .before .before .before .before .before .before .before .before .before .before .before .before .before .before .before .before .before .before .before .if2 .left, ← c .before .before .before .before .before .before .before .before .before .before .before .before .before .before .before .before .before .is3 .ensures, c .before .before .before .before .before .before .before .before .before .before .before .before .before .before .before .before .if3 .left, ← c .before .before .before .before .before .before .before .before .before .before .before .before .before .before .is4 .ensures, c .before .before .before .before .before .before .before .before .before .before .before .before .before .if4 .left, ← c .before .before .before .before .before .before .before .before .before .before .before .is5 .ensures, c .before .before .before .before .before .before .before .before .before .before .if5 .left, ← c .before .before .before .before .before .before .before .before .is6 .ensures, c .before .before .before .before .before .before .before .if6 .left, ← c .before .before .before .before .before .is7 .ensures, c .before .before .before .before .if7 .left, ← c .before .before .is8 .ensures, c .before .if8 .taken, ← c .power-item .ensures)
+
+is-requires-9 : tie.Need-is-requires-9
+is-requires-9 c κs = search needs
+
+disk-item-requires : tie.Need-disk-item-requires
+disk-item-requires c κs = search needs
+
+returns-9 : tie.Need-returns-9
+unfolding decodedOf
+returns-9 c = simp (← c .before .before .before .before .before .before .before .before .before .before .before .before .before .before .before .before .before .before .before .before .before .before .before .before .before .before .is .ensures, c .before .before .before .before .before .before .before .before .before .before .before .before .before .before .before .before .before .before .before .before .before .before .before .before .before .if1 .left, ← c .before .before .before .before .before .before .before .before .before .before .before .before .before .before .before .before .before .before .before .before .before .before .before .is2 .ensures, c .before .before .before .before .before .before .before .before .before .before .before .before .before .before .before .before .before .before .before .before .before .before .if2 .left, ← c .before .before .before .before .before .before .before .before .before .before .before .before .before .before .before .before .before .before .before .before .is3 .ensures, c .before .before .before .before .before .before .before .before .before .before .before .before .before .before .before .before .before .before .before .if3 .left, ← c .before .before .before .before .before .before .before .before .before .before .before .before .before .before .before .before .before .is4 .ensures, c .before .before .before .before .before .before .before .before .before .before .before .before .before .before .before .before .if4 .left, ← c .before .before .before .before .before .before .before .before .before .before .before .before .before .before .is5 .ensures, c .before .before .before .before .before .before .before .before .before .before .before .before .before .if5 .left, ← c .before .before .before .before .before .before .before .before .before .before .before .is6 .ensures, c .before .before .before .before .before .before .before .before .before .before .if6 .left, ← c .before .before .before .before .before .before .before .before .is7 .ensures, c .before .before .before .before .before .before .before .if7 .left, ← c .before .before .before .before .before .is8 .ensures, c .before .before .before .before .if8 .left, ← c .before .before .is9 .ensures, c .before .if9 .taken, ← c .disk-item .ensures)
+
+returns-10 : tie.Need-returns-10
+unfolding decodedOf
+returns-10 c = simp (← c .before .before .before .before .before .before .before .before .before .before .before .before .before .before .before .before .before .before .before .before .before .before .before .before .before .is .ensures, c .before .before .before .before .before .before .before .before .before .before .before .before .before .before .before .before .before .before .before .before .before .before .before .before .if1 .left, ← c .before .before .before .before .before .before .before .before .before .before .before .before .before .before .before .before .before .before .before .before .before .before .is2 .ensures, c .before .before .before .before .before .before .before .before .before .before .before .before .before .before .before .before .before .before .before .before .before .if2 .left, ← c .before .before .before .before .before .before .before .before .before .before .before .before .before .before .before .before .before .before .before .is3 .ensures, c .before .before .before .before .before .before .before .before .before .before .before .before .before .before .before .before .before .before .if3 .left, ← c .before .before .before .before .before .before .before .before .before .before .before .before .before .before .before .before .is4 .ensures, c .before .before .before .before .before .before .before .before .before .before .before .before .before .before .before .if4 .left, ← c .before .before .before .before .before .before .before .before .before .before .before .before .before .is5 .ensures, c .before .before .before .before .before .before .before .before .before .before .before .before .if5 .left, ← c .before .before .before .before .before .before .before .before .before .before .is6 .ensures, c .before .before .before .before .before .before .before .before .before .if6 .left, ← c .before .before .before .before .before .before .before .is7 .ensures, c .before .before .before .before .before .before .if7 .left, ← c .before .before .before .before .is8 .ensures, c .before .before .before .if8 .left, ← c .before .is9 .ensures, c .if9 .left)
+
+pub decode-spec : {M : Type 1} → statement M
+decode-spec =
+    tie.close
+    (tie.spec
+    is-requires
+    read-item-requires
+    returns
+    is-requires-2
+    write-item-requires
+    returns-2
+    is-requires-3
+    plain-item-requires
+    returns-3
+    is-requires-4
+    plain-item-requires-2
+    returns-4
+    is-requires-5
+    line-item-requires
+    returns-5
+    is-requires-6
+    sense-item-requires
+    returns-6
+    is-requires-7
+    plain-item-requires-3
+    returns-7
+    is-requires-8
+    power-item-requires
+    returns-8
+    is-requires-9
+    disk-item-requires
+    returns-9
+    returns-10)

@@ -1,0 +1,50 @@
+// The decoder: the bytes of one record, its kind first, are an item or a refusal.
+ghost use mathlib.Core.Path.{_≡_};
+ghost use Prim.Native.Nat.{_≤_};
+ghost use lib.ListN.{length};
+ghost use Rattle.item_spec.specs.Kinds.{isKind, decodedOf};
+use item_spec::Decoded;
+use item_spec::Plain;
+
+// Whether a record's kind is this one.
+fn is(s: &[u8], kind: &[u8; 2]) -> bool
+    requires { ⌜ 2 ≤ length (now s) ⌝ }
+    ensures { λ r. ⌜ r ≡ isKind (now (s .entry)) (now (kind .entry)) ⌝ }
+{
+    s[0] == kind[0] && s[1] == kind[1]
+}
+
+// A record's bytes after its length: an item, or refusal 2, 3, 4 or 5.
+pub fn decode(s: &[u8]) -> Decoded
+    requires { ⌜ 2 ≤ length (now s) ⌝ }
+    ensures { λ r. ⌜ r ≡ decodedOf (now (s .entry)) ⌝ }
+{
+    if is(s, b"RD") {
+        return item_plain::read_item(s);
+    }
+    if is(s, b"WR") {
+        return item_plain::write_item(s);
+    }
+    if is(s, b"VB") {
+        return item_plain::plain_item(s, Plain::Blank);
+    }
+    if is(s, b"SE") {
+        return item_plain::plain_item(s, Plain::Second);
+    }
+    if is(s, b"IN") {
+        return item_ranged::line_item(s);
+    }
+    if is(s, b"SN") {
+        return item_ranged::sense_item(s);
+    }
+    if is(s, b"RS") {
+        return item_plain::plain_item(s, Plain::Reset);
+    }
+    if is(s, b"PW") {
+        return item_plain::power_item(s);
+    }
+    if is(s, b"DI") {
+        return item_ranged::disk_item(s);
+    }
+    Decoded::Refused(2)
+}

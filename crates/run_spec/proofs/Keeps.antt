@@ -1,0 +1,28 @@
+-- Every record keeps an accepted state accepted.
+use Prim.Native.Nat.{ℕ}
+use mathlib.Core.Path.{_≡_, refl}
+use mathlib.Core.Bool.{Bool, true, false, cond}
+use mathlib.Core.List.{List}
+use lib.Dec.{eqb}
+use Rattle.item_spec.specs.Kinds.{decodedOf}
+use Rattle.item_spec.specs.declared.Decoded.{Decoded}
+use Rattle.item_spec.specs.declared.Decoded.the-variants.{Done, Refused}
+use Rattle.item_spec.proofs.ItemRange.{decoded-range}
+use Rattle.machine_spec.specs.declared.Machine.{Machine}
+use Rattle.machine_spec.specs.Machine.{acceptedOf}
+use Rattle.machine_spec.specs.Stages.{refusesOf}
+use Rattle.machine_spec.specs.Step.{stepOf}
+use Rattle.machine_spec.proofs.Keeps.{step-keeps}
+use Rattle.run_spec.specs.Turn.{doneTurn, refusedTurn, turnBy, turnOf}
+
+pub turn-keeps : (m : Machine) (s : List ℕ) → acceptedOf m ≡ true → acceptedOf (turnOf m s .machine) ≡ true
+unfolding turnOf
+turn-keeps m s e = go (decodedOf s) refl
+  where
+    go : (d : Decoded) → decodedOf s ≡ d → acceptedOf (turnBy m d .machine) ≡ true
+    go (Refused n) p = e
+    go (Done x) p = judge (eqb (refusesOf m x) 0)
+      where
+        judge : (t : Bool) → acceptedOf ((cond t (doneTurn (stepOf m x)) (refusedTurn m (refusesOf m x))) .machine) ≡ true
+        judge true = step-keeps m x (decoded-range s x p) e
+        judge false = e

@@ -1,0 +1,33 @@
+// The VIA's flags: set by events, asking for an interrupt, and in their range.
+ghost use mathlib.Core.Path.{_≡_};
+ghost use Rattle.via.specs.Via.{raisedOf, asking, levelOf, acceptedVia};
+use via::Via;
+
+// The flags of the mask are set: 2 for vertical blanking, 1 for a second.
+pub fn raise(mut via: Via, mask: u8) -> Via
+    ensures { λ r. ⌜ r ≡ raisedOf mask via ⌝ }
+{
+    via.flags = via.flags | mask;
+    via
+}
+
+// Whether an enabled flag is set.
+pub fn asks(via: Via) -> bool
+    ensures { λ r. ⌜ r ≡ asking via ⌝ }
+{
+    via.flags & via.enables & 127 != 0
+}
+
+// The VIA's own part of the interrupt level, 0 or 1.
+pub fn level(via: Via) -> u8
+    ensures { λ r. ⌜ r ≡ levelOf via ⌝ }
+{
+    via_bits::pick(asks(via), 1, 0)
+}
+
+// Whether bit 7 of flags and enables, room not in use, is 0.
+pub fn accepted(via: Via) -> bool
+    ensures { λ r. ⌜ r ≡ acceptedVia via ⌝ }
+{
+    (via.flags < 128) & (via.enables < 128)
+}
