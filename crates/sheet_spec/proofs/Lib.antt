@@ -1,0 +1,7 @@
+pub mod Walk
+pub mod Joined
+pub mod Same
+pub mod Again
+pub mod Start
+pub mod Stands
+pub mod Lead
