@@ -5,8 +5,12 @@ use mathlib.Core.Bool.{Bool, true, false, cond}
 use mathlib.Core.List.{List, []}
 use native.Mathlib.Omega.{arith}
 use lib.ListN.{length, take, drop, length-drop}
+use lib.Dec.{ltb}
 use Rattle.sheet_spec.specs.Records.{firstOf, Sheet, row, end, broken, sheetFrom, sheetOf, isBroken}
 use Rattle.sheet_spec.specs.Counting.{versionOf, beatsOf, betterOf, countingFrom, countingOf, startFrom, startOf}
+use Rattle.sheet_spec.specs.Lookup.{searchOf}
+use Rattle.sheet_spec.specs.declared.Search.{Search}
+use Rattle.sheet_spec.specs.declared.Search.the-variants.{Set, Unset, Broken}
 use Rattle.sheet_spec.proofs.Walk.{at-rest, sheet-end, sheet-broken, sheet-next}
 
 -- of the sheet l the part `rest` is left; of setting k the record b counts so far, and its bytes start at n
@@ -37,9 +41,10 @@ module _ (l rest r : List ℕ) (e : r ≡ firstOf rest) (h : length r ≤ length
   after-length = ap length (at-rest rest (length r)) ∙ length-drop (length r) rest
 
   module _ (k : ℕ) (b : List ℕ) (n : ℕ) (w : Lead l rest k b n) where
-    pub lead-next : (b′ : List ℕ) (n′ : ℕ) → b′ ≡ betterOf k b r → n′ ≡ cond (beatsOf k (versionOf b) r) (length l - length rest + 7) n → Lead l after k b′ n′
+    pub lead-next : (b′ : List ℕ) (v n′ : ℕ) → b′ ≡ betterOf k b r → v ≡ versionOf b → n′ ≡ cond (beatsOf k v r) (length l - length rest + 7) n → Lead l after k b′ n′
     unfolding isBroken countingFrom startFrom betterOf
-    lead-next b′ n′ p q =
+    lead-next b′ v n′ p u q₀ =
+        let q : n′ ≡ cond (beatsOf k (versionOf b) r) (length l - length rest + 7) n = rw (← u) q₀ in
         let i = w .inside in
         let a = after-length in
         let f = sheet-next rest r e h s in
@@ -60,3 +65,13 @@ module _ (l rest r : List ℕ) (e : r ≡ firstOf rest) (h : length r ≤ length
         soon : (t : Bool) → n ≤ length l - length rest → cond t (length l - length rest + 7) n ≤ length l - length rest + length r
         soon true h = omega arith
         soon false h = omega arith
+
+-- what the sheet says of the setting, where the walk stops
+module _ (l rest : List ℕ) (k : ℕ) (b : List ℕ) (n : ℕ) (w : Lead l rest k b n) where
+  pub search-broken : (r : List ℕ) → r ≡ firstOf rest → 0 < length rest → length r < 7 → Broken ≡ searchOf (sheetOf l) k
+  unfolding searchOf isBroken
+  search-broken r e h s = simp (w .whole, sheet-broken rest r e h s)
+
+  pub search-end : length rest ≤ 0 → cond (ltb (length b) 7) Unset (Set n (length b - 7)) ≡ searchOf (sheetOf l) k
+  unfolding searchOf isBroken countingFrom startFrom
+  search-end h = simp (w .whole, w .counting, w .start, sheet-end rest h)

@@ -5,3 +5,4 @@ pub mod Again
 pub mod Start
 pub mod Stands
 pub mod Lead
+pub mod Found

@@ -62,3 +62,16 @@ searchOf s k =
     cond (isBroken s) Broken
     (cond (ltb (length (countingOf s k)) 7) Unset
     (Set (startOf s k) (length (countingOf s k) - 7)))
+
+abbrev pub placeAt : Source → ℕ → ℕ → Place
+placeAt x n z = record { source = x; start = n; size = z }
+
+-- The place from what each of the two sheets says, the bench sheet first.
+unfoldable pub placeBy : Search → Search → Place
+placeBy Broken h = placeAt Refused 0 0
+placeBy (Set n z) Broken = placeAt Refused 0 0
+placeBy (Set n z) (Set m y) = placeAt Bench n z
+placeBy (Set n z) Unset = placeAt Bench n z
+placeBy Unset Broken = placeAt Refused 0 0
+placeBy Unset (Set m y) = placeAt House m y
+placeBy Unset Unset = placeAt NotSet 0 0
