@@ -6,3 +6,4 @@ pub mod Start
 pub mod Stands
 pub mod Lead
 pub mod Found
+pub mod Samples
