@@ -70,9 +70,9 @@ module _ (l rest r : List ℕ) (e : r ≡ firstOf rest) where
           inside = omega arith;
           lengths = (ap length p ∙ noted-long r vs (versionOf r) vs ∙ w .lengths .0, ap length q ∙ noted-long r vs (length l - length rest + 7) ss ∙ w .lengths .1);
           each = λ k j.
-            let u : getD vs′ k 0 ≡ cond (beatsOf k (getD vs k 0) r) (versionOf r) (getD vs k 0) = ap (λ (t : List ℕ). getD t k 0) p ∙ noted-at r vs (versionOf r) vs k (omega (arith, w .lengths .0)) in
-            let v : getD ss′ k 0 ≡ cond (beatsOf k (getD vs k 0) r) (length l - length rest + 7) (getD ss k 0) = ap (λ (t : List ℕ). getD t k 0) q ∙ noted-at r vs (length l - length rest + 7) ss k (omega (arith, w .lengths .1)) in
-            rw (u, v, far) (w .each k j ∙ ap (startFrom k (getD vs k 0) (getD ss k 0) (length l - length rest)) (sheet-next rest r e h s) ∙ same k (beatsOf k (getD vs k 0) r));
+              let u : getD vs′ k 0 ≡ cond (beatsOf k (getD vs k 0) r) (versionOf r) (getD vs k 0) = ap (λ (t : List ℕ). getD t k 0) p ∙ noted-at r vs (versionOf r) vs k (omega (arith, w .lengths .0)) in
+              let v : getD ss′ k 0 ≡ cond (beatsOf k (getD vs k 0) r) (length l - length rest + 7) (getD ss k 0) = ap (λ (t : List ℕ). getD t k 0) q ∙ noted-at r vs (length l - length rest + 7) ss k (omega (arith, w .lengths .1)) in
+              rw (u, v, far) (w .each k j ∙ ap (startFrom k (getD vs k 0) (getD ss k 0) (length l - length rest)) (sheet-next rest r e h s) ∙ same k (beatsOf k (getD vs k 0) r));
         }
       where
         same : (k : ℕ) (t : Bool) → cond t (startFrom k (versionOf r) (length l - length rest + 7) (length l - length rest + length r) (sheetOf (after l rest r e h s))) (startFrom k (getD vs k 0) (getD ss k 0) (length l - length rest + length r) (sheetOf (after l rest r e h s)))

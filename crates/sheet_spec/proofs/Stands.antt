@@ -79,7 +79,7 @@ module _ (w : List ℕ) (k : ℕ) where
           → ((b₁ : List ℕ) (n₁ : ℕ) → 7 ≤ length (firstOf (x ∷ xs)) → Stands w b₁ n₁
           → Stands w (countingFrom k b₁ (sheetFrom (length (firstOf (x ∷ xs)) - 1) xs)) (startFrom k (versionOf b₁) n₁ (at + length (firstOf (x ∷ xs))) (sheetFrom (length (firstOf (x ∷ xs)) - 1) xs)))
           → Stands w (countingFrom k b (cond t broken (row (firstOf (x ∷ xs)) (sheetFrom (length (firstOf (x ∷ xs)) - 1) xs))))
-            (startFrom k (versionOf b) n at (cond t broken (row (firstOf (x ∷ xs)) (sheetFrom (length (firstOf (x ∷ xs)) - 1) xs))))
+          (startFrom k (versionOf b) n at (cond t broken (row (firstOf (x ∷ xs)) (sheetFrom (length (firstOf (x ∷ xs)) - 1) xs))))
       go true q rec = s
       go false q rec =
           let h = ltb-false _ _ q in

@@ -14,10 +14,7 @@ pub enum Source {
 // What one sheet says of a setting.
 pub enum Search {
     // Its bytes stand at this place, so many of them.
-    Set {
-        start: usize,
-        size: usize,
-    },
+    Set { start: usize, size: usize },
     Unset,
     Broken,
 }
