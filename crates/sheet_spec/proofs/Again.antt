@@ -64,10 +64,10 @@ module _ (bench bench₁ house house₁ : List ℕ) (k : ℕ) (b : Alike bench�
   unfolding partOf
   same-part = simp (same-source, b .counts, h .counts)
 
--- W-213: every answer, its bytes and its sheet, stays the same; one sheet alone may be compacted too, by `alike`
-pub W-213 : (bench house : List ℕ) (k : ℕ) → isBroken (sheetOf bench) ≡ false → isBroken (sheetOf house) ≡ false
+-- "every answer's bytes stay the same", and its sheet; where one sheet alone is compacted `alike` stands for the other
+pub same-answers : (bench house : List ℕ) (k : ℕ) → isBroken (sheetOf bench) ≡ false → isBroken (sheetOf house) ≡ false
     → (partOf (compactOf bench) (compactOf house) k ≡ partOf bench house k) × (sourceOf (compactOf bench) (compactOf house) k ≡ sourceOf bench house k)
-W-213 bench house k b h =
+same-answers bench house k b h =
     let x = compact-alike bench k b in
     let y = compact-alike house k h in
     (same-part bench (compactOf bench) house (compactOf house) k x y, same-source bench (compactOf bench) house (compactOf house) k x y)
