@@ -4,13 +4,13 @@ use mathlib.Core.Path.{_≡_, refl, sym, ap, _∙_}
 use mathlib.Core.Bool.{Bool, true, false, cond}
 use mathlib.Core.List.{List, [], _++_}
 use native.Mathlib.Omega.{arith}
-use lib.ListN.{length, getD, take, drop, length-append}
-use lib.Dec.{ltb, eqb}
+use lib.ListN.{length, getD, drop, length-append}
+use lib.Dec.{eqb}
 use borrow.Author.Tests.{lt-ltb, le-ltb}
 use Rattle.octets.proofs.Writer.{Wrote, wrote-first, wrote-end, wrote-room, wrote-next}
 use Rattle.octets.specs.Octets.{putAt}
-use Rattle.sheet_spec.specs.Records.{firstOf, Sheet, row, end, broken, sheetOf, isBroken}
-use Rattle.sheet_spec.specs.Counting.{settingOf, versionOf, beatsOf, betterOf, countingFrom, countingOf, startFrom, startOf}
+use Rattle.sheet_spec.specs.Records.{firstOf, Sheet, row, sheetOf, isBroken}
+use Rattle.sheet_spec.specs.Counting.{settingOf, versionOf, beatsOf, betterOf, countingFrom, countingOf, startFrom}
 use Rattle.sheet_spec.specs.Compaction.{countsOf, rowIf, countingRows, bytesOf, compactOf, compactedOf, memoryOf}
 use Rattle.sheet_spec.specs.declared.Compacted.{Compacted}
 use Rattle.sheet_spec.specs.declared.Compacted.the-variants.{Written, Failed}

@@ -2,13 +2,13 @@
 use Prim.Native.Nat.{ℕ, _+_, _-_, _≤_, _<_}
 use mathlib.Core.Path.{_≡_, refl, sym, ap, subst, _∙_}
 use mathlib.Core.Bool.{Bool, true, false, cond}
-use mathlib.Core.List.{List, []}
+use mathlib.Core.List.{List}
 use native.Mathlib.Omega.{arith}
-use lib.ListN.{length, getD, take, drop, set, length-set, replicate, length-replicate, getD-replicate}
+use lib.ListN.{length, getD, set, length-set, replicate, length-replicate, getD-replicate}
 use lib.Seq.{getD-set-same, getD-set-other}
 use lib.Dec.{ltb, eqb}
 use borrow.Author.Tests.{eqb-true, eqb-false}
-use Rattle.sheet_spec.specs.Records.{firstOf, Sheet, row, end, broken, sheetOf}
+use Rattle.sheet_spec.specs.Records.{firstOf, Sheet, sheetOf}
 use Rattle.sheet_spec.specs.Counting.{settingOf, versionOf, beatsOf, startFrom, startOf}
 use Rattle.sheet_spec.proofs.Walk.{sheet-next, sheet-stop}
 use Rattle.sheet_spec.proofs.Lead.{after, after-length}

@@ -1,14 +1,13 @@
 -- A compacted sheet, read again: every lookup's bytes are the same.
 use Prim.Native.Nat.{ℕ}
-use mathlib.Core.Path.{_≡_, refl, sym, ap, ap₂, _∙_}
-use mathlib.Core.Bool.{Bool, true, false, cond}
-use mathlib.Core.List.{List, [], _++_}
-use lib.ListN.{length}
+use mathlib.Core.Path.{_≡_, refl, sym, ap, _∙_}
+use mathlib.Core.Bool.{Bool, true, false}
+use mathlib.Core.List.{List}
 use Rattle.sheet_spec.specs.Records.{Sheet, row, end, broken, sheetFrom, sheetOf, isBroken}
 use Rattle.sheet_spec.specs.Counting.{countingOf}
-use Rattle.sheet_spec.specs.Lookup.{ofSource, sourceOf, partOf}
+use Rattle.sheet_spec.specs.Lookup.{sourceOf, partOf}
 use Rattle.sheet_spec.specs.Compaction.{countsOf, rowIf, countingRows, bytesOf, compactOf}
-use Rattle.sheet_spec.proofs.Joined.{IsRecord, Records, sheet-records, sheet-cons}
+use Rattle.sheet_spec.proofs.Joined.{Records, sheet-records, sheet-cons}
 use Rattle.sheet_spec.proofs.Same.{same}
 
 pub kept-whole : (all s : Sheet) → isBroken (countingRows all s) ≡ false

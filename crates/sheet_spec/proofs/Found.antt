@@ -14,7 +14,7 @@ use Rattle.sheet_spec.specs.declared.Source.the-variants.{Bench, House, 
 use Rattle.sheet_spec.specs.declared.Search.{Search}
 use Rattle.sheet_spec.specs.declared.Search.the-variants.{Set, Unset, Broken}
 use Rattle.sheet_spec.specs.declared.Place.{Place}
-use Rattle.sheet_spec.proofs.Stands.{Stands, start-stands}
+use Rattle.sheet_spec.proofs.Stands.{start-stands}
 
 module _ (bench house : List ℕ) (k : ℕ) where
   pub place-by : placeOf bench house k ≡ placeBy (searchOf (sheetOf bench) k) (searchOf (sheetOf house) k)

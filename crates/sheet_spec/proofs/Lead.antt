@@ -6,10 +6,9 @@ use mathlib.Core.List.{List, []}
 use native.Mathlib.Omega.{arith}
 use lib.ListN.{length, take, drop, length-drop}
 use lib.Dec.{ltb}
-use Rattle.sheet_spec.specs.Records.{firstOf, Sheet, row, end, broken, sheetFrom, sheetOf, isBroken}
+use Rattle.sheet_spec.specs.Records.{firstOf, sheetOf, isBroken}
 use Rattle.sheet_spec.specs.Counting.{versionOf, beatsOf, betterOf, countingFrom, countingOf, startFrom, startOf}
 use Rattle.sheet_spec.specs.Lookup.{searchOf}
-use Rattle.sheet_spec.specs.declared.Search.{Search}
 use Rattle.sheet_spec.specs.declared.Search.the-variants.{Set, Unset, Broken}
 use Rattle.sheet_spec.proofs.Walk.{at-rest, sheet-end, sheet-broken, sheet-next}
 

@@ -1,11 +1,11 @@
 -- A setting's bytes are a part of their sheet: the one that starts where `startOf` says.
-use Prim.Native.Nat.{ℕ, zero, suc, _+_, _-_, _≤_, _<_}
+use Prim.Native.Nat.{ℕ, zero, suc, _+_, _-_, _≤_}
 use mathlib.Core.Path.{_≡_, refl, sym, ap, _∙_}
 use mathlib.Core.Bool.{Bool, true, false, cond}
-use mathlib.Core.List.{List, [], _∷_, _++_}
+use mathlib.Core.List.{List, [], _∷_}
 use native.Mathlib.Omega.{arith}
 use lib.ListN.{length, take, drop, length-drop}
-use lib.Seq.{length-take-le, drop-drop, drop-at, take-add, take-length}
+use lib.Seq.{length-take-le, drop-drop, drop-at, take-add}
 use lib.Dec.{ltb}
 use borrow.Author.Tests.{ltb-false}
 use Rattle.itemspec.specs.Record.{frameOf}
@@ -13,7 +13,7 @@ use Rattle.itemspec.specs.Kinds.{isKind}
 use Rattle.itemspec.specs.declared.Framed.{Framed}
 use Rattle.itemspec.specs.declared.Framed.the-variants.{Whole, Cut}
 use Rattle.itemspec.proofs.RecordLaws.{whole-fits}
-use Rattle.sheet_spec.specs.Records.{recordBy, firstOf, Sheet, row, end, broken, sheetFrom, sheetOf}
+use Rattle.sheet_spec.specs.Records.{recordBy, firstOf, Sheet, row, broken, sheetFrom, sheetOf}
 use Rattle.sheet_spec.specs.Counting.{versionOf, bodyOf, beatsOf, betterOf, countingFrom, countingOf, startFrom, startOf}
 
 -- the record at the front is the front

@@ -1,17 +1,15 @@
 -- Where the counting record stands.
-use Prim.Native.Nat.{ℕ, zero, suc, _+_, _-_, _≤_, _<_}
-use mathlib.Core.Path.{_≡_, refl, sym, ap, _∙_}
+use Prim.Native.Nat.{ℕ, _+_, _≤_, _<_}
+use mathlib.Core.Path.{_≡_, refl, sym, _∙_}
 use mathlib.Core.Bool.{Bool, true, false, cond}
-use mathlib.Core.List.{List, [], _∷_, _++_}
+use mathlib.Core.List.{List, []}
 use native.Mathlib.Omega.{arith}
-use lib.ListN.{length, getD, take, drop, length-drop}
-use lib.Seq.{drop-drop}
+use lib.ListN.{length}
 use lib.Dec.{ltb, eqb}
-use borrow.Author.Tests.{lt-ltb, le-ltb, eq-eqb, ne-eqb, eqb-true, eqb-false}
-use Rattle.sheet_spec.specs.Records.{firstOf, Sheet, row, end, broken, sheetFrom, sheetOf, isBroken}
+use borrow.Author.Tests.{lt-ltb, le-ltb, eq-eqb, ne-eqb}
+use Rattle.sheet_spec.specs.Records.{Sheet, row, end, broken}
 use Rattle.sheet_spec.specs.Counting.{settingOf, versionOf, beatsOf, betterOf, countingFrom, countingOf, startFrom, startOf}
 use Rattle.sheet_spec.specs.Compaction.{noneBeats, countsOf}
-use Rattle.sheet_spec.proofs.Walk.{at-rest, sheet-next}
 use Rattle.sheet_spec.proofs.Same.{less, mono, none-counting}
 
 -- where nothing beats what counted so far, it stays

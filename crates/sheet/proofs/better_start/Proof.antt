@@ -1,6 +1,5 @@
 use borrow.Author.Needs.{needs}
 use Rattle.sheet_spec.specs.Counting.{beatsOf}
-use borrow.Author.Tests.{lt-ltb, le-ltb, le-leb, lt-leb, eq-eqb, ne-eqb}
 use Rattle.sheet.proofs.better_start.Statement.{statement}
 use Rattle.sheet.proofs.better_start.Tie as tie
 use Rattle.sheet.proofs.better_start.Reads as reads

@@ -1,6 +1,5 @@
 use borrow.Author.Needs.{needs}
 use denote.Ref.{now}
-use native.Mathlib.Omega.{arith}
 use mathlib.Core.Path.{refl}
 use Rattle.sheet_spec.specs.declared.Source.the-variants.{Bench, House}
 use Rattle.sheet_spec.proofs.Found.{place-part, place-unset, place-refused}

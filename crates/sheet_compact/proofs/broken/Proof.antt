@@ -1,8 +1,7 @@
 use borrow.Author.Needs.{needs}
-use native.Mathlib.Omega.{arith}
 use denote.Ref.{now}
 use mathlib.Core.Path.{_≡_, refl, sym, ap, _∙_}
-use lib.ListN.{length, take, drop}
+use lib.ListN.{length}
 use Rattle.sheet_spec.specs.Records.{sheetOf, isBroken}
 use Rattle.sheet_spec.proofs.Walk.{sheet-end, sheet-broken, sheet-next}
 use Rattle.sheet_compact.proofs.broken.Statement.{statement}

@@ -1,8 +1,6 @@
 use borrow.Author.Needs.{needs}
-use native.Mathlib.Omega.{arith}
 use denote.Ref.{now}
-use mathlib.Core.Path.{_≡_, refl, sym, ap, _∙_}
-use lib.ListN.{length, take, drop}
+use lib.ListN.{length}
 use Rattle.sheet_compact.proofs.Leaves.{Writing, writing-first, writing-end, writing-room, writing-next}
 use Rattle.sheet_compact.proofs.write.Statement.{statement}
 use Rattle.sheet_compact.proofs.write.Tie as tie

@@ -1,6 +1,6 @@
 use borrow.Author.Needs.{needs}
 use Rattle.sheet_spec.specs.Counting.{beatsOf}
-use borrow.Author.Tests.{lt-ltb, le-ltb, le-leb, lt-leb, eq-eqb, ne-eqb}
+use borrow.Author.Tests.{lt-ltb, le-ltb, eq-eqb, ne-eqb}
 use Rattle.sheet_record.proofs.beats.Statement.{statement}
 use Rattle.sheet_record.proofs.beats.Tie as tie
 use Rattle.sheet_record.proofs.beats.Reads as reads

@@ -6,7 +6,7 @@ use lib.Seq.{length-take-le}
 use denote.Ref.{now}
 use Rattle.itemspec.proofs.RecordLaws.{whole-fits}
 use Rattle.sheet_spec.specs.Records.{firstOf}
-use borrow.Author.Tests.{lt-ltb, le-ltb, le-leb, lt-leb, eq-eqb, ne-eqb}
+use borrow.Author.Tests.{lt-ltb, le-ltb}
 use Rattle.sheet_record.proofs.first.Statement.{statement}
 use Rattle.sheet_record.proofs.first.Tie as tie
 use Rattle.sheet_record.proofs.first.Reads as reads

@@ -1,7 +1,7 @@
 use lib.Seq.{getD-drop}
 use borrow.Author.Needs.{needs}
 use Rattle.itemspec.specs.Kinds.{isKind}
-use borrow.Author.Tests.{lt-ltb, le-ltb, le-leb, lt-leb, eq-eqb, ne-eqb}
+use borrow.Author.Tests.{eq-eqb, ne-eqb}
 use Rattle.sheet_record.proofs.is_sv.Statement.{statement}
 use Rattle.sheet_record.proofs.is_sv.Tie as tie
 use Rattle.sheet_record.proofs.is_sv.Reads as reads
