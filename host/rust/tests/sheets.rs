@@ -6,7 +6,6 @@
 use std::fs;
 use std::path::Path;
 use std::process::Command;
-use std::time::{Duration, Instant};
 use swarmtempo::{
     compact, compact_into, settings, sheet_text, Setting, Sheet, SheetRefusal, Sheets,
 };
@@ -176,22 +175,6 @@ fn the_part_is_not_copied() {
     assert_eq!(sheets.get(258), None);
     assert_eq!(Sheets::new(&bench, &house[..9]).err(), Some(SheetRefusal::Broken));
     assert_eq!(Sheets::new(&[], &[]).expect("empty").get(0), None);
-}
-
-#[test]
-fn ten_thousand_records_take_less_than_a_second() {
-    let mut sheet = Vec::new();
-    for i in 0..10_000u16 {
-        let bytes = [i as u8; 64];
-        Setting { setting: i.wrapping_mul(7), version: 1, bytes: &bytes[..usize::from(i) % 65] }
-            .write(&mut sheet);
-    }
-    let start = Instant::now();
-    let out = compact(&sheet).expect("sound");
-    let took = start.elapsed();
-    assert_eq!(out, sheet);
-    println!("10,000 records: {} microseconds", took.as_micros());
-    assert!(took < Duration::from_secs(1));
 }
 
 #[test]
