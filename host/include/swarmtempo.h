@@ -67,6 +67,36 @@ uint8_t swarmtempo_fresh(uint8_t *image, size_t image_len);
 uint32_t swarmtempo_ticks_of_micros(uint32_t micros);
 
 /*
+ * Sheets of settings: a bench sheet before a house sheet, each a run of records of kind SV; either may
+ * be empty (a length of 0, the pointer not NULL). The two may be one buffer; no other buffers overlap.
+ */
+/* Bytes of a setting at most, and of the longest record. */
+#define SWARMTEMPO_SETTING_MAX 64
+#define SWARMTEMPO_SHEET_RECORD_MAX 71
+
+/* Where a setting's bytes are. */
+#define SWARMTEMPO_SHEET_NONE 0u  /* not set */
+#define SWARMTEMPO_SHEET_BENCH 1u /* in the bench sheet */
+#define SWARMTEMPO_SHEET_HOUSE 2u /* in the house sheet */
+
+/*
+ * Finds a setting's bytes: `*size` of them from `*start` on in the sheet that `*sheet` names. Returns 0, or
+ * 1 where either sheet is broken (a cut record, another kind, a length outside 5 to 69), whichever setting
+ * was asked. Where the setting is in neither sheet, and on a refusal, the three numbers are 0.
+ */
+uint8_t swarmtempo_sheet_get(const uint8_t *bench, size_t bench_len, const uint8_t *house, size_t house_len,
+                             uint16_t setting, uint8_t *sheet, uint64_t *start, uint64_t *size);
+
+/*
+ * Writes a sheet's counting records to `out`, one for each setting, in their old order; `*written` is their
+ * number of bytes, at most sheet_len. Every answer's bytes stay the same. Returns 0, or 1 where the sheet is
+ * broken, then 6 where out_len is too little; both write nothing, and `*written` is 0. Bytes past those
+ * written keep their contents. Takes 590 kB of stack.
+ */
+uint8_t swarmtempo_sheet_compact(const uint8_t *sheet, size_t sheet_len, uint8_t *out, size_t out_len,
+                                 uint64_t *written);
+
+/*
  * Writers of items. Each writes one record at `at`, which has room for SWARMTEMPO_ITEM_MAX bytes, and
  * returns its length in bytes. `wait` is in VIA ticks and passes before the item acts.
  */

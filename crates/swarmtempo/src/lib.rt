@@ -6,6 +6,8 @@ ghost use Rattle.image_spec.specs.Image.{imageLength, machineOf, validImage};
 ghost use Rattle.demand3.specs.Runs.{Run3};
 ghost use Rattle.units.specs.Units.{ticksOf};
 ghost use Rattle.entry_spec.specs.Call.{callOf, callImage, callAnswers, freshStop, freshImage};
+ghost use Rattle.sheet_spec.specs.Lookup.{sourceOf, placeOf, refusalOf, sheetNumber};
+ghost use Rattle.sheet_spec.specs.Compaction.{compactedOf, memoryOf, stopOf, writtenOf};
 use units::Micros;
 
 // The length of an image in bytes.
@@ -66,4 +68,34 @@ pub extern "C" fn swarmtempo_ticks_of_micros(micros: u32) -> u32
 {
     let t = units::ticks_of_micros(Micros(micros));
     t.0
+}
+
+// Where a setting's bytes stand: in the bench sheet (1) or the house sheet (2), from `start` on, `size` of them. 0, or 1 where either sheet is
+// broken; `sheet`, `start` and `size` are 0 then, and where the setting is in neither.
+#[no_mangle]
+pub extern "C" fn swarmtempo_sheet_get(
+    bench: &[u8],
+    house: &[u8],
+    setting: u16,
+    sheet: &mut u8,
+    start: &mut u64,
+    size: &mut u64,
+) -> u8
+    ensures { λ r. ⌜ r ≡ refusalOf (sourceOf (now (bench .entry)) (now (house .entry)) setting) ⌝ }
+    ensures { λ _. ⌜ now (sheet .exit) ≡ sheetNumber (sourceOf (now (bench .entry)) (now (house .entry)) setting) ⌝ }
+    ensures { λ _. ⌜ now (start .exit) ≡ placeOf (now (bench .entry)) (now (house .entry)) setting .start ⌝ }
+    ensures { λ _. ⌜ now (size .exit) ≡ placeOf (now (bench .entry)) (now (house .entry)) setting .size ⌝ }
+{
+    sheet_entry::get(bench, house, setting, sheet, start, size)
+}
+
+// Writes a sheet's counting records, one for each setting, in their old order. 0, or 1 where the sheet is broken, then 6 where the room is too
+// short; neither writes anything, and `written` is 0.
+#[no_mangle]
+pub extern "C" fn swarmtempo_sheet_compact(sheet: &[u8], out: &mut [u8], written: &mut u64) -> u8
+    ensures { λ r. ⌜ r ≡ stopOf (compactedOf (now (sheet .entry)) (length (now (out .entry)))) ⌝ }
+    ensures { λ _. ⌜ now (written .exit) ≡ writtenOf (compactedOf (now (sheet .entry)) (length (now (out .entry)))) ⌝ }
+    ensures { λ _. ⌜ now (out .exit) ≡ memoryOf (now (sheet .entry)) (now (out .entry)) ⌝ }
+{
+    sheet_entry::compact(sheet, out, written)
 }

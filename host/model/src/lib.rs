@@ -9,6 +9,7 @@ mod image;
 mod items;
 mod machine;
 mod run;
+pub mod sheet;
 mod via;
 
 pub use clock::{decode_command, Clock, Command, Phase, Store, Target, CELLS};

@@ -31,6 +31,8 @@ mod chunks;
 mod command;
 mod item;
 mod machine;
+pub mod sheet_text;
+mod sheets;
 mod state;
 mod sys;
 pub mod text;
@@ -43,4 +45,7 @@ pub use item::{
     TickCount, ViaTicks, TICKS_PER_SECOND,
 };
 pub use machine::{Machine, Run};
+pub use sheets::{
+    compact, compact_into, settings, Setting, Sheet, SheetRefusal, Sheets, SETTING_MAX,
+};
 pub use state::{DriveState, Phase, State, Strobe, Timer1, Timer2, Wires};

@@ -54,3 +54,59 @@ pub fn fresh(image: &mut [u8]) -> u8 {
     // SAFETY: a slice that lives through the call.
     unsafe { swarmtempo_fresh(image.as_mut_ptr(), image.len()) }
 }
+
+// Sheets of settings.
+extern "C" {
+    fn swarmtempo_sheet_get(
+        bench: *const c_uchar,
+        bench_len: usize,
+        house: *const c_uchar,
+        house_len: usize,
+        setting: u16,
+        sheet: *mut u8,
+        start: *mut u64,
+        size: *mut u64,
+    ) -> u8;
+    fn swarmtempo_sheet_compact(
+        sheet: *const c_uchar,
+        sheet_len: usize,
+        out: *mut c_uchar,
+        out_len: usize,
+        written: *mut u64,
+    ) -> u8;
+}
+
+/// The refusal's number, the sheet (0 none, 1 bench, 2 house), and where in it the bytes start and how many they are.
+pub fn sheet_get(bench: &[u8], house: &[u8], setting: u16) -> (u8, u8, usize, usize) {
+    let (mut sheet, mut start, mut size) = (0, 0, 0);
+    // SAFETY: two slices and three numbers that live through the call and do not overlap.
+    let refusal = unsafe {
+        swarmtempo_sheet_get(
+            bench.as_ptr(),
+            bench.len(),
+            house.as_ptr(),
+            house.len(),
+            setting,
+            &mut sheet,
+            &mut start,
+            &mut size,
+        )
+    };
+    (refusal, sheet, start as usize, size as usize)
+}
+
+/// The refusal's number and the bytes written.
+pub fn sheet_compact(sheet: &[u8], out: &mut [u8]) -> (u8, usize) {
+    let mut written = 0;
+    // SAFETY: two slices and a number that live through the call and do not overlap.
+    let refusal = unsafe {
+        swarmtempo_sheet_compact(
+            sheet.as_ptr(),
+            sheet.len(),
+            out.as_mut_ptr(),
+            out.len(),
+            &mut written,
+        )
+    };
+    (refusal, written as usize)
+}

@@ -3,6 +3,7 @@
 mod bench;
 mod files;
 mod run;
+mod sheet;
 mod source;
 mod table;
 mod vcd;
@@ -27,6 +28,13 @@ swarmtempo: lists and state images of the board
       --room gives the answers so many bytes in all; without it they have all they need.
   swarmtempo image FILE               a state image in words
   swarmtempo bench [--records N]      records a second, and the ratio to a plain model
+  swarmtempo sheet get SETTING [--bench SHEET] [--house SHEET] [--text]
+  swarmtempo sheet list [SHEET] [-o OUT] [--text]
+  swarmtempo sheet make [TEXT] [-o OUT]
+  swarmtempo sheet compact [SHEET] [-o OUT] [--room BYTES] [--text]
+      sheets of settings, one record a line as text: 7 3 \"north\" (setting, version, bytes).
+      make is text to a sheet, list a sheet to text; compact writes the counting records alone.
+      With --text the sheets named are text. Exit status: 1 a sheet is broken, 2 not set, 6 no room.
   swarmtempo help | version
 
 A file named - is standard input or output; asm and disasm take them where no file is named.
@@ -204,6 +212,7 @@ fn command(mut words: Vec<String>) -> Result<u8, Failure> {
             bench::bench(records as usize)?;
             Ok(0)
         }
+        "sheet" => sheet::sheet(words),
         "help" | "--help" | "-h" => files::print(HELP).map(|()| 0),
         "version" | "--version" => {
             files::print(concat!("swarmtempo ", env!("CARGO_PKG_VERSION"), "\n")).map(|()| 0)
