@@ -155,10 +155,7 @@ fn without_oldest(k: Keyboard) -> Keyboard
 fn with_left(k: Keyboard, left: u32) -> Keyboard
     ensures { λ r. ⌜ r ≡ withLeft k left ⌝ }
 {
-    Keyboard {
-        left: left,
-        ..k
-    }
+    Keyboard { left: left, ..k }
 }
 
 // The oldest code answers, and is dropped.
