@@ -8,6 +8,8 @@ ghost use Rattle.units.specs.Units.{ticksOf};
 ghost use Rattle.call.specs.Call.{callOf, callImage, callAnswers, freshStop, freshImage};
 use units::Micros;
 
+pub mod keyboard_calls;
+
 // The length of an image in bytes.
 #[no_mangle]
 pub extern "C" fn swarmtempo_image_len() -> u64
