@@ -35,9 +35,9 @@ Left f s stop answered answer image =
     (stop ≡ refusalOf (callOf f s .response))
     × ((answered ≡ answeredOf (callOf f s .response)) × ((answer ≡ byteOf (callOf f s .response)) × (image ≡ callImage f s)))
 
-pub refused : (f : Keyboard → Stepped) (s : List ℕ) → validImage s ≡ false → Left f s 7 0 0 s
+pub refused : (f : Keyboard → Stepped) (s : List ℕ) (stop answered answer : ℕ) → validImage s ≡ false → stop ≡ 7 → answered ≡ 0 → answer ≡ 0 → Left f s stop answered answer s
 unfolding callOf callImage refusalOf answeredOf answersOf byteOf
-refused f s h = simp h (refl, (refl, (refl, refl)))
+refused f s stop answered answer h a b c = simp h (a, (b, (c, refl)))
 
 pub done : (f : Keyboard → Stepped) (s : List ℕ) (k : Keyboard) (t : Stepped) (stop answered answer : ℕ) (image : List ℕ) → validImage s ≡ true → k ≡ keyboardOf s → t ≡ f k
     → stop ≡ refusalOf (t .response) → answered ≡ answeredOf (t .response) → answer ≡ byteOf (t .response) → image ≡ imageOf (t .keyboard) → Left f s stop answered answer image

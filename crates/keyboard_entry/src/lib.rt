@@ -36,6 +36,17 @@ fn leave(image: &mut [u8], s: Stepped, answered: &mut u8, answer: &mut u8) -> u8
     keyboard::refusal(response)
 }
 
+// No accepted keyboard has the image.
+fn refuse(answered: &mut u8, answer: &mut u8) -> u8
+    ensures { λ r. ⌜ r ≡ 7 ⌝ }
+    ensures { λ _. ⌜ now (answered .exit) ≡ 0 ⌝ }
+    ensures { λ _. ⌜ now (answer .exit) ≡ 0 ⌝ }
+{
+    *answered = 0;
+    *answer = 0;
+    7
+}
+
 // A command byte. 0, or 7 where no accepted keyboard has this image.
 pub fn command(image: &mut [u8], byte: u8, answered: &mut u8, answer: &mut u8) -> u8
     ensures { λ r. ⌜ r ≡ refusalOf (callOf (commandOf byte) (now (image .entry)) .response) ⌝ }
@@ -51,9 +62,7 @@ pub fn command(image: &mut [u8], byte: u8, answered: &mut u8, answer: &mut u8) -
             answer,
         );
     }
-    *answered = 0;
-    *answer = 0;
-    7
+    refuse(answered, answer)
 }
 
 // A key code. 0, 7, or 11 where eight codes are held already.
@@ -71,9 +80,7 @@ pub fn key(image: &mut [u8], code: u8, answered: &mut u8, answer: &mut u8) -> u8
             answer,
         );
     }
-    *answered = 0;
-    *answer = 0;
-    7
+    refuse(answered, answer)
 }
 
 // A wait in VIA ticks. 0 or 7.
@@ -91,7 +98,5 @@ pub fn wait(image: &mut [u8], ticks: u32, answered: &mut u8, answer: &mut u8) ->
             answer,
         );
     }
-    *answered = 0;
-    *answer = 0;
-    7
+    refuse(answered, answer)
 }
