@@ -30,6 +30,7 @@ mod answer;
 mod chunks;
 mod command;
 mod item;
+mod keyboard;
 mod machine;
 mod state;
 mod sys;
@@ -42,5 +43,6 @@ pub use item::{
     Address, DiskLine, Drive, InLine, Item, List, Micros, Register, Seconds, SenseRegister,
     TickCount, ViaTicks, TICKS_PER_SECOND,
 };
+pub use keyboard::{Keyboard, KeyboardFull, KeyboardState, INQUIRY_TICKS};
 pub use machine::{Machine, Run};
 pub use state::{DriveState, Phase, State, Strobe, Timer1, Timer2, Wires};
