@@ -10,20 +10,20 @@ use Rattle.keyboard.specs.declared.Keyboard.{Keyboard}
 use Rattle.keyboard.specs.declared.Stepped.{Stepped}
 use Rattle.keyboard.specs.declared.Response.the-variants.{Code, OutOfRange}
 use Rattle.keyboard.specs.State.{codesOf, withCodes, acceptedOf}
-use Rattle.keyboard.specs.Steps.{to, checked, oldestElse, keyBy}
+use Rattle.keyboard.specs.Steps.{respond, ifAccepted, oldestElse, keyBy}
 use Rattle.keyboard.proofs.Codes.{oldest, none-held}
 
-pub passed : (k : Keyboard) (s : Stepped) → acceptedOf k ≡ true → checked k s ≡ s
-passed k s h = ap (λ (b : Bool). cond b s (to k OutOfRange)) h
+pub passed : (k : Keyboard) (s : Stepped) → acceptedOf k ≡ true → ifAccepted k s ≡ s
+passed k s h = ap (λ (b : Bool). cond b s (respond k OutOfRange)) h
 
-pub failed : (k : Keyboard) (s : Stepped) → acceptedOf k ≡ false → checked k s ≡ to k OutOfRange
-failed k s h = ap (λ (b : Bool). cond b s (to k OutOfRange)) h
+pub failed : (k : Keyboard) (s : Stepped) → acceptedOf k ≡ false → ifAccepted k s ≡ respond k OutOfRange
+failed k s h = ap (λ (b : Bool). cond b s (respond k OutOfRange)) h
 
 pub none-there : (k : Keyboard) (other : Stepped) → k .held ≡ 0 → oldestElse other (codesOf k) k ≡ other
 none-there k other e = ap (λ (cs : List ℕ). oldestElse other cs k) (none-held k e)
 
 pub oldest-there : (k : Keyboard) (other : Stepped) → length (k .codes) ≡ 8 → 0 < k .held
-    → oldestElse other (codesOf k) k ≡ to (withCodes k (drop 1 (codesOf k))) (Code (getD (k .codes) 0 0))
+    → oldestElse other (codesOf k) k ≡ respond (withCodes k (drop 1 (codesOf k))) (Code (getD (k .codes) 0 0))
 oldest-there k other l h = ap (λ (cs : List ℕ). oldestElse other cs k) (oldest k l h)
 
 -- a key, by what was tested

@@ -7,7 +7,7 @@ ghost use lib.ListN.{getD, drop};
 ghost use Rattle.keyboard.specs.State.{codesOf, withCodes, withLeft, freshKeyboard, allZero, acceptedOf};
 ghost use Rattle.keyboard.specs.Numbers.{refusalOf, answersOf, byteOf};
 ghost use Rattle.keyboard.specs.declared.Response.the-variants.{Code, OutOfRange};
-ghost use Rattle.keyboard.specs.Steps.{to, instant, inquiry, answeredTo, commandOf, keyOf, waitOf};
+ghost use Rattle.keyboard.specs.Steps.{respond, instant, inquiry, answerTo, commandOf, keyOf, waitOf};
 
 pub struct Keyboard {
     // the byte that Model answers, any
@@ -162,7 +162,7 @@ fn with_left(k: Keyboard, left: u32) -> Keyboard
 fn answer_oldest(k: Keyboard) -> Stepped
     requires { ⌜ acceptedOf k ≡ true ⌝ }
     requires { ⌜ 0 < k .held ⌝ }
-    ensures { λ r. ⌜ r ≡ to (withCodes k (drop 1 (codesOf k))) (Code (getD (k .codes) 0 0)) ⌝ }
+    ensures { λ r. ⌜ r ≡ respond (withCodes k (drop 1 (codesOf k))) (Code (getD (k .codes) 0 0)) ⌝ }
 {
     let codes = k.codes;
     Stepped {
@@ -202,7 +202,7 @@ fn answer_inquiry(k: Keyboard) -> Stepped
 // A command byte, no Inquiry waiting.
 fn answer(k: Keyboard, byte: u8) -> Stepped
     requires { ⌜ acceptedOf k ≡ true ⌝ }
-    ensures { λ r. ⌜ r ≡ answeredTo byte k ⌝ }
+    ensures { λ r. ⌜ r ≡ answerTo byte k ⌝ }
 {
     if byte == 0x10 {
         return answer_inquiry(k);
@@ -230,7 +230,7 @@ fn answer(k: Keyboard, byte: u8) -> Stepped
 
 // A state outside its ranges.
 fn out_of_range(k: Keyboard) -> Stepped
-    ensures { λ r. ⌜ r ≡ to k OutOfRange ⌝ }
+    ensures { λ r. ⌜ r ≡ respond k OutOfRange ⌝ }
 {
     Stepped {
         keyboard: k,

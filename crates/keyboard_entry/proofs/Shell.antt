@@ -13,9 +13,9 @@ use Rattle.keyboard.specs.declared.Stepped.{Stepped}
 use Rattle.keyboard.specs.declared.Response.{Response}
 use Rattle.keyboard.specs.declared.Response.the-variants.{OutOfRange}
 use Rattle.keyboard.specs.Numbers.{refusalOf}
-use Rattle.keyboard.specs.Steps.{to, waitOf}
+use Rattle.keyboard.specs.Steps.{respond, waitOf}
 use Rattle.keyboard.proofs.Codes.{parts}
-use Rattle.keyboard_history.specs.Events.{Event, command, key, wait, taken, orElse, both}
+use Rattle.keyboard_history.specs.Events.{Event, command, key, wait, stepOf, orElse}
 use Rattle.keyboard_history.proofs.Cases.{Good, fair}
 use Rattle.keyboard_history.proofs.Waits.{waits-add, refusal-keeps}
 use Rattle.keyboard_image.specs.Image.{imageOf, keyboardOf, validImage}
@@ -34,11 +34,11 @@ good s v =
 -- on a valid image a call is the step, on others nothing
 called : (f : Keyboard → Stepped) (s : List ℕ) → validImage s ≡ true → callOf f s ≡ f (keyboardOf s)
 unfolding callOf
-called f s v = ap (λ (b : Bool). cond b (f (keyboardOf s)) (to (keyboardOf s) OutOfRange)) v
+called f s v = ap (λ (b : Bool). cond b (f (keyboardOf s)) (respond (keyboardOf s) OutOfRange)) v
 
-uncalled : (f : Keyboard → Stepped) (s : List ℕ) → validImage s ≡ false → callOf f s ≡ to (keyboardOf s) OutOfRange
+uncalled : (f : Keyboard → Stepped) (s : List ℕ) → validImage s ≡ false → callOf f s ≡ respond (keyboardOf s) OutOfRange
 unfolding callOf
-uncalled f s v = ap (λ (b : Bool). cond b (f (keyboardOf s)) (to (keyboardOf s) OutOfRange)) v
+uncalled f s v = ap (λ (b : Bool). cond b (f (keyboardOf s)) (respond (keyboardOf s) OutOfRange)) v
 
 image-of : (f : Keyboard → Stepped) (s : List ℕ) → validImage s ≡ true → callImage f s ≡ imageOf (f (keyboardOf s) .keyboard)
 unfolding callImage
@@ -49,31 +49,31 @@ unfolding callImage
 image-kept f s v = ap (λ (b : Bool). cond b (imageOf (callOf f s .keyboard)) s) v
 
 -- An image that is valid before a call is valid after it.
-pub valid-stays : (e : Event) (s : List ℕ) → validImage s ≡ true → validImage (callImage (taken e) s) ≡ true
+pub valid-stays : (e : Event) (s : List ℕ) → validImage s ≡ true → validImage (callImage (stepOf e) s) ≡ true
 valid-stays e s v =
     let g = fair e (keyboardOf s) (good s v) .good in
-    ap validImage (image-of (taken e) s v) ∙ saved-valid (taken e (keyboardOf s) .keyboard) (g .eight) (g .ranges)
+    ap validImage (image-of (stepOf e) s v) ∙ saved-valid (stepOf e (keyboardOf s) .keyboard) (g .eight) (g .ranges)
 
 -- A call that is refused leaves the bytes of the image.
-pub refusal-leaves : (e : Event) (s : List ℕ) → Bytes s → eqb (refusalOf (callOf (taken e) s .response)) 0 ≡ false → callImage (taken e) s ≡ s
+pub refusal-leaves : (e : Event) (s : List ℕ) → Bytes s → eqb (refusalOf (callOf (stepOf e) s .response)) 0 ≡ false → callImage (stepOf e) s ≡ s
 refusal-leaves e s b r = by (validImage s) refl
   where
-    by : (v : Bool) → validImage s ≡ v → callImage (taken e) s ≡ s
+    by : (v : Bool) → validImage s ≡ v → callImage (stepOf e) s ≡ s
     by true v =
-        let n = sym (ap (λ (t : Stepped). eqb (refusalOf (t .response)) 0) (called (taken e) s v)) ∙ r in
-        image-of (taken e) s v ∙ ap imageOf (refusal-keeps e (keyboardOf s) n) ∙ saved-restored s b v
-    by false v = image-kept (taken e) s v
+        let n = sym (ap (λ (t : Stepped). eqb (refusalOf (t .response)) 0) (called (stepOf e) s v)) ∙ r in
+        image-of (stepOf e) s v ∙ ap imageOf (refusal-keeps e (keyboardOf s) n) ∙ saved-restored s b v
+    by false v = image-kept (stepOf e) s v
 
 -- A wait of a + b ticks leaves what one of a and then one of b leave, and says what these say together.
 again : (a : ℕ) (s : List ℕ) → validImage s ≡ true → keyboardOf (callImage (waitOf a) s) ≡ waitOf a (keyboardOf s) .keyboard
-unfolding taken
+unfolding stepOf
 again a s v =
     let g = fair (wait a) (keyboardOf s) (good s v) .good in
     let n : waitOf a (keyboardOf s) .keyboard .left ≤ 195840 = parts _ (g .ranges) .soon in
     ap keyboardOf (image-of (waitOf a) s v) ∙ restore-saved (waitOf a (keyboardOf s) .keyboard) (g .eight) (omega arith)
 
 stays : (a : ℕ) (s : List ℕ) → validImage s ≡ true → validImage (callImage (waitOf a) s) ≡ true
-unfolding taken
+unfolding stepOf
 stays a s v = valid-stays (wait a) s v
 
 pub waits-cut : (a b : ℕ) (s : List ℕ)

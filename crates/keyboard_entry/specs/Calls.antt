@@ -11,12 +11,12 @@ use Rattle.keyboard.specs.declared.Response.{Response}
 use Rattle.keyboard.specs.declared.Response.the-variants.{OutOfRange}
 use Rattle.keyboard.specs.State.{freshKeyboard}
 use Rattle.keyboard.specs.Numbers.{answersOf}
-use Rattle.keyboard.specs.Steps.{to}
+use Rattle.keyboard.specs.Steps.{respond}
 use Rattle.keyboard_image.specs.Image.{imageLength, imageOf, keyboardOf, validImage}
 
 -- A step on a lent image: "a state outside its ranges in docs/ is 7 and checked first"; bytes that are no image are none in its ranges.
 unfoldable pub callOf : (Keyboard → Stepped) → List ℕ → Stepped
-callOf step image = cond (validImage image) (step (keyboardOf image)) (to (keyboardOf image) OutOfRange)
+callOf step image = cond (validImage image) (step (keyboardOf image)) (respond (keyboardOf image) OutOfRange)
 
 -- The image of the keyboard after it; a refusal leaves the bytes as they are.
 unfoldable pub callImage : (Keyboard → Stepped) → List ℕ → List ℕ

@@ -14,11 +14,11 @@ use Rattle.keyboard.specs.declared.Response.{Response}
 use Rattle.keyboard.specs.declared.Response.the-variants.{Code, Null, Model, Ack, Nothing, Full, OutOfRange}
 use Rattle.keyboard.specs.Numbers.{refusalOf}
 use Rattle.keyboard.specs.State.{codesOf, places, withCodes, withLeft, acceptedOf}
-use Rattle.keyboard.specs.Steps.{to, oldestElse, instant, inquiry, answeredTo, commandOf, keyBy, keyOf, ticks, waitOf}
+use Rattle.keyboard.specs.Steps.{respond, oldestElse, instant, inquiry, answerTo, commandOf, keyBy, keyOf, ticks, waitOf}
 use Rattle.keyboard.proofs.Codes.{parts, whole, codes-back, none-held, ended-accepted, codes-accepted}
 use Rattle.keyboard.proofs.Ticks.{idle, counts, ends}
 use Rattle.keyboard.proofs.Checked.{passed}
-use Rattle.keyboard_history.specs.Events.{Event, command, key, wait, taken, cameBy, wentBy}
+use Rattle.keyboard_history.specs.Events.{Event, command, key, wait, stepOf, codeIn, codeOut}
 
 -- a keyboard in its ranges, with the eight places that its type has
 pub record Good (k : Keyboard) : Type 0 where
@@ -28,7 +28,7 @@ pub record Good (k : Keyboard) : Type 0 where
 -- what one event on such a keyboard comes to
 pub record Fair (e : Event) (k : Keyboard) (s : Stepped) : Type 0 where
   pub good : Good (s .keyboard)
-  pub order : codesOf k ++ cameBy e (s .response) ≡ wentBy (s .response) ++ codesOf (s .keyboard)
+  pub order : codesOf k ++ codeIn e (s .response) ≡ codeOut (s .response) ++ codesOf (s .keyboard)
 
 -- ---- lists
 
@@ -64,20 +64,20 @@ eight-places cs h =
 -- ---- a wait: how many ticks are left, and whether the Null comes
 
 waited-by : (n : ℕ) (k : Keyboard) (a b : Bool) → eqb (k .left) 0 ≡ a → leb (k .left) n ≡ b
-    → ticks n (to k Nothing) ≡ to (withLeft k (k .left - n)) (cond (not a && b) Null Nothing)
+    → ticks n (respond k Nothing) ≡ respond (withLeft k (k .left - n)) (cond (not a && b) Null Nothing)
 waited-by n k true b e f =
     let z : k .left ≡ 0 = eqb-true _ _ e in
     let m : k .left ≡ k .left - n = omega arith in
-    idle n (to k Nothing) z ∙ ap (λ (l : ℕ). to (withLeft k l) Nothing) m
+    idle n (respond k Nothing) z ∙ ap (λ (l : ℕ). respond (withLeft k l) Nothing) m
 waited-by n k false true e f =
     let z : k .left ≡ 0 → ⊥ = eqb-false _ _ e in
     let h : k .left ≤ n = leb-true _ _ f in
     let m : 0 ≡ k .left - n = omega arith in
-    ends n (to k Nothing) (omega (arith, z)) h ∙ ap (λ (l : ℕ). to (withLeft k l) Null) m
-waited-by n k false false e f = counts n (to k Nothing) (leb-false _ _ f)
+    ends n (respond k Nothing) (omega (arith, z)) h ∙ ap (λ (l : ℕ). respond (withLeft k l) Null) m
+waited-by n k false false e f = counts n (respond k Nothing) (leb-false _ _ f)
 
 pub wait-is : (n : ℕ) (k : Keyboard) → acceptedOf k ≡ true
-    → waitOf n k ≡ to (withLeft k (k .left - n)) (cond (not (eqb (k .left) 0) && leb (k .left) n) Null Nothing)
+    → waitOf n k ≡ respond (withLeft k (k .left - n)) (cond (not (eqb (k .left) 0) && leb (k .left) n) Null Nothing)
 unfolding waitOf
 wait-is n k a = passed k _ a ∙ waited-by n k _ _ refl refl
 
@@ -89,7 +89,7 @@ still-alone a h n false e p = ap (λ (x : Bool). eqb (a - n) 0 || x) p ∙ or-tr
     or-true true = refl
     or-true false = refl
 
-no-code : (b : Bool) → wentBy (cond b Null Nothing) ≡ []
+no-code : (b : Bool) → codeOut (cond b Null Nothing) ≡ []
 no-code true = refl
 no-code false = refl
 
@@ -99,7 +99,7 @@ waited-accepted n k a =
     let m : k .left - n ≤ 195840 = omega (arith, p .soon) in
     whole (withLeft k (k .left - n)) (record { few = p .few; unused = p .unused; soon = m; alone = still-alone (k .left) (k .held) n _ refl (p .alone) })
 
-fair-wait-by : (n : ℕ) (k : Keyboard) (b : Bool) → Good k → Fair (wait n) k (to (withLeft k (k .left - n)) (cond b Null Nothing))
+fair-wait-by : (n : ℕ) (k : Keyboard) (b : Bool) → Good k → Fair (wait n) k (respond (withLeft k (k .left - n)) (cond b Null Nothing))
 unfolding codesOf
 fair-wait-by n k b g =
     record {
@@ -127,10 +127,10 @@ fair-oldest b k (c ∷ cs) other g z e f =
       order = append-nil (codesOf k) ∙ e ∙ ap (λ (r : List ℕ). c ∷ r) (sym (codes-back k cs));
     }
 
-fair-same : (b : ℕ) (k : Keyboard) (r : Response) → Good k → wentBy r ≡ [] → Fair (command b) k (to k r)
+fair-same : (b : ℕ) (k : Keyboard) (r : Response) → Good k → codeOut r ≡ [] → Fair (command b) k (respond k r)
 fair-same b k r g e = record { good = g; order = append-nil (codesOf k) ∙ ap (λ (cs : List ℕ). cs ++ codesOf k) (sym e) }
 
-waiting : (b : ℕ) (k : Keyboard) → Good k → codesOf k ≡ [] → Fair (command b) k (to (withLeft k 195840) Nothing)
+waiting : (b : ℕ) (k : Keyboard) → Good k → codesOf k ≡ [] → Fair (command b) k (respond (withLeft k 195840) Nothing)
 unfolding codesOf
 waiting b k g e =
     let p = parts k (g .ranges) in
@@ -140,8 +140,8 @@ waiting b k g e =
       order = append-nil (codesOf k);
     }
 
-fair-answer : (b : ℕ) (k : Keyboard) → Good k → k .left ≡ 0 → Fair (command b) k (answeredTo b k)
-unfolding answeredTo inquiry instant
+fair-answer : (b : ℕ) (k : Keyboard) → Good k → k .left ≡ 0 → Fair (command b) k (answerTo b k)
+unfolding answerTo inquiry instant
 fair-answer b k g z =
     fair-cond (command b) k (eqb b 16) _ _ (fair-oldest b k (codesOf k) _ g z refl (λ e. waiting b k g e))
     (fair-cond (command b) k (eqb b 20) _ _ (fair-oldest b k (codesOf k) _ g z refl (λ e. fair-same b k Null g refl))
@@ -152,7 +152,7 @@ fair-command : (b : ℕ) (k : Keyboard) → Good k → Fair (command b) k (comma
 unfolding commandOf codesOf
 fair-command b k g =
     let f = fair-answer b (withLeft k 0) (record { ranges = ended-accepted k (g .ranges); eight = g .eight }) refl in
-    rw (passed k (answeredTo b (withLeft k 0)) (g .ranges)) (record { good = f .good; order = f .order })
+    rw (passed k (answerTo b (withLeft k 0)) (g .ranges)) (record { good = f .good; order = f .order })
 
 -- ---- a key
 
@@ -190,8 +190,8 @@ fair-key c k g = rw (passed k (keyBy (eqb (k .left) 0) (eqb (k .held) 8) c k) (g
 
 -- ---- any event
 
-pub fair : (e : Event) (k : Keyboard) → Good k → Fair e k (taken e k)
-unfolding taken
+pub fair : (e : Event) (k : Keyboard) → Good k → Fair e k (stepOf e k)
+unfolding stepOf
 fair (command b) k g = fair-command b k g
 fair (key c) k g = fair-key c k g
 fair (wait n) k g = fair-wait n k g

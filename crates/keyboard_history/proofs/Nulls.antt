@@ -12,11 +12,11 @@ use Rattle.keyboard.specs.declared.Stepped.{Stepped}
 use Rattle.keyboard.specs.declared.Response.{Response}
 use Rattle.keyboard.specs.declared.Response.the-variants.{Code, Null, Model, Ack, Nothing, Full, OutOfRange}
 use Rattle.keyboard.specs.State.{codesOf, withCodes, withLeft, acceptedOf}
-use Rattle.keyboard.specs.Steps.{to, oldestElse, instant, inquiry, answeredTo, commandOf, keyBy, keyOf, waitOf}
+use Rattle.keyboard.specs.Steps.{respond, oldestElse, instant, inquiry, answerTo, commandOf, keyBy, keyOf, waitOf}
 use Rattle.keyboard.proofs.Codes.{parts}
 use Rattle.keyboard.proofs.Checked.{passed}
-use Rattle.keyboard_history.specs.Events.{Event, command, key, wait, taken, after, responseTo}
-use Rattle.keyboard_history.specs.Nulls.{isNull, none, asked, since, nullAt}
+use Rattle.keyboard_history.specs.Events.{Event, command, key, wait, stepOf, keyboardAfter, responseTo}
+use Rattle.keyboard_history.specs.Nulls.{isNull, none, inquiryOpen, ticksSince, nullAt}
 use Rattle.keyboard_history.proofs.Cases.{Good, wait-is}
 use Rattle.keyboard_history.proofs.Order.{good-after}
 
@@ -25,11 +25,11 @@ use Rattle.keyboard_history.proofs.Order.{good-after}
 -- a command, by its tests and the codes held, with no Inquiry waiting
 abbrev pub answered : Bool → Bool → Bool → Bool → List ℕ → Keyboard → Stepped
 answered i t m s cs k =
-    cond i (oldestElse (to (withLeft k 195840) Nothing) cs k)
-    (cond t (oldestElse (to k Null) cs k)
-    (cond m (to k (Model (k .model)))
-    (cond s (to k Ack)
-    (to k Nothing))))
+    cond i (oldestElse (respond (withLeft k 195840) Nothing) cs k)
+    (cond t (oldestElse (respond k Null) cs k)
+    (cond m (respond k (Model (k .model)))
+    (cond s (respond k Ack)
+    (respond k Nothing))))
 
 left-by : (i t m s : Bool) (cs : List ℕ) (k : Keyboard) → k .left ≡ 0 → answered i t m s cs k .keyboard .left ≡ cond (i && none cs) 195840 0
 left-by true t m s [] k e = refl
@@ -55,14 +55,14 @@ unfolding codesOf
 ended-codes k = refl
 
 command-left : (b : ℕ) (k : Keyboard) → acceptedOf k ≡ true → commandOf b k .keyboard .left ≡ cond (eqb b 16 && none (codesOf k)) 195840 0
-unfolding commandOf answeredTo inquiry instant
+unfolding commandOf answerTo inquiry instant
 command-left b k a =
     ap (λ (s : Stepped). s .keyboard .left) (passed k (answered (eqb b 16) (eqb b 20) (eqb b 22) (eqb b 54) (codesOf (withLeft k 0)) (withLeft k 0)) a)
     ∙ left-by (eqb b 16) (eqb b 20) (eqb b 22) (eqb b 54) (codesOf (withLeft k 0)) (withLeft k 0) refl
     ∙ ap (λ (cs : List ℕ). cond (eqb b 16 && none cs) 195840 0) (ended-codes k)
 
 command-null : (b : ℕ) (k : Keyboard) → acceptedOf k ≡ true → isNull (commandOf b k .response) ≡ (eqb b 20 && none (codesOf k))
-unfolding commandOf answeredTo inquiry instant
+unfolding commandOf answerTo inquiry instant
 command-null b k a =
     let apart : eqb b 16 ≡ true → eqb b 20 ≡ false = λ h. let e : b ≡ 16 = eqb-true _ _ h in ne-eqb b 20 (λ f. omega arith) in
     ap (λ (s : Stepped). isNull (s .response)) (passed k (answered (eqb b 16) (eqb b 20) (eqb b 22) (eqb b 54) (codesOf (withLeft k 0)) (withLeft k 0)) a)
@@ -88,15 +88,15 @@ less : (a : Bool) (s n : ℕ) → cond a (195840 - s) 0 - n ≡ cond a (195840 -
 less true s n = omega arith
 less false s n = omega arith
 
-pub left-is : (k : Keyboard) (es : List Event) → Good k → after k es .left ≡ cond (asked k es) (195840 - since k es) 0
-unfolding after taken asked since
+pub left-is : (k : Keyboard) (es : List Event) → Good k → keyboardAfter k es .left ≡ cond (inquiryOpen k es) (195840 - ticksSince k es) 0
+unfolding keyboardAfter stepOf inquiryOpen ticksSince
 left-is k [] g = start-left k _ (parts k (g .ranges) .soon) refl
-left-is k (command b ∷ es) g = command-left b (after k es) (good-after k es g .ranges)
-left-is k (key c ∷ es) g = key-is c (after k es) (good-after k es g .ranges) .0
+left-is k (command b ∷ es) g = command-left b (keyboardAfter k es) (good-after k es g .ranges)
+left-is k (key c ∷ es) g = key-is c (keyboardAfter k es) (good-after k es g .ranges) .0
 left-is k (wait n ∷ es) g =
-    ap (λ (s : Stepped). s .keyboard .left) (wait-is n (after k es) (good-after k es g .ranges))
+    ap (λ (s : Stepped). s .keyboard .left) (wait-is n (keyboardAfter k es) (good-after k es g .ranges))
     ∙ ap (λ (l : ℕ). l - n) (left-is k es g)
-    ∙ less (asked k es) (since k es) n
+    ∙ less (inquiryOpen k es) (ticksSince k es) n
 
 -- ---- the theorem
 
@@ -122,11 +122,11 @@ reached true s n = by (ltb s 195840) (leb 195840 (s + n)) refl refl
         simp (eq-eqb (195840 - s) 0 (omega arith))
 
 pub null-exactly : (e : Event) (k : Keyboard) (es : List Event) → Good k → isNull (responseTo e k es) ≡ nullAt e k es
-unfolding taken nullAt
-null-exactly (command b) k es g = command-null b (after k es) (good-after k es g .ranges)
-null-exactly (key c) k es g = key-is c (after k es) (good-after k es g .ranges) .1
+unfolding stepOf nullAt
+null-exactly (command b) k es g = command-null b (keyboardAfter k es) (good-after k es g .ranges)
+null-exactly (key c) k es g = key-is c (keyboardAfter k es) (good-after k es g .ranges) .1
 null-exactly (wait n) k es g =
-    ap (λ (s : Stepped). isNull (s .response)) (wait-is n (after k es) (good-after k es g .ranges))
-    ∙ is-null (not (eqb (after k es .left) 0) && leb (after k es .left) n)
+    ap (λ (s : Stepped). isNull (s .response)) (wait-is n (keyboardAfter k es) (good-after k es g .ranges))
+    ∙ is-null (not (eqb (keyboardAfter k es .left) 0) && leb (keyboardAfter k es .left) n)
     ∙ ap (λ (l : ℕ). not (eqb l 0) && leb l n) (left-is k es g)
-    ∙ reached (asked k es) (since k es) n
+    ∙ reached (inquiryOpen k es) (ticksSince k es) n

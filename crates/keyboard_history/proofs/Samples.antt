@@ -7,14 +7,14 @@ use Rattle.keyboard.specs.declared.Response.{Response}
 use Rattle.keyboard.specs.declared.Response.the-variants.{Code, Null, Model, Ack, Nothing, Full, OutOfRange}
 use Rattle.keyboard.specs.Numbers.{refusalOf, answersOf, byteOf}
 use Rattle.keyboard.specs.State.{codesOf, places, freshKeyboard, allZero, acceptedOf}
-use Rattle.keyboard.specs.Steps.{instant, inquiry, answeredTo, commandOf, keyOf, ticks, waitOf}
-use Rattle.keyboard_history.specs.Events.{Event, command, key, wait, taken, after, responses}
+use Rattle.keyboard.specs.Steps.{instant, inquiry, answerTo, commandOf, keyOf, ticks, waitOf}
+use Rattle.keyboard_history.specs.Events.{Event, command, key, wait, stepOf, keyboardAfter, responses}
 
 abbrev said : Keyboard → List Event → List Response
 said k es = reverse (responses k (reverse es))
 
 abbrev left : Keyboard → List Event → Keyboard
-left k es = after k (reverse es)
+left k es = keyboardAfter k (reverse es)
 
 -- A keyboard with these codes in its places, and so many VIA ticks left.
 abbrev with : ℕ → ℕ → ℕ → ℕ → Keyboard
@@ -52,7 +52,7 @@ pub record Samples : Type 0 where
   pub numbers : refusalOf Full ∷ refusalOf OutOfRange ∷ byteOf Null ∷ byteOf Ack ∷ byteOf (Code 51) ∷ byteOf (Model 11) ∷ [] ≡ 11 ∷ 7 ∷ 123 ∷ 125 ∷ 51 ∷ 11 ∷ []
 
 pub samples : Samples
-unfolding refusalOf byteOf codesOf places allZero acceptedOf instant inquiry answeredTo commandOf keyOf ticks waitOf taken after responses
+unfolding refusalOf byteOf codesOf places allZero acceptedOf instant inquiry answerTo commandOf keyOf ticks waitOf stepOf keyboardAfter responses
 samples =
     record {
       oldest = refl;

@@ -13,9 +13,9 @@ use Rattle.keyboard.specs.declared.Response.{Response}
 use Rattle.keyboard.specs.declared.Response.the-variants.{Code, Null, Model, Ack, Nothing, Full, OutOfRange}
 use Rattle.keyboard.specs.Numbers.{refusalOf}
 use Rattle.keyboard.specs.State.{codesOf, withLeft, acceptedOf}
-use Rattle.keyboard.specs.Steps.{to, checked, inquiry, instant, answeredTo, commandOf, keyBy, keyOf, waitOf}
+use Rattle.keyboard.specs.Steps.{respond, ifAccepted, inquiry, instant, answerTo, commandOf, keyBy, keyOf, waitOf}
 use Rattle.keyboard.proofs.Checked.{passed, failed}
-use Rattle.keyboard_history.specs.Events.{Event, command, key, wait, taken, orElse, both}
+use Rattle.keyboard_history.specs.Events.{Event, command, key, wait, stepOf, orElse, bothWaits}
 use Rattle.keyboard_history.proofs.Cases.{wait-is, waited-accepted}
 use Rattle.keyboard_history.proofs.Nulls.{answered}
 
@@ -41,31 +41,31 @@ halves l a b = by (eqb l 0) (leb l a) (leb l (a + b)) refl refl refl
         let v : a + b < l = leb-false _ _ g in
         simp (ne-eqb (l - a) 0 (λ z. omega arith), lt-leb (l - a) b (omega arith))
 
-add-accepted : (a b : ℕ) (k : Keyboard) → acceptedOf k ≡ true → waitOf (a + b) k ≡ both (waitOf a k) (waitOf b (waitOf a k .keyboard))
+add-accepted : (a b : ℕ) (k : Keyboard) → acceptedOf k ≡ true → waitOf (a + b) k ≡ bothWaits (waitOf a k) (waitOf b (waitOf a k .keyboard))
 add-accepted a b k h =
     let l = k .left in
     let e : l - (a + b) ≡ l - a - b = omega arith in
     let w = wait-is b (withLeft k (l - a)) (waited-accepted a k h) in
     wait-is (a + b) k h
-    ∙ ap₂ (λ (m : ℕ) (r : Response). to (withLeft k m) r) e (ap (λ (x : Bool). cond x Null Nothing) (sym (halves l a b)) ∙ sym (either (not (eqb l 0) && leb l a) (not (eqb (l - a) 0) && leb (l - a) b)))
-    ∙ ap (λ (t : Stepped). both (to (withLeft k (l - a)) (cond (not (eqb l 0) && leb l a) Null Nothing)) t) (sym w)
-    ∙ ap (λ (s : Stepped). both s (waitOf b (s .keyboard))) (sym (wait-is a k h))
+    ∙ ap₂ (λ (m : ℕ) (r : Response). respond (withLeft k m) r) e (ap (λ (x : Bool). cond x Null Nothing) (sym (halves l a b)) ∙ sym (either (not (eqb l 0) && leb l a) (not (eqb (l - a) 0) && leb (l - a) b)))
+    ∙ ap (λ (t : Stepped). bothWaits (respond (withLeft k (l - a)) (cond (not (eqb l 0) && leb l a) Null Nothing)) t) (sym w)
+    ∙ ap (λ (s : Stepped). bothWaits s (waitOf b (s .keyboard))) (sym (wait-is a k h))
 
-refused-wait : (n : ℕ) (k : Keyboard) → acceptedOf k ≡ false → waitOf n k ≡ to k OutOfRange
+refused-wait : (n : ℕ) (k : Keyboard) → acceptedOf k ≡ false → waitOf n k ≡ respond k OutOfRange
 unfolding waitOf
 refused-wait n k h = failed k _ h
 
-add-refused : (a b : ℕ) (k : Keyboard) → acceptedOf k ≡ false → waitOf (a + b) k ≡ both (waitOf a k) (waitOf b (waitOf a k .keyboard))
+add-refused : (a b : ℕ) (k : Keyboard) → acceptedOf k ≡ false → waitOf (a + b) k ≡ bothWaits (waitOf a k) (waitOf b (waitOf a k .keyboard))
 add-refused a b k h =
     refused-wait (a + b) k h
-    ∙ ap (λ (t : Stepped). both (to k OutOfRange) t) (sym (refused-wait b k h))
-    ∙ ap (λ (s : Stepped). both s (waitOf b (s .keyboard))) (sym (refused-wait a k h))
+    ∙ ap (λ (t : Stepped). bothWaits (respond k OutOfRange) t) (sym (refused-wait b k h))
+    ∙ ap (λ (s : Stepped). bothWaits s (waitOf b (s .keyboard))) (sym (refused-wait a k h))
 
 -- A wait of a + b ticks is one of a, then one of b, whatever the state.
-pub waits-add : (a b : ℕ) (k : Keyboard) → waitOf (a + b) k ≡ both (waitOf a k) (waitOf b (waitOf a k .keyboard))
+pub waits-add : (a b : ℕ) (k : Keyboard) → waitOf (a + b) k ≡ bothWaits (waitOf a k) (waitOf b (waitOf a k .keyboard))
 waits-add a b k = by (acceptedOf k) refl
   where
-    by : (t : Bool) → acceptedOf k ≡ t → waitOf (a + b) k ≡ both (waitOf a k) (waitOf b (waitOf a k .keyboard))
+    by : (t : Bool) → acceptedOf k ≡ t → waitOf (a + b) k ≡ bothWaits (waitOf a k) (waitOf b (waitOf a k .keyboard))
     by true h = add-accepted a b k h
     by false h = add-refused a b k h
 
@@ -75,14 +75,14 @@ waits-add a b k = by (acceptedOf k) refl
 abbrev Kept : Keyboard → Stepped → Type 0
 Kept k s = eqb (refusalOf (s .response)) 0 ≡ false → s .keyboard ≡ k
 
-kept-range : (k : Keyboard) (s : Stepped) → (acceptedOf k ≡ true → Kept k s) → Kept k (checked k s)
+kept-range : (k : Keyboard) (s : Stepped) → (acceptedOf k ≡ true → Kept k s) → Kept k (ifAccepted k s)
 kept-range k s f = by (acceptedOf k) refl
   where
-    by : (t : Bool) → acceptedOf k ≡ t → Kept k (cond t s (to k OutOfRange))
+    by : (t : Bool) → acceptedOf k ≡ t → Kept k (cond t s (respond k OutOfRange))
     by true h = f h
     by false h = λ r. refl
 
-fine : (k q : Keyboard) (r : Response) → refusalOf r ≡ 0 → Kept k (to q r)
+fine : (k q : Keyboard) (r : Response) → refusalOf r ≡ 0 → Kept k (respond q r)
 fine k q r e h = no (sym h ∙ ap (λ (n : ℕ). eqb n 0) e)
 
 answered-kept : (k q : Keyboard) (i t m s : Bool) (cs : List ℕ) → Kept k (answered i t m s cs q)
@@ -101,14 +101,14 @@ key-kept c k false b = fine k _ (Code c) refl
 key-kept c k true true = λ h. refl
 key-kept c k true false = fine k _ Nothing refl
 
-wait-kept : (k q : Keyboard) (b : Bool) → Kept k (to q (cond b Null Nothing))
+wait-kept : (k q : Keyboard) (b : Bool) → Kept k (respond q (cond b Null Nothing))
 unfolding refusalOf
 wait-kept k q true = fine k q Null refl
 wait-kept k q false = fine k q Nothing refl
 
 -- "both change nothing": whatever the event and the state.
-pub refusal-keeps : (e : Event) (k : Keyboard) → eqb (refusalOf (taken e k .response)) 0 ≡ false → taken e k .keyboard ≡ k
-unfolding taken commandOf answeredTo inquiry instant keyOf
+pub refusal-keeps : (e : Event) (k : Keyboard) → eqb (refusalOf (stepOf e k .response)) 0 ≡ false → stepOf e k .keyboard ≡ k
+unfolding stepOf commandOf answerTo inquiry instant keyOf
 refusal-keeps (command b) k =
     kept-range k (answered (eqb b 16) (eqb b 20) (eqb b 22) (eqb b 54) (codesOf (withLeft k 0)) (withLeft k 0))
     (λ h. answered-kept k (withLeft k 0) (eqb b 16) (eqb b 20) (eqb b 22) (eqb b 54) (codesOf (withLeft k 0)))

@@ -9,26 +9,26 @@ use Rattle.keyboard.specs.declared.Stepped.{Stepped}
 use Rattle.keyboard.specs.declared.Response.{Response}
 use Rattle.keyboard.specs.declared.Response.the-variants.{Code, Null, Model, Ack, Nothing, Full, OutOfRange}
 use Rattle.keyboard.specs.Numbers.{refusalOf}
-use Rattle.keyboard.specs.Steps.{to, commandOf, keyOf, waitOf}
+use Rattle.keyboard.specs.Steps.{respond, commandOf, keyOf, waitOf}
 
 pub data Event : Type 0 where
   command : ℕ → Event
   key : ℕ → Event
   wait : ℕ → Event
 
-unfoldable pub taken : Event → Keyboard → Stepped
-taken (command byte) k = commandOf byte k
-taken (key code) k = keyOf code k
-taken (wait n) k = waitOf n k
+unfoldable pub stepOf : Event → Keyboard → Stepped
+stepOf (command byte) k = commandOf byte k
+stepOf (key code) k = keyOf code k
+stepOf (wait n) k = waitOf n k
 
 -- The keyboard after these events.
-unfoldable pub after : Keyboard → List Event → Keyboard
-after k [] = k
-after k (e ∷ es) = taken e (after k es) .keyboard
+unfoldable pub keyboardAfter : Keyboard → List Event → Keyboard
+keyboardAfter k [] = k
+keyboardAfter k (e ∷ es) = stepOf e (keyboardAfter k es) .keyboard
 
 -- The response to an event that comes after these.
 abbrev pub responseTo : Event → Keyboard → List Event → Response
-responseTo e k es = taken e (after k es) .response
+responseTo e k es = stepOf e (keyboardAfter k es) .response
 
 -- The responses to these, the newest first.
 unfoldable pub responses : Keyboard → List Event → List Response
@@ -38,28 +38,28 @@ responses k (e ∷ es) = responseTo e k es ∷ responses k es
 -- ---- the key codes that came in, and those that went out
 
 -- A key that is not refused came in.
-abbrev pub cameBy : Event → Response → List ℕ
-cameBy (key code) r = cond (eqb (refusalOf r) 0) (code ∷ []) []
-cameBy (command byte) r = []
-cameBy (wait n) r = []
+abbrev pub codeIn : Event → Response → List ℕ
+codeIn (key code) r = cond (eqb (refusalOf r) 0) (code ∷ []) []
+codeIn (command byte) r = []
+codeIn (wait n) r = []
 
-unfoldable pub came : Keyboard → List Event → List ℕ
-came k [] = []
-came k (e ∷ es) = came k es ++ cameBy e (responseTo e k es)
+unfoldable pub codesIn : Keyboard → List Event → List ℕ
+codesIn k [] = []
+codesIn k (e ∷ es) = codesIn k es ++ codeIn e (responseTo e k es)
 
 -- A response that is a key code went out.
-abbrev pub wentBy : Response → List ℕ
-wentBy (Code c) = c ∷ []
-wentBy Null = []
-wentBy (Model m) = []
-wentBy Ack = []
-wentBy Nothing = []
-wentBy Full = []
-wentBy OutOfRange = []
+abbrev pub codeOut : Response → List ℕ
+codeOut (Code c) = c ∷ []
+codeOut Null = []
+codeOut (Model m) = []
+codeOut Ack = []
+codeOut Nothing = []
+codeOut Full = []
+codeOut OutOfRange = []
 
-unfoldable pub went : Keyboard → List Event → List ℕ
-went k [] = []
-went k (e ∷ es) = went k es ++ wentBy (responseTo e k es)
+unfoldable pub codesOut : Keyboard → List Event → List ℕ
+codesOut k [] = []
+codesOut k (e ∷ es) = codesOut k es ++ codeOut (responseTo e k es)
 
 -- ---- a wait cut in two
 
@@ -73,5 +73,5 @@ orElse Nothing r = r
 orElse Full r = Full
 orElse OutOfRange r = OutOfRange
 
-abbrev pub both : Stepped → Stepped → Stepped
-both s t = to (t .keyboard) (orElse (s .response) (t .response))
+abbrev pub bothWaits : Stepped → Stepped → Stepped
+bothWaits s t = respond (t .keyboard) (orElse (s .response) (t .response))

@@ -2,7 +2,7 @@ use mathlib.Core.Path.{ap, sym, _∙_}
 use native.Mathlib.Omega.{arith}
 use Rattle.keyboard.specs.declared.Keyboard.{Keyboard}
 use Rattle.keyboard.specs.declared.Response.the-variants.{Nothing}
-use Rattle.keyboard.specs.Steps.{to, inquiry}
+use Rattle.keyboard.specs.Steps.{respond, inquiry}
 use Rattle.keyboard.proofs.Checked.{none-there, oldest-there}
 use borrow.Author.Needs.{needs}
 use Rattle.keyboard.proofs.answer_inquiry.Statement.{statement}
@@ -17,7 +17,7 @@ with-left-requires c κs = search needs
 
 returns : tie.Need-returns
 unfolding inquiry
-returns c = ap (λ (k : Keyboard). to k Nothing) (c .with-left .ensures) ∙ sym (none-there (c .before .before .before .args .k) _ (c .before .if1 .taken))
+returns c = ap (λ (k : Keyboard). respond k Nothing) (c .with-left .ensures) ∙ sym (none-there (c .before .before .before .args .k) _ (c .before .if1 .taken))
 
 answer-oldest-requires : tie.Need-answer-oldest-requires
 answer-oldest-requires c κs = search needs

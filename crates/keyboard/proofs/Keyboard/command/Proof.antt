@@ -1,7 +1,7 @@
 use mathlib.Core.Path.{_≡_, ap, sym, _∙_}
 use mathlib.Core.Bool.{true}
 use Rattle.keyboard.specs.State.{acceptedOf}
-use Rattle.keyboard.specs.Steps.{answeredTo, commandOf}
+use Rattle.keyboard.specs.Steps.{answerTo, commandOf}
 use Rattle.keyboard.proofs.Codes.{ended-accepted}
 use Rattle.keyboard.proofs.Checked.{passed, failed}
 use borrow.Author.Needs.{needs}
@@ -25,7 +25,7 @@ answer-requires c κs = ap acceptedOf (c .with-left .ensures) ∙ ended-accepted
 
 returns : tie.Need-returns
 unfolding commandOf
-returns c = let a = c .before .before .before .before .args in c .answer .ensures ∙ ap (answeredTo (a .byte)) (c .before .with-left .ensures) ∙ sym (passed (a .self) _ (sym (c .before .before .before .accepted .ensures) ∙ c .before .before .if1 .taken))
+returns c = let a = c .before .before .before .before .args in c .answer .ensures ∙ ap (answerTo (a .byte)) (c .before .with-left .ensures) ∙ sym (passed (a .self) _ (sym (c .before .before .before .accepted .ensures) ∙ c .before .before .if1 .taken))
 
 out-of-range-requires : tie.Need-out-of-range-requires
 out-of-range-requires c κs = search needs

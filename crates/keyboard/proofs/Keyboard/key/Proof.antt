@@ -6,7 +6,7 @@ use borrow.Author.Tests.{eq-eqb, ne-eqb}
 use Rattle.keyboard.specs.declared.Keyboard.{Keyboard}
 use Rattle.keyboard.specs.declared.Response.the-variants.{Code, Nothing}
 use Rattle.keyboard.specs.State.{acceptedOf}
-use Rattle.keyboard.specs.Steps.{to, keyOf}
+use Rattle.keyboard.specs.Steps.{respond, keyOf}
 use Rattle.keyboard.proofs.Codes.{parts}
 use Rattle.keyboard.proofs.Checked.{passed, failed, key-case, key-answers}
 use borrow.Author.Needs.{needs}
@@ -31,14 +31,14 @@ with-code-requires c κs = let k = c .before .before .before .before .before .be
 
 returns-2 : tie.Need-returns-2
 unfolding keyOf
-returns-2 c = let a = c .before .before .before .before .before .before .before .args in ap (λ (k : Keyboard). to k Nothing) (c .with-code .ensures) ∙ sym (passed (a .self) _ (sym (c .before .before .before .before .before .before .accepted .ensures) ∙ c .before .before .before .before .before .if1 .taken) ∙ key-case (a .self) (a .code) true false (eq-eqb _ _ (c .before .before .before .if2 .taken)) (ne-eqb _ _ (c .before .if3 .left)))
+returns-2 c = let a = c .before .before .before .before .before .before .before .args in ap (λ (k : Keyboard). respond k Nothing) (c .with-code .ensures) ∙ sym (passed (a .self) _ (sym (c .before .before .before .before .before .before .accepted .ensures) ∙ c .before .before .before .before .before .if1 .taken) ∙ key-case (a .self) (a .code) true false (eq-eqb _ _ (c .before .before .before .if2 .taken)) (ne-eqb _ _ (c .before .if3 .left)))
 
 with-left-requires : tie.Need-with-left-requires
 with-left-requires c κs = search needs
 
 returns-3 : tie.Need-returns-3
 unfolding keyOf
-returns-3 c = let a = c .before .before .before .before .before .args in ap (λ (k : Keyboard). to k (Code (a .code))) (c .with-left .ensures) ∙ sym (passed (a .self) _ (sym (c .before .before .before .before .accepted .ensures) ∙ c .before .before .before .if1 .taken) ∙ key-answers (a .self) (a .code) _ (ne-eqb _ _ (c .before .if2 .left)))
+returns-3 c = let a = c .before .before .before .before .before .args in ap (λ (k : Keyboard). respond k (Code (a .code))) (c .with-left .ensures) ∙ sym (passed (a .self) _ (sym (c .before .before .before .before .accepted .ensures) ∙ c .before .before .before .if1 .taken) ∙ key-answers (a .self) (a .code) _ (ne-eqb _ _ (c .before .if2 .left)))
 
 out-of-range-requires : tie.Need-out-of-range-requires
 out-of-range-requires c κs = search needs

@@ -2,7 +2,7 @@ use mathlib.Core.Path.{_≡_, ap, sym, _∙_}
 use native.Mathlib.Omega.{arith}
 use Rattle.keyboard.specs.declared.Keyboard.{Keyboard}
 use Rattle.keyboard.specs.declared.Response.the-variants.{Null, Nothing}
-use Rattle.keyboard.specs.Steps.{to, waitOf}
+use Rattle.keyboard.specs.Steps.{respond, waitOf}
 use Rattle.keyboard.proofs.Ticks.{idle, counts, ends}
 use Rattle.keyboard.proofs.Checked.{passed, failed}
 use borrow.Author.Needs.{needs}
@@ -19,7 +19,7 @@ accepted-requires c κs = search needs
 
 returns : tie.Need-returns
 unfolding waitOf
-returns c = let a = c .before .before .before .before .args in sym (passed (a .self) _ (sym (c .before .before .before .accepted .ensures) ∙ c .before .before .if1 .taken) ∙ idle (a .ticks) (to (a .self) Nothing) (c .if2 .taken))
+returns c = let a = c .before .before .before .before .args in sym (passed (a .self) _ (sym (c .before .before .before .accepted .ensures) ∙ c .before .before .if1 .taken) ∙ idle (a .ticks) (respond (a .self) Nothing) (c .if2 .taken))
 
 sub-left : tie.Need-sub-left
 sub-left c = search needs
@@ -29,14 +29,14 @@ with-left-requires c κs = search needs
 
 returns-2 : tie.Need-returns-2
 unfolding waitOf
-returns-2 c = let a = c .before .before .before .before .before .before .before .before .args in ap (λ (k : Keyboard). to k Nothing) (c .with-left .ensures) ∙ sym (passed (a .self) _ (sym (c .before .before .before .before .before .before .before .accepted .ensures) ∙ c .before .before .before .before .before .before .if1 .taken) ∙ counts (a .ticks) (to (a .self) Nothing) (c .before .before .if3 .taken))
+returns-2 c = let a = c .before .before .before .before .before .before .before .before .args in ap (λ (k : Keyboard). respond k Nothing) (c .with-left .ensures) ∙ sym (passed (a .self) _ (sym (c .before .before .before .before .before .before .before .accepted .ensures) ∙ c .before .before .before .before .before .before .if1 .taken) ∙ counts (a .ticks) (respond (a .self) Nothing) (c .before .before .if3 .taken))
 
 with-left-requires-2 : tie.Need-with-left-requires-2
 with-left-requires-2 c κs = search needs
 
 returns-3 : tie.Need-returns-3
 unfolding waitOf
-returns-3 c = let a = c .before .before .before .before .before .before .before .args in ap (λ (k : Keyboard). to k Null) (c .with-left2 .ensures) ∙ sym (passed (a .self) _ (sym (c .before .before .before .before .before .before .accepted .ensures) ∙ c .before .before .before .before .before .if1 .taken) ∙ ends (a .ticks) (to (a .self) Nothing) (omega (arith, c .before .before .before .if2 .left)) (c .before .if3 .left))
+returns-3 c = let a = c .before .before .before .before .before .before .before .args in ap (λ (k : Keyboard). respond k Null) (c .with-left2 .ensures) ∙ sym (passed (a .self) _ (sym (c .before .before .before .before .before .before .accepted .ensures) ∙ c .before .before .before .before .before .if1 .taken) ∙ ends (a .ticks) (respond (a .self) Nothing) (omega (arith, c .before .before .before .if2 .left)) (c .before .if3 .left))
 
 out-of-range-requires : tie.Need-out-of-range-requires
 out-of-range-requires c κs = search needs
