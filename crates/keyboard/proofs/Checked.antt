@@ -1,11 +1,10 @@
 -- The check of the ranges, passed and failed; the oldest code, there or not; the cases of a key.
-use Prim.Native.Nat.{ℕ, _≤_, _<_}
-use mathlib.Core.Path.{_≡_, refl, ap, ap₂, _∙_}
+use Prim.Native.Nat.{ℕ, _<_}
+use mathlib.Core.Path.{_≡_, ap, ap₂}
 use mathlib.Core.Bool.{Bool, true, false, cond}
-use mathlib.Core.List.{List, [], _∷_}
+use mathlib.Core.List.{List}
 use lib.Dec.{eqb}
 use lib.ListN.{length, getD, drop}
-use borrow.Author.Tests.{eq-eqb, ne-eqb}
 use Rattle.keyboard.specs.declared.Keyboard.{Keyboard}
 use Rattle.keyboard.specs.declared.Stepped.{Stepped}
 use Rattle.keyboard.specs.declared.Response.the-variants.{Code, OutOfRange}

@@ -1,16 +1,16 @@
 -- The codes held as a list, against their eight places.
 use Prim.Native.Nat.{ℕ, zero, suc, _+_, _-_, _≤_, _<_}
-use mathlib.Core.Path.{_≡_, refl, sym, ap, ap₂, _∙_}
-use mathlib.Core.Bool.{Bool, true, false, _&&_, _||_}
+use mathlib.Core.Path.{_≡_, refl, ap, ap₂, _∙_}
+use mathlib.Core.Bool.{Bool, true, _||_}
 use mathlib.Core.List.{List, [], _∷_, _++_}
 use native.Mathlib.Omega.{arith}
 use lib.ListN.{length, getD, take, drop, set, replicate, length-append}
 use lib.Seq.{length-take-le, take-at, drop-at}
 use lib.Dec.{eqb, leb}
-use borrow.Author.Tests.{leb-true, eqb-true, eq-eqb, le-leb}
+use borrow.Author.Tests.{leb-true, eq-eqb, le-leb}
 use Rattle.keyboard.specs.declared.Keyboard.{Keyboard}
 use Rattle.keyboard.specs.State.{codesOf, places, withCodes, withLeft, allZero, acceptedOf}
-use Rattle.levels.proofs.Laws.{no, both, joined}
+use Rattle.levels.proofs.Laws.{both, joined}
 use Rattle.keyboard.proofs.Lists.{pushed, longer, are-zeros}
 
 -- what an accepted state has

@@ -1,15 +1,12 @@
 -- A wait tick by tick, worked out: none waits, still waiting, the Null; and waits that add.
 use Prim.Native.Nat.{ℕ, zero, suc, _+_, _-_, _≤_, _<_}
-use mathlib.Core.Path.{_≡_, refl, sym, ap, _∙_}
-use mathlib.Core.Bool.{Bool, true, false}
+use mathlib.Core.Path.{_≡_, refl, ap, _∙_}
+use mathlib.Core.Bool.{Bool, false}
 use native.Mathlib.Omega.{arith}
-use native.Mathlib.Nat.{le-of-eq}
 use lib.Dec.{eqb}
 use borrow.Author.Tests.{eq-eqb, ne-eqb}
-use Rattle.keyboard.specs.declared.Keyboard.{Keyboard}
 use Rattle.keyboard.specs.declared.Stepped.{Stepped}
-use Rattle.keyboard.specs.declared.Response.{Response}
-use Rattle.keyboard.specs.declared.Response.the-variants.{Null, Nothing}
+use Rattle.keyboard.specs.declared.Response.the-variants.{Null}
 use Rattle.keyboard.specs.State.{withLeft}
 use Rattle.keyboard.specs.Steps.{respond, tickBy, tick, ticks}
 

@@ -10,9 +10,7 @@ use Rattle.octets.proofs.Laws.{put-whole}
 use Rattle.keyboard.specs.declared.Keyboard.{Keyboard}
 use Rattle.keyboard.specs.declared.Stepped.{Stepped}
 use Rattle.keyboard.specs.declared.Response.{Response}
-use Rattle.keyboard.specs.declared.Response.the-variants.{OutOfRange}
 use Rattle.keyboard.specs.Numbers.{refusalOf, answersOf, byteOf}
-use Rattle.keyboard.specs.Steps.{respond}
 use Rattle.keyboard_image.specs.Image.{imageLength, imageOf, keyboardOf, validImage}
 use Rattle.keyboard_image.proofs.Round.{image-long}
 use Rattle.keyboard_entry.specs.Calls.{answeredOf, callOf, callImage}

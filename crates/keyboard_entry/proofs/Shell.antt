@@ -1,21 +1,20 @@
 -- What a shell may rely on: an image stays one, a refusal leaves its bytes, a wait may be cut anywhere.
-use Prim.Native.Nat.{ℕ, _+_, _-_, _≤_, _<_}
+use Prim.Native.Nat.{ℕ, _+_, _-_, _≤_}
 use mathlib.Core.Path.{_≡_, refl, sym, ap, _∙_}
 use mathlib.Core.Bool.{Bool, true, false, cond}
 use mathlib.Core.List.{List}
 use native.Mathlib.Omega.{arith}
-use lib.ListN.{length, take, drop, length-drop}
+use lib.ListN.{length, drop, length-drop}
 use lib.Seq.{length-take-le}
 use lib.Dec.{eqb}
 use Rattle.octets.specs.Octets.{Bytes}
 use Rattle.keyboard.specs.declared.Keyboard.{Keyboard}
 use Rattle.keyboard.specs.declared.Stepped.{Stepped}
-use Rattle.keyboard.specs.declared.Response.{Response}
 use Rattle.keyboard.specs.declared.Response.the-variants.{OutOfRange}
 use Rattle.keyboard.specs.Numbers.{refusalOf}
 use Rattle.keyboard.specs.Steps.{respond, waitOf}
 use Rattle.keyboard.proofs.Codes.{parts}
-use Rattle.keyboard_history.specs.Events.{Event, command, key, wait, stepOf, orElse}
+use Rattle.keyboard_history.specs.Events.{Event, wait, stepOf, orElse}
 use Rattle.keyboard_history.proofs.Cases.{Good, fair}
 use Rattle.keyboard_history.proofs.Waits.{waits-add, refusal-keeps}
 use Rattle.keyboard_image.specs.Image.{imageOf, keyboardOf, validImage}

@@ -7,13 +7,12 @@ use native.Mathlib.Omega.{arith}
 use lib.ListN.{length, take, replicate, length-append, length-replicate}
 use lib.Dec.{eqb, leb}
 use borrow.Author.Tests.{eq-eqb, eqb-true, eqb-false, leb-true, leb-false}
-use Rattle.levels.proofs.Laws.{no}
 use Rattle.keyboard.specs.declared.Keyboard.{Keyboard}
 use Rattle.keyboard.specs.declared.Stepped.{Stepped}
 use Rattle.keyboard.specs.declared.Response.{Response}
-use Rattle.keyboard.specs.declared.Response.the-variants.{Code, Null, Model, Ack, Nothing, Full, OutOfRange}
+use Rattle.keyboard.specs.declared.Response.the-variants.{Null, Model, Ack, Nothing}
 use Rattle.keyboard.specs.Numbers.{refusalOf}
-use Rattle.keyboard.specs.State.{codesOf, places, withCodes, withLeft, acceptedOf}
+use Rattle.keyboard.specs.State.{codesOf, places, withLeft, acceptedOf}
 use Rattle.keyboard.specs.Steps.{respond, oldestElse, instant, inquiry, answerTo, commandOf, keyBy, keyOf, ticks, waitOf}
 use Rattle.keyboard.proofs.Codes.{parts, whole, codes-back, none-held, ended-accepted, codes-accepted}
 use Rattle.keyboard.proofs.Ticks.{idle, counts, ends}

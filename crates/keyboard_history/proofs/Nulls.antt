@@ -1,18 +1,16 @@
 -- A Null comes exactly where 195,840 VIA ticks pass with no key and no command, and at an Instant with no code held.
 use Prim.Native.Nat.{ℕ, _+_, _-_, _≤_, _<_}
-use mathlib.Core.Path.{_≡_, refl, sym, ap, ap₂, _∙_}
+use mathlib.Core.Path.{_≡_, refl, sym, ap, _∙_}
 use mathlib.Core.Bool.{Bool, true, false, cond, not, _&&_}
 use mathlib.Core.List.{List, [], _∷_}
 use native.Mathlib.Omega.{arith}
 use lib.Dec.{eqb, ltb, leb}
-use borrow.Author.Tests.{eq-eqb, ne-eqb, eqb-true, eqb-false, lt-ltb, le-ltb, le-leb, lt-leb, ltb-true, ltb-false, leb-true, leb-false}
-use Rattle.levels.proofs.Laws.{no}
+use borrow.Author.Tests.{eq-eqb, ne-eqb, eqb-true, le-leb, lt-leb, ltb-true, ltb-false, leb-true, leb-false}
 use Rattle.keyboard.specs.declared.Keyboard.{Keyboard}
 use Rattle.keyboard.specs.declared.Stepped.{Stepped}
-use Rattle.keyboard.specs.declared.Response.{Response}
-use Rattle.keyboard.specs.declared.Response.the-variants.{Code, Null, Model, Ack, Nothing, Full, OutOfRange}
-use Rattle.keyboard.specs.State.{codesOf, withCodes, withLeft, acceptedOf}
-use Rattle.keyboard.specs.Steps.{respond, oldestElse, instant, inquiry, answerTo, commandOf, keyBy, keyOf, waitOf}
+use Rattle.keyboard.specs.declared.Response.the-variants.{Null, Model, Ack, Nothing}
+use Rattle.keyboard.specs.State.{codesOf, withLeft, acceptedOf}
+use Rattle.keyboard.specs.Steps.{respond, oldestElse, instant, inquiry, answerTo, commandOf, keyBy, keyOf}
 use Rattle.keyboard.proofs.Codes.{parts}
 use Rattle.keyboard.proofs.Checked.{passed}
 use Rattle.keyboard_history.specs.Events.{Event, command, key, wait, stepOf, keyboardAfter, responseTo}

@@ -5,7 +5,7 @@ use mathlib.Core.List.{List, [], _∷_, reverse}
 use Rattle.keyboard.specs.declared.Keyboard.{Keyboard}
 use Rattle.keyboard.specs.declared.Response.{Response}
 use Rattle.keyboard.specs.declared.Response.the-variants.{Code, Null, Model, Ack, Nothing, Full, OutOfRange}
-use Rattle.keyboard.specs.Numbers.{refusalOf, answersOf, byteOf}
+use Rattle.keyboard.specs.Numbers.{refusalOf, byteOf}
 use Rattle.keyboard.specs.State.{codesOf, places, freshKeyboard, allZero, acceptedOf}
 use Rattle.keyboard.specs.Steps.{instant, inquiry, answerTo, commandOf, keyOf, ticks, waitOf}
 use Rattle.keyboard_history.specs.Events.{Event, command, key, wait, stepOf, keyboardAfter, responses}

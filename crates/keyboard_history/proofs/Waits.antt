@@ -5,16 +5,16 @@ use mathlib.Core.Bool.{Bool, true, false, cond, not, _&&_, _||_}
 use mathlib.Core.List.{List, [], _∷_}
 use native.Mathlib.Omega.{arith}
 use lib.Dec.{eqb, leb}
-use borrow.Author.Tests.{eq-eqb, ne-eqb, eqb-true, eqb-false, le-leb, lt-leb, leb-true, leb-false}
+use borrow.Author.Tests.{eq-eqb, ne-eqb, eqb-true, le-leb, lt-leb, leb-true, leb-false}
 use Rattle.levels.proofs.Laws.{no}
 use Rattle.keyboard.specs.declared.Keyboard.{Keyboard}
 use Rattle.keyboard.specs.declared.Stepped.{Stepped}
 use Rattle.keyboard.specs.declared.Response.{Response}
-use Rattle.keyboard.specs.declared.Response.the-variants.{Code, Null, Model, Ack, Nothing, Full, OutOfRange}
+use Rattle.keyboard.specs.declared.Response.the-variants.{Code, Null, Model, Ack, Nothing, OutOfRange}
 use Rattle.keyboard.specs.Numbers.{refusalOf}
 use Rattle.keyboard.specs.State.{codesOf, withLeft, acceptedOf}
 use Rattle.keyboard.specs.Steps.{respond, ifAccepted, inquiry, instant, answerTo, commandOf, keyBy, keyOf, waitOf}
-use Rattle.keyboard.proofs.Checked.{passed, failed}
+use Rattle.keyboard.proofs.Checked.{failed}
 use Rattle.keyboard_history.specs.Events.{Event, command, key, wait, stepOf, orElse, bothWaits}
 use Rattle.keyboard_history.proofs.Cases.{wait-is, waited-accepted}
 use Rattle.keyboard_history.proofs.Nulls.{answered}

@@ -1,6 +1,5 @@
 use borrow.Author.Needs.{needs}
 use Rattle.keyboard.specs.Numbers.{answersOf}
-use borrow.Author.Tests.{lt-ltb, le-ltb, le-leb, lt-leb, eq-eqb, ne-eqb}
 use Rattle.keyboard.proofs.answers.Statement.{statement}
 use Rattle.keyboard.proofs.answers.Tie as tie
 use Rattle.keyboard.proofs.answers.Reads as reads

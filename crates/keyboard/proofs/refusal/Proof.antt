@@ -1,6 +1,5 @@
 use borrow.Author.Needs.{needs}
 use Rattle.keyboard.specs.Numbers.{refusalOf}
-use borrow.Author.Tests.{lt-ltb, le-ltb, le-leb, lt-leb, eq-eqb, ne-eqb}
 use Rattle.keyboard.proofs.refusal.Statement.{statement}
 use Rattle.keyboard.proofs.refusal.Tie as tie
 use Rattle.keyboard.proofs.refusal.Reads as reads

@@ -1,5 +1,4 @@
-use mathlib.Core.Path.{_≡_, sym, _∙_}
-use mathlib.Core.Bool.{true, false}
+use mathlib.Core.Path.{sym, _∙_}
 use denote.Ref.{now}
 use Rattle.keyboard.specs.Steps.{keyOf}
 use Rattle.keyboard_image.proofs.Round.{valid-is}

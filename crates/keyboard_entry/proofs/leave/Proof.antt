@@ -1,4 +1,3 @@
-use mathlib.Core.Path.{_≡_, refl, sym, ap, _∙_}
 use denote.Ref.{now}
 use Rattle.keyboard_entry.proofs.Laws.{answered-is, over}
 use borrow.Author.Needs.{needs}

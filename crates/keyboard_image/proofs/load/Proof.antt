@@ -1,9 +1,8 @@
-use mathlib.Core.Path.{_≡_, ap₂}
+use mathlib.Core.Path.{ap₂}
 use mathlib.Core.List.{List}
 use Prim.Native.Nat.{ℕ}
 use lib.ListN.{getD}
 use denote.Ref.{now}
-use Rattle.keyboard.specs.declared.Keyboard.{Keyboard}
 use Rattle.keyboard_image.specs.Image.{keyboardOf}
 use Rattle.keyboard_image.proofs.Round.{codes-read}
 use borrow.Author.Needs.{needs}

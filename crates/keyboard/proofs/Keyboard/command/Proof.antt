@@ -1,5 +1,4 @@
-use mathlib.Core.Path.{_≡_, ap, sym, _∙_}
-use mathlib.Core.Bool.{true}
+use mathlib.Core.Path.{ap, sym, _∙_}
 use Rattle.keyboard.specs.State.{acceptedOf}
 use Rattle.keyboard.specs.Steps.{answerTo, commandOf}
 use Rattle.keyboard.proofs.Codes.{ended-accepted}
