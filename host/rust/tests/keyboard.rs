@@ -269,5 +269,11 @@ fn wrong_lines() {
         assert!(err.contains(wanted), "{text}: {err}");
         assert_eq!(said.status.code(), Some(65), "{text}");
     }
+    let long = format!("0t KEY 1\n;{}\n", " ".repeat(5000));
+    let said = program(&["keyboard"], &long);
+    let err = String::from_utf8_lossy(&said.stderr).into_owned();
+    assert!(err.contains("line 2, column 1: a line is longer than 4096 bytes"), "{err}");
+    assert_eq!(said.status.code(), Some(65));
+    assert!(said.stdout.ends_with(b"KEY $01          -\n"), "lines before it are run");
     assert_eq!(program(&["keyboard", "--model", "300"], "").status.code(), Some(64));
 }

@@ -50,6 +50,10 @@ pub fn keyboard(options: &Options) -> Result<u8, Failure> {
         }
         number += 1;
         let wrong = |error: LineError| Failure::Text(super::shown(name), error.at_line(number));
+        if line.len() as u64 == LINE_MAX && line.last() != Some(&b'\n') {
+            let message = format!("a line is longer than {LINE_MAX} bytes");
+            return Err(wrong(LineError { column: 1, message }));
+        }
         let Some((ticks, event)) = parse(&String::from_utf8_lossy(&line)).map_err(wrong)? else {
             continue;
         };
