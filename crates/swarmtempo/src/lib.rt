@@ -10,6 +10,8 @@ ghost use Rattle.sheet_spec.specs.Lookup.{sourceOf, placeOf, refusalOf, sheetNu
 ghost use Rattle.sheet_spec.specs.Compaction.{compactedOf, memoryOf, stopOf, writtenOf};
 use units::Micros;
 
+pub mod keyboard_calls;
+
 // The length of an image in bytes.
 #[no_mangle]
 pub extern "C" fn swarmtempo_image_len() -> u64

@@ -30,6 +30,7 @@ mod answer;
 mod chunks;
 mod command;
 mod item;
+mod keyboard;
 mod machine;
 pub mod sheet_text;
 mod sheets;
@@ -44,6 +45,7 @@ pub use item::{
     Address, DiskLine, Drive, InLine, Item, List, Micros, Register, Seconds, SenseRegister,
     TickCount, ViaTicks, TICKS_PER_SECOND,
 };
+pub use keyboard::{Keyboard, KeyboardFull, KeyboardState, INQUIRY_TICKS};
 pub use machine::{Machine, Run};
 pub use sheets::{
     compact, compact_into, settings, Setting, Sheet, SheetRefusal, Sheets, SETTING_MAX,

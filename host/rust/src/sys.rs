@@ -109,4 +109,78 @@ pub fn sheet_compact(sheet: &[u8], out: &mut [u8]) -> (u8, usize) {
         )
     };
     (refusal, written as usize)
+// The keyboard. Each call gives the refusal, and the answer byte where there is one.
+
+extern "C" {
+    fn swarmtempo_keyboard_len() -> u64;
+    fn swarmtempo_keyboard_fresh(image: *mut c_uchar, image_len: usize, model: u8) -> u8;
+    fn swarmtempo_keyboard_command(
+        image: *mut c_uchar,
+        image_len: usize,
+        byte: u8,
+        answered: *mut u8,
+        answer: *mut u8,
+    ) -> u8;
+    fn swarmtempo_keyboard_key(
+        image: *mut c_uchar,
+        image_len: usize,
+        code: u8,
+        answered: *mut u8,
+        answer: *mut u8,
+    ) -> u8;
+    fn swarmtempo_keyboard_wait(
+        image: *mut c_uchar,
+        image_len: usize,
+        ticks: u32,
+        answered: *mut u8,
+        answer: *mut u8,
+    ) -> u8;
+}
+
+/// Bytes of a keyboard's image.
+pub fn keyboard_len() -> usize {
+    // SAFETY: takes nothing.
+    unsafe { swarmtempo_keyboard_len() as usize }
+}
+
+/// 0, or 6 where the image is too short.
+pub fn keyboard_fresh(image: &mut [u8], model: u8) -> u8 {
+    // SAFETY: a slice that lives through the call.
+    unsafe { swarmtempo_keyboard_fresh(image.as_mut_ptr(), image.len(), model) }
+}
+
+/// A command byte.
+pub fn keyboard_command(image: &mut [u8], byte: u8) -> (u8, Option<u8>) {
+    let (mut answered, mut answer) = (0, 0);
+    // SAFETY: a slice and two numbers that live through the call and do not overlap.
+    let refusal = unsafe {
+        swarmtempo_keyboard_command(
+            image.as_mut_ptr(),
+            image.len(),
+            byte,
+            &mut answered,
+            &mut answer,
+        )
+    };
+    (refusal, (answered != 0).then_some(answer))
+}
+
+/// A key code.
+pub fn keyboard_key(image: &mut [u8], code: u8) -> (u8, Option<u8>) {
+    let (mut answered, mut answer) = (0, 0);
+    // SAFETY: as above.
+    let refusal = unsafe {
+        swarmtempo_keyboard_key(image.as_mut_ptr(), image.len(), code, &mut answered, &mut answer)
+    };
+    (refusal, (answered != 0).then_some(answer))
+}
+
+/// A wait in VIA ticks.
+pub fn keyboard_wait(image: &mut [u8], ticks: u32) -> (u8, Option<u8>) {
+    let (mut answered, mut answer) = (0, 0);
+    // SAFETY: as above.
+    let refusal = unsafe {
+        swarmtempo_keyboard_wait(image.as_mut_ptr(), image.len(), ticks, &mut answered, &mut answer)
+    };
+    (refusal, (answered != 0).then_some(answer))
 }

@@ -2,6 +2,7 @@
 
 mod bench;
 mod files;
+mod keyboard;
 mod run;
 mod sheet;
 mod source;
@@ -27,6 +28,9 @@ swarmtempo: lists and state images of the board
       --save takes the image reached, --vcd the wires and lines over time as a Value Change Dump.
       --room gives the answers so many bytes in all; without it they have all they need.
   swarmtempo image FILE               a state image in words
+  swarmtempo keyboard [TEXT] [--model BYTE | --image IN] [--save OUT]
+      runs events on a keyboard and shows its answers: 0t COMMAND $10, 100t KEY $33, 195840t alone.
+      Commands also by name: INQUIRY INSTANT MODEL TEST.
   swarmtempo bench [--records N]      records a second, and the ratio to a plain model
   swarmtempo sheet get SETTING [--bench SHEET] [--house SHEET] [--text]
   swarmtempo sheet list [SHEET] [-o OUT] [--text]
@@ -204,6 +208,12 @@ fn command(mut words: Vec<String>) -> Result<u8, Failure> {
             files::print(&words::image(&machine))?;
             Ok(0)
         }
+        "keyboard" => keyboard::keyboard(&keyboard::Options {
+            model: words.value("--model")?,
+            image: words.value("--image")?,
+            save: words.value("--save")?,
+            text: words.file()?,
+        }),
         "bench" => {
             let records = words.number("--records")?.unwrap_or(200_000).clamp(1, 10_000_000);
             if let Some(extra) = words.file()? {
