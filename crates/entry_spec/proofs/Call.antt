@@ -55,12 +55,13 @@ pub record Seven (i l d : List ℕ) : Type 0 where
   pub stop : callOf i l (length d) .stop ≡ 7
   pub consumed : callOf i l (length d) .consumed ≡ 0
   pub written : length (callOf i l (length d) .answers) ≡ 0
+  pub machine : callOf i l (length d) .machine ≡ machineOf i
   pub image : callImage i l (length d) ≡ i
   pub answers : callAnswers i l d ≡ d
 
 pub seven : (i l d : List ℕ) → validImage i ≡ false → Seven i l d
 unfolding callOf callImage callAnswers
-seven i l d e = record { stop = simp e refl; consumed = simp e refl; written = simp e refl; image = simp e refl; answers = simp e refl }
+seven i l d e = record { stop = simp e refl; consumed = simp e refl; written = simp e refl; machine = simp e refl; image = simp e refl; answers = simp e refl }
 
 -- "An image that no accepted state has gets refusal 7 and all three buffers keep their bytes."
 pub gets-seven : (i l d : List ℕ) → NoState i → Seven i l d
