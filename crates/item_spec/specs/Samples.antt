@@ -20,7 +20,6 @@ pub record Samples : Type 0 where
   -- S2 and S4: RD $EFE1FE, WR $81 to $EFFDFE
   pub s2 : decodedOf (0x52 ∷ 0x44 ∷ 0 ∷ 0 ∷ 0xfe ∷ 0xe1 ∷ 0xef ∷ 0 ∷ []) ≡ Done (ReadVia 0 0)
   pub s4 : decodedOf (0x57 ∷ 0x52 ∷ 0 ∷ 0 ∷ 0xfe ∷ 0xfd ∷ 0xef ∷ 0 ∷ 0x81 ∷ []) ≡ Done (WriteVia 0 14 0x81)
-
   -- ---- each kind, after a wait of 513 VIA ticks
   -- RD, WR: $EFF3FE is VIA register 9, $DFEDFF IWM location 6
   pub readVia : decodedOf (0x52 ∷ 0x44 ∷ 1 ∷ 2 ∷ 0xfe ∷ 0xf3 ∷ 0xef ∷ 0 ∷ []) ≡ Done (ReadVia 513 9)
@@ -40,7 +39,6 @@ pub record Samples : Type 0 where
   -- DI: drive, insert, locked, double-sided
   pub insert : decodedOf (0x44 ∷ 0x49 ∷ 1 ∷ 2 ∷ 0 ∷ 1 ∷ 1 ∷ 0 ∷ []) ≡ Done (Disk 513 0 1 1 0)
   pub remove : decodedOf (0x44 ∷ 0x49 ∷ 1 ∷ 2 ∷ 1 ∷ 0 ∷ 0 ∷ 1 ∷ []) ≡ Done (Disk 513 1 0 0 1)
-
   -- ---- refusals
   -- 2: "ZZ", "rd", "RE", "WD", "BV", "ST", whatever their length
   pub kinds : numbers ((0x5a ∷ 0x5a ∷ 1 ∷ []) ∷ (0x72 ∷ 0x64 ∷ 0 ∷ 0 ∷ 0xfe ∷ 0xe1 ∷ 0xef ∷ 0 ∷ []) ∷ (0x52 ∷ 0x45 ∷ 0 ∷ 0 ∷ []) ∷ (0x57 ∷ 0x44 ∷ 0 ∷ 0 ∷ []) ∷ (0x42 ∷ 0x56 ∷ 0 ∷ 0 ∷ []) ∷ (0x53 ∷ 0x54 ∷ 0 ∷ 0 ∷ []) ∷ [])
@@ -65,7 +63,6 @@ pub record Samples : Type 0 where
   -- DI with 2 at each place, in a removal too
   pub diskRange : numbers ((0x44 ∷ 0x49 ∷ 0 ∷ 0 ∷ 1 ∷ 1 ∷ 1 ∷ 1 ∷ []) ∷ (0x44 ∷ 0x49 ∷ 0 ∷ 0 ∷ 2 ∷ 0 ∷ 0 ∷ 0 ∷ []) ∷ (0x44 ∷ 0x49 ∷ 0 ∷ 0 ∷ 0 ∷ 2 ∷ 0 ∷ 0 ∷ []) ∷ (0x44 ∷ 0x49 ∷ 0 ∷ 0 ∷ 0 ∷ 0 ∷ 2 ∷ 0 ∷ []) ∷ (0x44 ∷ 0x49 ∷ 0 ∷ 0 ∷ 0 ∷ 0 ∷ 0 ∷ 2 ∷ []) ∷ [])
       ≡ 0 ∷ 5 ∷ 5 ∷ 5 ∷ 5 ∷ []
-
   -- ---- framed, and answers
   -- The length counts what follows it, low byte first, and is 2 or more.
   pub whole : frameOf (3 ∷ 0 ∷ 1 ∷ 2 ∷ 3 ∷ 4 ∷ []) ≡ Whole 5
