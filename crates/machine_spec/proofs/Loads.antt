@@ -25,7 +25,7 @@ use Rattle.machine_spec.specs.declared.Machine.{Machine}
 use Rattle.machine_spec.specs.Accesses.{viaRead, iwmRead}
 use Rattle.machine_spec.specs.Action.{actedOf}
 use Rattle.machine_spec.specs.Stages.{itemWait, afterWait}
-use Rattle.machine_spec.specs.Step.{stepOf}
+use Rattle.machine_spec.specs.Step.{stepOf, afterItems}
 
 -- ---- the items that may come between
 -- A write to a T1 register (4 to 7) or to ACR (11).
@@ -50,11 +50,7 @@ abbrev pub allSpare : List Item → Bool
 allSpare [] = true
 allSpare (i ∷ is) = spares i && allSpare is
 
--- The machine after some items, the first done first; their VIA ticks.
-abbrev pub afterItems : Machine → List Item → Machine
-afterItems m [] = m
-afterItems m (i ∷ is) = afterItems (stepOf m i .machine) is
-
+-- Their VIA ticks.
 abbrev pub waitsOf : List Item → ℕ
 waitsOf [] = 0
 waitsOf (i ∷ is) = itemWait i + waitsOf is

@@ -32,8 +32,7 @@ use Rattle.image_spec.specs.DriveLayout.{driveBytes, strobeBytes}
 use Rattle.image_spec.specs.Image.{imageOf}
 use Rattle.run_spec.specs.Turn.{turnOf}
 use Rattle.run_spec.specs.Outcome.{cut, piecesFrom, onto, onPiece, runPieces, runOf}
-use Rattle.samples.specs.Steps.{afterAll}
-use Rattle.samples.specs.States.{StateSamples, filled}
+use Rattle.samples.specs.States.{StateSamples, withCellBytes}
 
 pub stateSamples : StateSamples
 unfolding allLevels le16Of le32Of replace portAFlags enabledBy freshVia portLevel latchOf tickOf ticks raisedOf asking levelOf resetOf acceptedVia
@@ -42,7 +41,7 @@ unfolding allLevels le16Of le32Of replace portAFlags enabledBy freshVia portLeve
     tickDrive driveTicks registerWritten isDriveSense driveSense senseShown acceptedDrive tickStrobe strobeTicks strobeAfter longEnough strobeWrites
     acceptedStrobe drivesTicks drivesDiskMoved placeRefused drivesPowered drivesAfter drivesShown acceptedDrives frameOf answerBytes noOf acceptedOf
     viaRead iwmRead eventOf actedOf refusesOf itemWait stepOf answerOf wiresOf selOf inputsOf interruptLevel headBytes viaBytes phaseBytes registerBytes
-    driveBytes strobeBytes imageOf turnOf cut piecesFrom onto onPiece runPieces runOf afterAll filled
+    driveBytes strobeBytes imageOf turnOf cut piecesFrom onto onPiece runPieces runOf withCellBytes
 stateSamples =
     record {
       image = refl;

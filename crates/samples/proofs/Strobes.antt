@@ -25,7 +25,6 @@ use Rattle.machine_spec.specs.Stages.{refusesOf, itemWait}
 use Rattle.machine_spec.specs.Step.{stepOf, answerOf}
 use Rattle.machine_spec.specs.Pins.{wiresOf, selOf}
 use Rattle.machine_spec.specs.Wiring.{inputsOf, interruptLevel}
-use Rattle.samples.specs.Steps.{afterAll}
 use Rattle.samples.specs.Strobes.{StrobeSamples}
 
 pub strobeSamples : StrobeSamples
@@ -34,7 +33,7 @@ unfolding allLevels le16Of le32Of replace portAFlags enabledBy freshVia portLeve
     shownLevel acceptedPhase next acts stepWires linesOff afterAccess lineByteOf senseAt readLine watchedOf heldStill unspoilt registerOf neighbour
     tickDrive driveTicks registerWritten isDriveSense driveSense senseShown acceptedDrive tickStrobe strobeTicks strobeAfter longEnough strobeWrites
     acceptedStrobe drivesTicks drivesDiskMoved placeRefused drivesPowered drivesAfter drivesShown acceptedDrives frameOf answerBytes noOf acceptedOf
-    viaRead iwmRead eventOf actedOf refusesOf itemWait stepOf answerOf wiresOf selOf inputsOf interruptLevel afterAll
+    viaRead iwmRead eventOf actedOf refusesOf itemWait stepOf answerOf wiresOf selOf inputsOf interruptLevel
 strobeSamples =
     record {
       internal = refl;

@@ -12,72 +12,72 @@ use Rattle.item_spec.specs.declared.Item.{Item}
 use Rattle.item_spec.specs.declared.Item.the-variants.{ReadVia, WriteVia, Second, Power}
 use Rattle.machine_spec.specs.declared.Machine.{Machine}
 use Rattle.machine_spec.specs.Machine.{freshMachine, withClock}
-use Rattle.samples.specs.Steps.{after, value, afterAll, each, portB}
+use Rattle.samples.specs.Steps.{afterItem, valueOf, afterItems, each, portB}
 
 -- The fresh machine with another store.
-abbrev pub storing : Store → Machine
-storing s = withClock freshMachine (withStore (freshMachine .clock) s)
+abbrev pub machineWith : Store → Machine
+machineWith s = withClock freshMachine (withStore (freshMachine .clock) s)
 
 abbrev pub seconds : Machine → ℕ
 seconds m = m .clock .store .seconds
 
 -- Seconds $1C4AB236, cell 5 $6E, cell 18 $34: no byte is the same backwards.
-abbrev pub filled : Machine
-filled = storing (put (Cell 18) 0x34 (put (Cell 5) 0x6e (withSeconds (freshMachine .clock .store) 0x1c4ab236)))
+abbrev pub clockMachine : Machine
+clockMachine = machineWith (put (Cell 18) 0x34 (put (Cell 5) 0x6e (withSeconds (freshMachine .clock .store) 0x1c4ab236)))
 
 -- A transaction begun: port B's bits 0 to 2 outputs, enable up, then down, data-clock high.
-abbrev pub begun : Machine → Machine
-begun m = afterAll m (portB 6 ∷ WriteVia 0 2 7 ∷ portB 2 ∷ [])
+abbrev pub afterSelect : Machine → Machine
+afterSelect m = afterItems m (portB 6 ∷ WriteVia 0 2 7 ∷ portB 2 ∷ [])
 
 -- The n highest of the low k bits of a byte, high-order first: for each data-clock low, then high, with the bit on the data line.
-unfoldable pub clocked : ℕ → ℕ → ℕ → List Item
-clocked zero k byte = []
-clocked (suc n) zero byte = []
-clocked (suc n) (suc k) byte = portB (byte / 2 ^ k % 2) ∷ portB (2 + byte / 2 ^ k % 2) ∷ clocked n k byte
+unfoldable pub bitItems : ℕ → ℕ → ℕ → List Item
+bitItems zero k byte = []
+bitItems (suc n) zero byte = []
+bitItems (suc n) (suc k) byte = portB (byte / 2 ^ k % 2) ∷ portB (2 + byte / 2 ^ k % 2) ∷ bitItems n k byte
 
 -- After a command, and after it and a data byte.
-abbrev pub commanded : ℕ → Machine → Machine
-commanded c m = afterAll (begun m) (clocked 8 8 c)
+abbrev pub afterCommand : ℕ → Machine → Machine
+afterCommand c m = afterItems (afterSelect m) (bitItems 8 8 c)
 
-abbrev pub wrote : ℕ → ℕ → Machine → Machine
-wrote c b m = afterAll (commanded c m) (clocked 8 8 b)
+abbrev pub afterWrite : ℕ → ℕ → Machine → Machine
+afterWrite c b m = afterItems (afterCommand c m) (bitItems 8 8 b)
 
 -- The data line made an input.
-abbrev pub asking : ℕ → Machine
-asking c = after (commanded c filled) (WriteVia 0 2 6)
+abbrev pub afterReadCommand : ℕ → Machine
+afterReadCommand c = afterItem (afterCommand c clockMachine) (WriteVia 0 2 6)
 
 -- After n falls, data-clock high again.
-unfoldable pub fallen : ℕ → Machine → Machine
-fallen zero m = m
-fallen (suc n) m = fallen n (afterAll m (portB 0 ∷ portB 2 ∷ []))
+unfoldable pub afterFalls : ℕ → Machine → Machine
+afterFalls zero m = m
+afterFalls (suc n) m = afterFalls n (afterItems m (portB 0 ∷ portB 2 ∷ []))
 
 -- Bit 0 of port B before the first fall and after each of nine.
-abbrev pub levels : ℕ → List ℕ
-levels c = each (λ n. value (fallen n (asking c)) (ReadVia 0 0) % 2) (0 ∷ 1 ∷ 2 ∷ 3 ∷ 4 ∷ 5 ∷ 6 ∷ 7 ∷ 8 ∷ 9 ∷ [])
+abbrev pub dataLevels : ℕ → List ℕ
+dataLevels c = each (λ n. valueOf (afterFalls n (afterReadCommand c)) (ReadVia 0 0) % 2) (0 ∷ 1 ∷ 2 ∷ 3 ∷ 4 ∷ 5 ∷ 6 ∷ 7 ∷ 8 ∷ 9 ∷ [])
 
 abbrev pub phase : Machine → Phase
 phase m = m .clock .phase
 
 -- The seconds after an item under each test byte.
-abbrev pub testing : Item → List ℕ
-testing i = each (λ t. seconds (after (storing (withTest (withSeconds (freshMachine .clock .store) 4294967295) t)) i)) (0x00 ∷ 0x80 ∷ 0x40 ∷ 0xc0 ∷ 0x20 ∷ 0x3f ∷ [])
+abbrev pub secondsByTest : Item → List ℕ
+secondsByTest i = each (λ t. seconds (afterItem (machineWith (withTest (withSeconds (freshMachine .clock .store) 4294967295) t)) i)) (0x00 ∷ 0x80 ∷ 0x40 ∷ 0xc0 ∷ 0x20 ∷ 0x3f ∷ [])
 
 pub record ClockSamples : Type 0 where
   -- "The next eight falls show its bits 7 to 0; the line is undriven before the first and from the ninth": seconds bytes 0 to 3, cell 5, cell 18.
-  pub seconds0 : levels 0x81 ≡ 1 ∷ 0 ∷ 0 ∷ 1 ∷ 1 ∷ 0 ∷ 1 ∷ 1 ∷ 0 ∷ 1 ∷ []
-  pub seconds1 : levels 0x85 ≡ 1 ∷ 1 ∷ 0 ∷ 1 ∷ 1 ∷ 0 ∷ 0 ∷ 1 ∷ 0 ∷ 1 ∷ []
-  pub seconds2 : levels 0x89 ≡ 1 ∷ 0 ∷ 1 ∷ 0 ∷ 0 ∷ 1 ∷ 0 ∷ 1 ∷ 0 ∷ 1 ∷ []
-  pub seconds3 : levels 0x8d ≡ 1 ∷ 0 ∷ 0 ∷ 0 ∷ 1 ∷ 1 ∷ 1 ∷ 0 ∷ 0 ∷ 1 ∷ []
-  pub cell5 : levels 0xd5 ≡ 1 ∷ 0 ∷ 1 ∷ 1 ∷ 0 ∷ 1 ∷ 1 ∷ 1 ∷ 0 ∷ 1 ∷ []
-  pub cell18 : levels 0xa9 ≡ 1 ∷ 0 ∷ 0 ∷ 1 ∷ 1 ∷ 0 ∷ 1 ∷ 0 ∷ 0 ∷ 1 ∷ []
+  pub seconds0 : dataLevels 0x81 ≡ 1 ∷ 0 ∷ 0 ∷ 1 ∷ 1 ∷ 0 ∷ 1 ∷ 1 ∷ 0 ∷ 1 ∷ []
+  pub seconds1 : dataLevels 0x85 ≡ 1 ∷ 1 ∷ 0 ∷ 1 ∷ 1 ∷ 0 ∷ 0 ∷ 1 ∷ 0 ∷ 1 ∷ []
+  pub seconds2 : dataLevels 0x89 ≡ 1 ∷ 0 ∷ 1 ∷ 0 ∷ 0 ∷ 1 ∷ 0 ∷ 1 ∷ 0 ∷ 1 ∷ []
+  pub seconds3 : dataLevels 0x8d ≡ 1 ∷ 0 ∷ 0 ∷ 0 ∷ 1 ∷ 1 ∷ 1 ∷ 0 ∷ 0 ∷ 1 ∷ []
+  pub cell5 : dataLevels 0xd5 ≡ 1 ∷ 0 ∷ 1 ∷ 1 ∷ 0 ∷ 1 ∷ 1 ∷ 1 ∷ 0 ∷ 1 ∷ []
+  pub cell18 : dataLevels 0xa9 ≡ 1 ∷ 0 ∷ 0 ∷ 1 ∷ 1 ∷ 0 ∷ 1 ∷ 0 ∷ 0 ∷ 1 ∷ []
   -- Sending until the eighth fall, ignoring at the ninth.
-  pub eighthFall : phase (fallen 8 (asking 0xd5)) ≡ Sending 0x6e 8
-  pub ninthFall : phase (fallen 9 (asking 0xd5)) ≡ Ignoring
+  pub eighthFall : phase (afterFalls 8 (afterReadCommand 0xd5)) ≡ Sending 0x6e 8
+  pub ninthFall : phase (afterFalls 9 (afterReadCommand 0xd5)) ≡ Ignoring
   -- Command bits 1, 1, 0, and data bits 1, 0, 1, 1, 0: the first is the highest.
-  pub command : phase (afterAll (begun filled) (clocked 3 3 6)) ≡ Listening 3 6
-  pub half : phase (afterAll (commanded 0x41 filled) (clocked 5 5 0x16)) ≡ Taking 0x41 5 0x16
+  pub command : phase (afterItems (afterSelect clockMachine) (bitItems 3 3 6)) ≡ Listening 3 6
+  pub half : phase (afterItems (afterCommand 0x41 clockMachine) (bitItems 5 5 0x16)) ≡ Taking 0x41 5 0x16
   -- $E9 written to each seconds byte.
-  pub written : each (λ c. seconds (wrote c 0xe9 filled)) (0x01 ∷ 0x05 ∷ 0x09 ∷ 0x0d ∷ []) ≡ 0x1c4ab2e9 ∷ 0x1c4ae936 ∷ 0x1ce9b236 ∷ 0xe94ab236 ∷ []
+  pub written : each (λ c. seconds (afterWrite c 0xe9 clockMachine)) (0x01 ∷ 0x05 ∷ 0x09 ∷ 0x0d ∷ []) ≡ 0x1c4ab2e9 ∷ 0x1c4ae936 ∷ 0x1ce9b236 ∷ 0xe94ab236 ∷ []
   -- Test bytes $80, $40 and $C0 stop the seconds, $20 and $3F do not: SE, and a power cut of $12345678 seconds, from 4,294,967,295.
-  pub tested : testing (Second 0) ≡ 0 ∷ 4294967295 ∷ 4294967295 ∷ 4294967295 ∷ 0 ∷ 0 ∷ []
-  pub testedOff : testing (Power 0 0x12345678) ≡ 0x12345677 ∷ 4294967295 ∷ 4294967295 ∷ 4294967295 ∷ 0x12345677 ∷ 0x12345677 ∷ []
+  pub tested : secondsByTest (Second 0) ≡ 0 ∷ 4294967295 ∷ 4294967295 ∷ 4294967295 ∷ 0 ∷ 0 ∷ []
+  pub testedOff : secondsByTest (Power 0 0x12345678) ≡ 0x12345677 ∷ 4294967295 ∷ 4294967295 ∷ 4294967295 ∷ 0x12345677 ∷ 0x12345677 ∷ []

@@ -1,18 +1,13 @@
 -- Request W-203 in short runs from the fresh machine, as one statement about the definition that the run's contract cites.
 use mathlib.Core.Path.{_≡_}
-use mathlib.Core.Bool.{true, false}
 use mathlib.Core.List.{List, [], _∷_, _++_}
 use Prim.Native.Nat.{ℕ}
-use Rattle.machine_spec.specs.declared.Machine.{Machine}
-use Rattle.samples.specs.Lists.{wr, access, rdIwm, sn, di, rs, pw, selDown, ready, strobe}
-use Rattle.samples.specs.Samples.{ran, valuesFrom}
+use Rattle.samples.specs.Lists.{wr, access, rdIwm, di, rs, pw, selDown, ready, strobe}
+use Rattle.samples.specs.Samples.{valuesFrom}
 
 -- The sense that the addressed register of the selected drive shows: a read of location 14.
 abbrev pub sense : List ℕ
 sense = rdIwm 14
-
-abbrev pub after : List ℕ → Machine
-after l = ran l .machine
 
 -- The values of the answers are the numbers of the refusals.
 pub record DriveSamples : Type 0 where

@@ -11,7 +11,7 @@ use Rattle.item_spec.specs.declared.Item.the-variants.{ReadIwm, Sense}
 use Rattle.machine_spec.specs.declared.Machine.{Machine}
 use Rattle.machine_spec.specs.Machine.{freshMachine, withDrives}
 use Rattle.samples.specs.Registers.{sixteen}
-use Rattle.samples.specs.Steps.{value, afterAll, access, address}
+use Rattle.samples.specs.Steps.{valueOf, afterItems, accessItem, addressItems}
 
 -- Direction 0, a locked disk, single-sided, the motor on, stepping, at track 0.
 abbrev pub inner : Drive
@@ -22,8 +22,8 @@ abbrev pub outer : Drive
 outer = withTrack (withDirection (withDiskState freshDrive false false true) true) 5
 
 -- SN levels of 0, the others being 1 as when fresh: those that a drive's own registers must not show, and two opposite patterns at the other registers.
-abbrev pub stored : List Item
-stored =
+abbrev pub senseItems : List Item
+senseItems =
     Sense 0 0 6 0
     ∷ Sense 0 0 9 0
     ∷ Sense 0 0 11 0
@@ -42,25 +42,25 @@ stored =
     ∷ []
 
 -- Both drives, the levels stored, and Q6 on.
-abbrev pub drives : Machine
-drives = afterAll (withDrives freshMachine (withDriveAt true (withDriveAt false freshDrives inner) outer)) (stored ++ (access 13 ∷ []))
+abbrev pub twoDrives : Machine
+twoDrives = afterItems (withDrives freshMachine (withDriveAt true (withDriveAt false freshDrives inner) outer)) (senseItems ++ (accessItem 13 ∷ []))
 
 -- ENABLE on.
-abbrev pub enabled : Machine
-enabled = afterAll drives (access 9 ∷ [])
+abbrev pub twoDrivesOn : Machine
+twoDrivesOn = afterItems twoDrives (accessItem 9 ∷ [])
 
 -- What a read of location 14 gives of a drive's register.
-abbrev pub sensed : Machine → ℕ → ℕ → ℕ
-sensed m drive r = value (afterAll m (address drive r)) (ReadIwm 0 14)
+abbrev pub senseValue : Machine → ℕ → ℕ → ℕ
+senseValue m drive r = valueOf (afterItems m (addressItems drive r)) (ReadIwm 0 14)
 
 pub record SenseSamples : Type 0 where
   -- Registers 0 to 15 of the internal drive and of the external one: 0 to 5, 12 and 15 by the drive, the others by SN.
-  pub internal : sixteen (sensed enabled 0) ≡ 0 ∷ 0 ∷ 0 ∷ 0 ∷ 0 ∷ 0 ∷ 0 ∷ 128 ∷ 128 ∷ 0 ∷ 128 ∷ 0 ∷ 0 ∷ 128 ∷ 0 ∷ 0 ∷ []
-  pub external : sixteen (sensed enabled 1) ≡ 128 ∷ 128 ∷ 128 ∷ 128 ∷ 128 ∷ 128 ∷ 128 ∷ 0 ∷ 0 ∷ 128 ∷ 0 ∷ 128 ∷ 128 ∷ 0 ∷ 128 ∷ 0 ∷ []
+  pub internal : sixteen (senseValue twoDrivesOn 0) ≡ 0 ∷ 0 ∷ 0 ∷ 0 ∷ 0 ∷ 0 ∷ 0 ∷ 128 ∷ 128 ∷ 0 ∷ 128 ∷ 0 ∷ 0 ∷ 128 ∷ 0 ∷ 0 ∷ []
+  pub external : sixteen (senseValue twoDrivesOn 1) ≡ 128 ∷ 128 ∷ 128 ∷ 128 ∷ 128 ∷ 128 ∷ 128 ∷ 0 ∷ 0 ∷ 128 ∷ 0 ∷ 128 ∷ 128 ∷ 0 ∷ 128 ∷ 0 ∷ []
   -- "Or 1 while ENABLE is off."
-  pub disabled : sixteen (sensed drives 0) ≡ 128 ∷ 128 ∷ 128 ∷ 128 ∷ 128 ∷ 128 ∷ 128 ∷ 128 ∷ 128 ∷ 128 ∷ 128 ∷ 128 ∷ 128 ∷ 128 ∷ 128 ∷ 128 ∷ []
-  pub disabledToo : sixteen (sensed drives 1) ≡ 128 ∷ 128 ∷ 128 ∷ 128 ∷ 128 ∷ 128 ∷ 128 ∷ 128 ∷ 128 ∷ 128 ∷ 128 ∷ 128 ∷ 128 ∷ 128 ∷ 128 ∷ 128 ∷ []
+  pub disabled : sixteen (senseValue twoDrives 0) ≡ 128 ∷ 128 ∷ 128 ∷ 128 ∷ 128 ∷ 128 ∷ 128 ∷ 128 ∷ 128 ∷ 128 ∷ 128 ∷ 128 ∷ 128 ∷ 128 ∷ 128 ∷ 128 ∷ []
+  pub disabledToo : sixteen (senseValue twoDrives 1) ≡ 128 ∷ 128 ∷ 128 ∷ 128 ∷ 128 ∷ 128 ∷ 128 ∷ 128 ∷ 128 ∷ 128 ∷ 128 ∷ 128 ∷ 128 ∷ 128 ∷ 128 ∷ 128 ∷ []
   -- A read of each location, the addressed sense being 0: only 14 shows it, and only with Q6 on. "Every other IWM read gives $FF."
-  pub locations : sixteen (λ k. value (afterAll enabled (address 0 15)) (ReadIwm 0 k))
+  pub locations : sixteen (λ k. valueOf (afterItems twoDrivesOn (addressItems 0 15)) (ReadIwm 0 k))
       ≡ 255 ∷ 255 ∷ 255 ∷ 255 ∷ 255 ∷ 255 ∷ 255 ∷ 255 ∷ 255 ∷ 255 ∷ 255 ∷ 255 ∷ 255 ∷ 255 ∷ 0 ∷ 255 ∷ []
-  pub withoutQ6 : value (afterAll enabled (address 0 15 ++ (access 12 ∷ []))) (ReadIwm 0 14) ≡ 255
+  pub withoutQ6 : valueOf (afterItems twoDrivesOn (addressItems 0 15 ++ (accessItem 12 ∷ []))) (ReadIwm 0 14) ≡ 255

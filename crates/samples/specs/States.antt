@@ -23,16 +23,16 @@ use Rattle.machine_spec.specs.Machine.{freshMachine, withVia, withClock, withIn
 use Rattle.run_spec.specs.Outcome.{halt, runOf}
 use Rattle.image_spec.specs.Image.{imageOf}
 use Rattle.samples.specs.Registers.{mixed}
-use Rattle.samples.specs.Steps.{after, afterAll, each, access}
+use Rattle.samples.specs.Steps.{afterItem, afterItems, each, accessItem}
 use Rattle.samples.specs.Lists.{se}
 
 -- Cell i holds $D0 + i, the first n of them.
-unfoldable pub filled : ℕ → Store → Store
-filled zero s = s
-filled (suc n) s = put (Cell n) (0xd0 + n) (filled n s)
+unfoldable pub withCellBytes : ℕ → Store → Store
+withCellBytes zero s = s
+withCellBytes (suc n) s = put (Cell n) (0xd0 + n) (withCellBytes n s)
 
 abbrev pub busyStore : Store
-busyStore = filled 20 (withTest (withProtect (withSeconds (freshMachine .clock .store) 0x1c4ab236) true) 0x2b)
+busyStore = withCellBytes 20 (withTest (withProtect (withSeconds (freshMachine .clock .store) 0x1c4ab236) true) 0x2b)
 
 -- Internal: track 17, direction 0, a disk, not locked, double-sided, motor off, $1234 VIA ticks left of a step towards 0. External: track 42, direction 1, a locked
 -- disk, single-sided, motor on, no step. LSTRB on for $54321 VIA ticks.
@@ -54,7 +54,7 @@ busy =
     withDrives
     (withSense
     (withInputs
-    (withVia (afterAll freshMachine (access 1 ∷ access 7 ∷ access 9 ∷ access 13 ∷ [])) mixed)
+    (withVia (afterItems freshMachine (accessItem 1 ∷ accessItem 7 ∷ accessItem 9 ∷ accessItem 13 ∷ [])) mixed)
     (0 ∷ 1 ∷ 0 ∷ 1 ∷ 0 ∷ 1 ∷ 0 ∷ []))
     (1 ∷ 0 ∷ 0 ∷ 1 ∷ 0 ∷ 1 ∷ 1 ∷ 0 ∷ 1 ∷ 1 ∷ 1 ∷ 0 ∷ 0 ∷ 0 ∷ 1 ∷ 0 ∷ 0 ∷ 1 ∷ 1 ∷ 0 ∷ 1 ∷ 0 ∷ 0 ∷ 1 ∷ 0 ∷ 0 ∷ 0 ∷ 1 ∷ 1 ∷ 1 ∷ 0 ∷ 1 ∷ []))
     busyDrives
@@ -68,7 +68,7 @@ abbrev pub driveImage : Drive → List ℕ
 driveImage d = take 9 (drop 100 (imageOf (withDrives freshMachine (withDriveAt false freshDrives d))))
 
 abbrev pub linesImage : ℕ → List ℕ
-linesImage k = take 8 (drop 53 (imageOf (after freshMachine (access k))))
+linesImage k = take 8 (drop 53 (imageOf (afterItem freshMachine (accessItem k))))
 
 -- Whether the busy state is accepted with this phase, with these flags and enables.
 abbrev pub acceptedWith : Phase → Bool
@@ -78,8 +78,8 @@ abbrev pub acceptedFlags : ℕ → ℕ → Bool
 acceptedFlags f e = acceptedOf (withVia busy (withEnables (withFlags mixed f) e))
 
 -- The busy state with enable up: the chip is not idle, as it must be.
-abbrev pub unaccepted : Machine
-unaccepted = withVia busy freshVia
+abbrev pub enableUp : Machine
+enableUp = withVia busy freshVia
 
 pub record StateSamples : Type 0 where
   pub image : imageOf busy
@@ -109,7 +109,7 @@ pub record StateSamples : Type 0 where
       ++ (0 ∷ 0 ∷ 0 ∷ 0 ∷ 0 ∷ 0 ∷ 0 ∷ 0 ∷ 0 ∷ [])
       ++ (0 ∷ 0 ∷ 0 ∷ 0 ∷ 0 ∷ [])
   -- RS keeps T1 and T2's counters and latches, register 10, the clock's store, IN and sense levels and the drives.
-  pub reset : imageOf (after busy (Reset 0))
+  pub reset : imageOf (afterItem busy (Reset 0))
       ≡ (0x79 ∷ 0 ∷ 0x53 ∷ 0x54 ∷ [])
       ++ (0 ∷ 0 ∷ 0 ∷ 0 ∷ 0xe7 ∷ 0x5e ∷ 0x83 ∷ 0x94 ∷ 0 ∷ 0 ∷ 0xf8 ∷ 0xa2 ∷ 0xb9 ∷ 0 ∷ 0xc6 ∷ 0 ∷ 0 ∷ 0 ∷ 0 ∷ [])
       ++ (0 ∷ 0 ∷ 0 ∷ 0 ∷ [])
@@ -123,7 +123,7 @@ pub record StateSamples : Type 0 where
       ++ (0x2a ∷ 1 ∷ 1 ∷ 1 ∷ 0 ∷ 1 ∷ 0 ∷ 0 ∷ 0 ∷ [])
       ++ (0 ∷ 0 ∷ 0 ∷ 0 ∷ 0 ∷ [])
   -- PW keeps cells, seconds and time off, protect, test, IN and sense levels; it stops motors and drops the step.
-  pub power : imageOf (after busy (Power 0 0x11223344))
+  pub power : imageOf (afterItem busy (Power 0 0x11223344))
       ≡ (0x79 ∷ 0 ∷ 0x53 ∷ 0x54 ∷ [])
       ++ (0 ∷ 0 ∷ 0 ∷ 0 ∷ 0 ∷ 0 ∷ 0 ∷ 0 ∷ 0 ∷ 0 ∷ 0 ∷ 0 ∷ 0 ∷ 0 ∷ 0 ∷ 0 ∷ 0 ∷ 0 ∷ 0 ∷ [])
       ++ (0 ∷ 0 ∷ 0 ∷ 0 ∷ [])
@@ -171,5 +171,5 @@ pub record StateSamples : Type 0 where
       ≡ true ∷ false ∷ true ∷ false ∷ true ∷ false ∷ false ∷ false ∷ false ∷ true ∷ false ∷ true ∷ false ∷ []
   pub bounds : acceptedFlags 127 127 ∷ acceptedFlags 128 0 ∷ acceptedFlags 0 128 ∷ [] ≡ true ∷ false ∷ false ∷ []
   -- Refusal 7: "nothing read or written; stop 7, both counts 0; state handed back as given", with an empty list and no room too.
-  pub seven : runOf unaccepted se 800 ≡ halt unaccepted 7
-  pub sevenFirst : runOf unaccepted [] 0 ≡ halt unaccepted 7
+  pub seven : runOf enableUp se 800 ≡ halt enableUp 7
+  pub sevenFirst : runOf enableUp [] 0 ≡ halt enableUp 7

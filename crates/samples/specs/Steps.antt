@@ -6,21 +6,14 @@ use Rattle.item_spec.specs.declared.Item.the-variants.{WriteVia, WriteIwm}
 use Rattle.item_spec.specs.declared.Answer.{Answer}
 use Rattle.machine_spec.specs.declared.Machine.{Machine}
 use Rattle.machine_spec.specs.Step.{stepOf, answerOf}
+pub use Rattle.machine_spec.specs.Step.{afterItem, afterItems}
 
--- The machine after an item, the value that it reads, its answer.
-abbrev pub after : Machine → Item → Machine
-after m i = stepOf m i .machine
+-- The value that an item reads, and its answer.
+abbrev pub valueOf : Machine → Item → ℕ
+valueOf m i = stepOf m i .value
 
-abbrev pub value : Machine → Item → ℕ
-value m i = stepOf m i .value
-
-abbrev pub answer : Machine → Item → Answer
-answer m i = answerOf (stepOf m i)
-
--- The machine after some items.
-unfoldable pub afterAll : Machine → List Item → Machine
-afterAll m [] = m
-afterAll m (i ∷ is) = afterAll (after m i) is
+abbrev pub answerTo : Machine → Item → Answer
+answerTo m i = answerOf (stepOf m i)
 
 -- A function's values over a list.
 abbrev pub each : {A B : Type 0} → (A → B) → List A → List B
@@ -31,10 +24,10 @@ each f (x ∷ xs) = f x ∷ each f xs
 abbrev pub portB : ℕ → Item
 portB v = WriteVia 0 0 v
 
-abbrev pub access : ℕ → Item
-access k = WriteIwm 0 k 0
+abbrev pub accessItem : ℕ → Item
+accessItem k = WriteIwm 0 k 0
 
 -- Disk register 8·CA2 + 4·CA1 + 2·CA0 + SEL of a drive (1 is external), SEL by PA5 made an output.
-abbrev pub address : ℕ → ℕ → List Item
-address drive r =
-    access (r / 2 % 2) ∷ access (2 + r / 4 % 2) ∷ access (4 + r / 8 % 2) ∷ access (10 + drive) ∷ WriteVia 0 3 32 ∷ WriteVia 0 15 (32 * (r % 2)) ∷ []
+abbrev pub addressItems : ℕ → ℕ → List Item
+addressItems drive r =
+    accessItem (r / 2 % 2) ∷ accessItem (2 + r / 4 % 2) ∷ accessItem (4 + r / 8 % 2) ∷ accessItem (10 + drive) ∷ WriteVia 0 3 32 ∷ WriteVia 0 15 (32 * (r % 2)) ∷ []
