@@ -20,4 +20,8 @@ registerSamples =
       reset = refl;
       resetOther = refl;
       fresh = refl;
+      oneShot = refl;
+      freeRun = refl;
+      still = refl;
+      unarmed = refl;
     }

@@ -47,5 +47,6 @@ wiringSamples =
       counters = refl;
       tracks = refl;
       notYet = refl;
+      raised = refl;
       readAfter = refl;
     }

@@ -6,8 +6,8 @@ use mathlib.Core.Bool.{Bool, true, false, cond}
 use mathlib.Core.List.{List, [], _∷_}
 use Rattle.via.specs.declared.Via.{Via}
 use Rattle.via.specs.declared.Inputs.{Inputs}
-use Rattle.via.specs.Setters.{withPcr, withFlags}
-use Rattle.via.specs.Via.{freshVia, resetOf}
+use Rattle.via.specs.Setters.{withT1, withT2, withAcr, withPcr, withFlags}
+use Rattle.via.specs.Via.{freshVia, ticks, resetOf}
 use Rattle.via.specs.Writes.{viaWritten}
 use Rattle.via.specs.Registers.{registerRead}
 
@@ -71,6 +71,21 @@ other =
 abbrev pub outside : Inputs
 outside = record { b = 0x93; a = 0x58 }
 
+-- T1 at 1 with latches $0103, T2 at 2, both armed or not, no flag set, under this ACR; n VIA ticks later: T1's counter, armed, load due, T2's counter, armed, flags.
+abbrev pub timers : Bool → ℕ → Via
+timers armed acr =
+    withAcr
+    (withT2
+    (withT1 freshVia (record { counter = 1; low = 0x03; high = 0x01; armed = armed; due = false }))
+    (record { counter = 2; low = 0; armed = armed }))
+    acr
+
+abbrev pub timerRow : Via → List ℕ
+timerRow v = v .t1 .counter ∷ one (v .t1 .armed) ∷ one (v .t1 .due) ∷ v .t2 .counter ∷ one (v .t2 .armed) ∷ v .flags ∷ []
+
+abbrev pub sixTicks : Via → List (List ℕ)
+sixTicks v = timerRow (ticks 0 v) ∷ timerRow (ticks 1 v) ∷ timerRow (ticks 2 v) ∷ timerRow (ticks 3 v) ∷ timerRow (ticks 4 v) ∷ timerRow (ticks 5 v) ∷ []
+
 pub record RegisterSamples : Type 0 where
   -- The value that each register gives.
   pub reads : sixteen (λ r. registerRead r outside mixed .value) ≡ 0x12 ∷ 0x6a ∷ 0xd7 ∷ 0x3e ∷ 0xe7 ∷ 0x5e ∷ 0x83 ∷ 0x94 ∷ 0xf8 ∷ 0xa2 ∷ 0xc6 ∷ 0x0f ∷ 0x4d ∷ 0xfb ∷ 0xb1 ∷ 0x6a ∷ []
@@ -121,3 +136,12 @@ pub record RegisterSamples : Type 0 where
   pub reset : row (resetOf mixed) ≡ 0x00 ∷ 0x00 ∷ 0x00 ∷ 0x00 ∷ 0x5ee7 ∷ 0x83 ∷ 0x94 ∷ 0 ∷ 0 ∷ 0xa2f8 ∷ 0xb9 ∷ 0 ∷ 0xc6 ∷ 0x00 ∷ 0x00 ∷ 0x00 ∷ 0x00 ∷ []
   pub resetOther : row (resetOf other) ≡ 0x00 ∷ 0x00 ∷ 0x00 ∷ 0x00 ∷ 0xa118 ∷ 0x7c ∷ 0x6a ∷ 0 ∷ 0 ∷ 0x5d07 ∷ 0x46 ∷ 0 ∷ 0x39 ∷ 0x00 ∷ 0x00 ∷ 0x00 ∷ 0x00 ∷ []
   pub fresh : row freshVia ≡ 0 ∷ 0 ∷ 0 ∷ 0 ∷ 0 ∷ 0 ∷ 0 ∷ 0 ∷ 0 ∷ 0 ∷ 0 ∷ 0 ∷ 0 ∷ 0 ∷ 0 ∷ 0 ∷ 0 ∷ []
+  -- 0 to 5 VIA ticks in one shot; in free run (ACR bit 6); with T2 standing still (bit 5), the other bits set; and not armed in free run.
+  pub oneShot : sixTicks (timers true 0x9f)
+      ≡ (1 ∷ 1 ∷ 0 ∷ 2 ∷ 1 ∷ 0x00 ∷ []) ∷ (0 ∷ 1 ∷ 0 ∷ 1 ∷ 1 ∷ 0x00 ∷ []) ∷ (0xffff ∷ 0 ∷ 0 ∷ 0 ∷ 1 ∷ 0x40 ∷ []) ∷ (0xfffe ∷ 0 ∷ 0 ∷ 0xffff ∷ 0 ∷ 0x60 ∷ []) ∷ (0xfffd ∷ 0 ∷ 0 ∷ 0xfffe ∷ 0 ∷ 0x60 ∷ []) ∷ (0xfffc ∷ 0 ∷ 0 ∷ 0xfffd ∷ 0 ∷ 0x60 ∷ []) ∷ []
+  pub freeRun : sixTicks (timers true 0xdf)
+      ≡ (1 ∷ 1 ∷ 0 ∷ 2 ∷ 1 ∷ 0x00 ∷ []) ∷ (0 ∷ 1 ∷ 0 ∷ 1 ∷ 1 ∷ 0x00 ∷ []) ∷ (0xffff ∷ 1 ∷ 1 ∷ 0 ∷ 1 ∷ 0x40 ∷ []) ∷ (0x0103 ∷ 1 ∷ 0 ∷ 0xffff ∷ 0 ∷ 0x60 ∷ []) ∷ (0x0102 ∷ 1 ∷ 0 ∷ 0xfffe ∷ 0 ∷ 0x60 ∷ []) ∷ (0x0101 ∷ 1 ∷ 0 ∷ 0xfffd ∷ 0 ∷ 0x60 ∷ []) ∷ []
+  pub still : sixTicks (timers true 0xbf)
+      ≡ (1 ∷ 1 ∷ 0 ∷ 2 ∷ 1 ∷ 0x00 ∷ []) ∷ (0 ∷ 1 ∷ 0 ∷ 2 ∷ 1 ∷ 0x00 ∷ []) ∷ (0xffff ∷ 0 ∷ 0 ∷ 2 ∷ 1 ∷ 0x40 ∷ []) ∷ (0xfffe ∷ 0 ∷ 0 ∷ 2 ∷ 1 ∷ 0x40 ∷ []) ∷ (0xfffd ∷ 0 ∷ 0 ∷ 2 ∷ 1 ∷ 0x40 ∷ []) ∷ (0xfffc ∷ 0 ∷ 0 ∷ 2 ∷ 1 ∷ 0x40 ∷ []) ∷ []
+  pub unarmed : sixTicks (timers false 0x40)
+      ≡ (1 ∷ 0 ∷ 0 ∷ 2 ∷ 0 ∷ 0x00 ∷ []) ∷ (0 ∷ 0 ∷ 0 ∷ 1 ∷ 0 ∷ 0x00 ∷ []) ∷ (0xffff ∷ 0 ∷ 1 ∷ 0 ∷ 0 ∷ 0x00 ∷ []) ∷ (0x0103 ∷ 0 ∷ 0 ∷ 0xffff ∷ 0 ∷ 0x00 ∷ []) ∷ (0x0102 ∷ 0 ∷ 0 ∷ 0xfffe ∷ 0 ∷ 0x00 ∷ []) ∷ (0x0101 ∷ 0 ∷ 0 ∷ 0xfffd ∷ 0 ∷ 0x00 ∷ []) ∷ []

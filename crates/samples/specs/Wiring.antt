@@ -87,4 +87,6 @@ pub record WiringSamples : Type 0 where
   pub counters : each counterAfter (everyKind 3) ≡ 7 ∷ 7 ∷ 7 ∷ 7 ∷ 7 ∷ 7 ∷ 7 ∷ 7 ∷ 7 ∷ 7 ∷ 0 ∷ []
   pub tracks : each trackAfter (everyKind 3) ≡ 6 ∷ 6 ∷ 6 ∷ 6 ∷ 6 ∷ 6 ∷ 6 ∷ 6 ∷ 6 ∷ 6 ∷ 6 ∷ []
   pub notYet : each trackAfter (everyKind 2) ≡ 5 ∷ 5 ∷ 5 ∷ 5 ∷ 5 ∷ 5 ∷ 5 ∷ 5 ∷ 5 ∷ 5 ∷ 5 ∷ []
+  -- "VB sets flag 1, SE flag 0", and no other kind a flag.
+  pub raised : each (λ i. afterItem timerMachine i .via .flags) (everyKind 0) ≡ 0 ∷ 0 ∷ 0 ∷ 0 ∷ 2 ∷ 1 ∷ 0 ∷ 0 ∷ 0 ∷ 0 ∷ 0 ∷ []
   pub readAfter : valueOf timerMachine (ReadVia 3 4) ≡ 7
