@@ -47,6 +47,9 @@ clockSamples =
       command = refl;
       half = refl;
       written = refl;
+      protect = refl;
+      test = refl;
+      underProtect = (refl, refl, refl, refl);
       tested = refl;
       testedOff = refl;
     }

@@ -1,10 +1,12 @@
 -- The clock chip on the machine: bits taken and sent, a byte by its number, what the test byte stops. Document 01, "The clock's wires", and request W-204.
 use Prim.Native.Nat.{ℕ, zero, suc, _+_, _/_, _%_, _^_}
 use mathlib.Core.Path.{_≡_}
-use mathlib.Core.List.{List, [], _∷_, _++_}
+use mathlib.Core.Bool.{Bool, true, false}
+use mathlib.Core.List.{List, [], _∷_}
+use lib.ListN.{getD}
 use Rattle.clock_spec.specs.declared.Target.the-variants.{Cell}
 use Rattle.clock_spec.specs.declared.Store.{Store}
-use Rattle.clock_spec.specs.Store.{put, withSeconds, withTest}
+use Rattle.clock_spec.specs.Store.{put, withSeconds, withProtect, withTest}
 use Rattle.clock_spec.specs.declared.Phase.{Phase}
 use Rattle.clock_spec.specs.declared.Phase.the-variants.{Listening, Taking, Sending, Ignoring}
 use Rattle.clock.specs.Step.{withStore}
@@ -12,6 +14,7 @@ use Rattle.item_spec.specs.declared.Item.{Item}
 use Rattle.item_spec.specs.declared.Item.the-variants.{ReadVia, WriteVia, Second, Power}
 use Rattle.machine_spec.specs.declared.Machine.{Machine}
 use Rattle.machine_spec.specs.Machine.{freshMachine, withClock}
+use Rattle.samples.specs.Registers.{one}
 use Rattle.samples.specs.Steps.{afterItem, valueOf, afterItems, each, portB}
 
 -- The fresh machine with another store.
@@ -24,6 +27,13 @@ seconds m = m .clock .store .seconds
 -- Seconds $1C4AB236, cell 5 $6E, cell 18 $34: no byte is the same backwards.
 abbrev pub clockMachine : Machine
 clockMachine = machineWith (put (Cell 18) 0x34 (put (Cell 5) 0x6e (withSeconds (freshMachine .clock .store) 0x1c4ab236)))
+
+-- The same under protect.
+abbrev pub clockProtected : Machine
+clockProtected = machineWith (withProtect (clockMachine .clock .store) true)
+
+abbrev pub protectOf : Machine → Bool
+protectOf m = m .clock .store .protect
 
 -- A transaction begun: port B's bits 0 to 2 outputs, enable up, then down, data-clock high.
 abbrev pub afterSelect : Machine → Machine
@@ -78,6 +88,13 @@ pub record ClockSamples : Type 0 where
   pub half : phase (afterItems (afterCommand 0x41 clockMachine) (bitItems 5 5 0x16)) ≡ Taking 0x41 5 0x16
   -- $E9 written to each seconds byte.
   pub written : each (λ c. seconds (afterWrite c 0xe9 clockMachine)) (0x01 ∷ 0x05 ∷ 0x09 ∷ 0x0d ∷ []) ≡ 0x1c4ab2e9 ∷ 0x1c4ae936 ∷ 0x1ce9b236 ∷ 0xe94ab236 ∷ []
+  -- Of the byte written to protect only bit 7 is kept; test holds its byte. Under protect only protect can be written.
+  pub protect : each (λ b. one (protectOf (afterWrite 0x35 b clockMachine))) (0x80 ∷ 0x7f ∷ 0xff ∷ 0x00 ∷ []) ≡ 1 ∷ 0 ∷ 1 ∷ 0 ∷ []
+  pub test : afterWrite 0x31 0xe9 clockMachine .clock .store .test ≡ 0xe9
+  pub underProtect : (seconds (afterWrite 0x05 0xe9 clockProtected) ≡ 0x1c4ab236)
+      × (getD (afterWrite 0x29 0xe9 clockProtected .clock .store .cells) 18 0 ≡ 0x34)
+      × (afterWrite 0x31 0xe9 clockProtected .clock .store .test ≡ 0)
+      × (protectOf (afterWrite 0x35 0x7f clockProtected) ≡ false)
   -- Test bytes $80, $40 and $C0 stop the seconds, $20 and $3F do not: SE, and a power cut of $12345678 seconds, from 4,294,967,295.
   pub tested : secondsByTest (Second 0) ≡ 0 ∷ 4294967295 ∷ 4294967295 ∷ 4294967295 ∷ 0 ∷ 0 ∷ []
   pub testedOff : secondsByTest (Power 0 0x12345678) ≡ 0x12345677 ∷ 4294967295 ∷ 4294967295 ∷ 4294967295 ∷ 0x12345677 ∷ 0x12345677 ∷ []
