@@ -2,7 +2,7 @@
 use mathlib.Core.Path.{_≡_}
 use mathlib.Core.List.{List, [], _∷_, _++_}
 use Prim.Native.Nat.{ℕ}
-use Rattle.samples.specs.Lists.{wr, access, rdIwm, di, rs, pw, selDown, ready, strobe}
+use Rattle.samples.specs.Lists.{wr, access, rdIwm, di, rs, pw, ready, strobe}
 use Rattle.samples.specs.Samples.{valuesFrom}
 
 -- The sense that the addressed register of the selected drive shows: a read of location 14.

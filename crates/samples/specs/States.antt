@@ -17,7 +17,7 @@ use Rattle.disk_spec.specs.declared.Drive.{Drive}
 use Rattle.disk_spec.specs.Drive.{freshDrive, withDirection, withMotor, withStep, withTrack, withDiskState}
 use Rattle.disk_spec.specs.declared.Drives.{Drives}
 use Rattle.disk_spec.specs.Drives.{freshDrives, withDriveAt, withStrobe}
-use Rattle.item_spec.specs.declared.Item.the-variants.{WriteVia, Reset, Power}
+use Rattle.item_spec.specs.declared.Item.the-variants.{Reset, Power}
 use Rattle.machine_spec.specs.declared.Machine.{Machine}
 use Rattle.machine_spec.specs.Machine.{freshMachine, withVia, withClock, withInputs, withSense, withDrives, acceptedOf}
 use Rattle.run_spec.specs.Outcome.{halt, runOf}

@@ -1,11 +1,11 @@
 -- What a strobe writes to a drive, what spoils it, and what DI leaves: request W-203, in tables.
 use Prim.Native.Nat.{ℕ, _+_, _*_}
 use mathlib.Core.Path.{_≡_}
-use mathlib.Core.Bool.{Bool, true, false}
+use mathlib.Core.Bool.{true, false}
 use mathlib.Core.List.{List, [], _∷_, _++_}
 use Rattle.disk_spec.specs.declared.Drive.{Drive}
 use Rattle.disk_spec.specs.Drive.{freshDrive, withDirection, withMotor, withStep, withTrack, withDiskState}
-use Rattle.disk_spec.specs.Drives.{freshDrives, withDriveAt, driveAt, withStrobe}
+use Rattle.disk_spec.specs.Drives.{freshDrives, withDriveAt, withStrobe}
 use Rattle.disk_spec.specs.Strobe.{withTicks}
 use Rattle.item_spec.specs.declared.Item.{Item}
 use Rattle.item_spec.specs.declared.Item.the-variants.{WriteVia, WriteIwm, Disk}
