@@ -1,9 +1,10 @@
 -- "So an armed T1 loaded with N raises its flag exactly N+1 ticks later .., and in free run every N+2 ticks after, as long as no write to a T1 register or ACR, no reset and
 -- no power cut comes between": over any items carried out that are none of these, their waits added up.
-use Prim.Native.Nat.{ℕ, _+_, _*_, _/_}
+use Prim.Native.Nat.{ℕ, _+_, _*_, _/_, _%_, _^_}
 use mathlib.Core.Path.{_≡_, refl, sym, ap, ap₂, _∙_}
-use mathlib.Core.Bool.{Bool, true, false, not, _&&_, _||_}
+use mathlib.Core.Bool.{Bool, true, false, cond, not, _&&_, _||_}
 use mathlib.Core.List.{List, [], _∷_}
+use native.Mathlib.Omega.{arith}
 use borrow.Author.Tests.{not-true}
 use lib.Dec.{eqb, ltb, leb}
 use Rattle.levels.proofs.Laws.{no, both}
@@ -14,9 +15,9 @@ use Rattle.via_bits.specs.Bytes.{bit}
 use Rattle.via.specs.declared.Timer1.{Timer1}
 use Rattle.via.specs.declared.Via.{Via}
 use Rattle.via.specs.Setters.{withCounter1, withArmed1, withDue1}
-use Rattle.via.specs.Via.{latchOf, counter1, ticks, raisedOf}
+use Rattle.via.specs.Via.{latchOf, counter1, ticks, raisedOf, asking}
 use Rattle.via.specs.Writes.{viaWritten}
-use Rattle.via.specs.Registers.{registerRead}
+use Rattle.via.specs.Registers.{flagsByte, registerRead}
 use Rattle.via.proofs.Waits.{first, waits, ticks-add}
 use Rattle.via.proofs.FlagsExact.{flag-6}
 use Rattle.item_spec.specs.declared.Item.{Item}
@@ -139,6 +140,25 @@ loads m w v =
 abbrev pub flagFound : Machine → List Item → ℕ → Bool
 flagFound m is w = bit 6 (afterWait w (afterItems m is) .via .flags)
 
+-- An RD of register 13 shows it in bit 6.
+bit-6 : (x : ℕ) → (x % 128 + 128) / 2 ^ 6 % 2 ≡ x / 2 ^ 6 % 2
+bit-6 x = omega arith
+
+bit-6-low : (x : ℕ) → x % 128 / 2 ^ 6 % 2 ≡ x / 2 ^ 6 % 2
+bit-6-low x = omega arith
+
+in-13 : (v : Via) → bit 6 (flagsByte v) ≡ bit 6 (v .flags)
+unfolding flagsByte
+in-13 v = go (asking v)
+  where
+    go : (t : Bool) → bit 6 (cond t (v .flags % 128 + 128) (v .flags % 128)) ≡ bit 6 (v .flags)
+    go true = ap (λ (k : ℕ). eqb k 1) (bit-6 (v .flags))
+    go false = ap (λ (k : ℕ). eqb k 1) (bit-6-low (v .flags))
+
+pub flag-read : (m : Machine) (is : List Item) (w : ℕ) → bit 6 (stepOf (afterItems m is) (ReadVia w 13) .value) ≡ flagFound m is w
+unfolding stepOf actedOf itemWait viaRead registerRead
+flag-read m is w = in-13 (ticks w (afterItems m is .via))
+
 module _ (N : ℕ) (m : Machine) (l : Loaded N (m .via .t1)) (is : List Item) (h : allSpare is ≡ true) (w : ℕ) where
   abbrev W : ℕ
   W = waitsOf is
@@ -157,8 +177,8 @@ module _ (N : ℕ) (m : Machine) (l : Loaded N (m .via .t1)) (is : List Item) (h
       ∙ ap₂ (λ (k : ℕ) (c : Counter). steps w (bit 6 (m .via .acr)) k (unfired (steps W (bit 6 (m .via .acr)) k c)) .fired) (l .latches) start
 
   -- One shot: the flag is raised in this wait exactly where tick N+1 after the load is among its ticks.
-  pub t1-once : bit 6 (m .via .acr) ≡ false → flagFound m is w ≡ (bit 6 (u .flags) || (leb W N && ltb N (W + w)))
-  t1-once e =
+  pub raises-once : bit 6 (m .via .acr) ≡ false → flagFound m is w ≡ (bit 6 (u .flags) || (leb W N && ltb N (W + w)))
+  raises-once e =
       flag-6 w u
       ∙ ap (λ (x : Bool). bit 6 (u .flags) || x) (
       fired
@@ -167,8 +187,8 @@ module _ (N : ℕ) (m : Machine) (l : Loaded N (m .via .t1)) (is : List Item) (h
       )
 
   -- Free run: exactly where one of the ticks N+1, N+1 + (N+2), N+1 + 2 (N+2), .. after the load is: n ticks have (n + 1) / (N + 2) of them.
-  pub t1-every : bit 6 (m .via .acr) ≡ true → flagFound m is w ≡ (bit 6 (u .flags) || ltb ((W + 1) / (N + 2)) ((W + w + 1) / (N + 2)))
-  t1-every e =
+  pub raises-every : bit 6 (m .via .acr) ≡ true → flagFound m is w ≡ (bit 6 (u .flags) || ltb ((W + 1) / (N + 2)) ((W + w + 1) / (N + 2)))
+  raises-every e =
       flag-6 w u
       ∙ ap (λ (x : Bool). bit 6 (u .flags) || x) (
       fired
