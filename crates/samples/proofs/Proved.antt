@@ -74,7 +74,4 @@ driveSamples =
       motor = refl;
       overReset = refl;
       overPower = refl;
-      stored = refl;
-      shown = refl;
-      drive = (refl, refl, refl);
     }

@@ -34,7 +34,8 @@ pub extern "C" fn swarmtempo_fresh(image: &mut [u8]) -> u8
 }
 
 // Runs the list from the image's state, and leaves the image of the state reached. The stop number: 0, 1 or 6; 7 where no
-// accepted state has this image. The last clause is demand 3, from the image's state.
+// accepted state has this image. The last two clauses: the state of the image left is the state reached, so that call after call is one run; and demand 3,
+// from the image's state.
 #[no_mangle]
 pub extern "C" fn swarmtempo_run(
     image: &mut [u8],
@@ -49,6 +50,7 @@ pub extern "C" fn swarmtempo_run(
     ensures { λ _. ⌜ now (image .exit) ≡ callImage (now (image .entry)) (now (list .entry)) (length (now (answers .entry))) ⌝ }
     ensures { λ _. ⌜ now (answers .exit) ≡ callAnswers (now (image .entry)) (now (list .entry)) (now (answers .entry)) ⌝ }
     ensures { λ _. ⌜ validImage (now (image .exit)) ≡ validImage (now (image .entry)) ⌝ }
+    ensures { λ _. ⌜ machineOf (now (image .exit)) ≡ callOf (now (image .entry)) (now (list .entry)) (length (now (answers .entry))) .machine ⌝ }
     ensures { λ _. ⌜ (validImage (now (image .entry)) ≡ true → Run3 (machineOf (now (image .entry))) (now (list .entry)) (length (now (answers .entry))) (machineOf (now (image .exit)))) ⌝ }
 {
     *consumed = 0;

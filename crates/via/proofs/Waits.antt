@@ -8,6 +8,7 @@ use lib.Bits.{bitOr, or-zero-r}
 use Rattle.via_bits.proofs.Or.{or-assoc}
 use Rattle.via_timer.specs.Timer.{at, stepBy, step, steps}
 use Rattle.via_timer.specs.declared.Counter.{Counter}
+use Rattle.via_timer.proofs.Counts.{unfired}
 use Rattle.via.specs.Setters.{withCounter2, withArmed2, withFlags}
 use Rattle.via_bits.specs.Bytes.{bit}
 use Rattle.via.specs.Via.{latchOf, counter1, counter2, withCounters, tickOf, ticks, resetOf}
@@ -55,9 +56,6 @@ raised f a b c d =
 -- ---- a count that goes on from another: what has fired stays so
 abbrev joined : Counter → Counter → Counter
 joined a b = at (b .value) (b .armed) (b .due) (a .fired || b .fired)
-
-abbrev unfired : Counter → Counter
-unfired a = at (a .value) (a .armed) (a .due) false
 
 joined-by : (d z free : Bool) (latch : ℕ) (a : Counter) → joined a (stepBy d z free latch (unfired a)) ≡ stepBy d z free latch a
 joined-by true z free latch a = simp or-false
