@@ -1,5 +1,4 @@
 -- Where a transaction with the clock chip stands, by document 01, "The clock's wires". N is the number of cells.
--- The code of `between`, `commandPhase`, `commandBitPhase` and `fallPhase` is in phase, that of `shownLevel`, `fewBits` and `acceptedPhase` in phaselevels.
 use mathlib.Core.Bool.{Bool, true, false, cond, not, _&&_}
 use Prim.Native.Nat.{ℕ, _+_, _-_, _/_, _%_, _^_}
 use lib.Dec.{eqb, ltb}

@@ -1,5 +1,5 @@
-// The clock chip's commands, store and phases: types, what document 01 says of them (specs/) and the laws of that (proofs/). The code is in command, store,
-// phase and phaselevels; the chip itself and its step, with their definitions, are in clock.
+// The clock chip's commands, store and phases: types, what document 01 says of them (specs/) and the laws of that (proofs/).
+// The code is in clock_command, clock_store and clock_phase; the chip itself and its step, with their definitions, are in clock.
 
 // What a command names.
 pub enum Target {

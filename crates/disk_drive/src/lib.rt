@@ -98,10 +98,10 @@ pub fn power_cut(drive: Drive) -> Drive
 }
 
 // DI: a disk comes or leaves.
-pub fn move_disk(d: Drive, inserted: bool, locked: bool, sides: bool) -> Drive
-    ensures { λ r. ⌜ r ≡ diskMoved withDiskIn locked sides d ⌝ }
+pub fn move_disk(d: Drive, comes: bool, locked: bool, sides: bool) -> Drive
+    ensures { λ r. ⌜ r ≡ diskMoved comes locked sides d ⌝ }
 {
-    if inserted {
+    if comes {
         return insert(d, locked, sides);
     }
     remove(d)

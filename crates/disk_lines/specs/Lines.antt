@@ -1,5 +1,4 @@
 -- The disk lines: document 01, "Disk lines". A line is 0 (off) or 1 (on).
--- The code of `lineByteOf` and `senseAt` is in linebytes.
 use Prim.Native.Nat.{ℕ, _+_, _*_, _/_, _%_}
 use mathlib.Core.Bool.{Bool, cond, _&&_}
 use mathlib.Core.List.{List}

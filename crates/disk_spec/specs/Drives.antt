@@ -1,5 +1,4 @@
 -- The two drives and the strobe that writes to them, by request W-203: "Model two drives by source document 004."
--- The code of `drivesAfter`, `drivesShown` and `acceptedDrives` is in drivelines.
 use Prim.Native.Nat.{ℕ, _/_, _%_}
 use mathlib.Core.Bool.{Bool, true, false, not, _&&_}
 use lib.Dec.{eqb}

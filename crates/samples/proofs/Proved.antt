@@ -41,7 +41,7 @@ use Rattle.samples.specs.Drives.{DriveSamples}
 pub samples : Samples
 unfolding allLevels freshVia portLevel latchOf tickOf ticks raisedOf asking levelOf acceptedVia viaWritten registerRead named decode between fetch next acts put act
     stepWires shownLevel acceptedPhase linesOff lineByteOf wiresOf selOf inputsOf interruptLevel le16Of le32Of frameOf answerBytes noOf isKind placeFrom foundOf writeRecord plainRecord
-    decodedOf items.readOf acceptedOf acceptedDrives acceptedDrive acceptedStrobe itemWait viaRead actedOf stepOf refusesOf answerOf cut piecesFrom turnOf onto onPiece runPieces runOf sent values
+    decodedOf items.readRecord acceptedOf acceptedDrives acceptedDrive acceptedStrobe itemWait viaRead actedOf stepOf refusesOf answerOf cut piecesFrom turnOf onto onPiece runPieces runOf sent values
 samples =
     record {
       S1 = refl;
@@ -60,8 +60,8 @@ samples =
 
 pub driveSamples : DriveSamples
 unfolding allLevels freshVia tickOf ticks resetOf asking levelOf acceptedVia viaWritten between stepWires next acts act shownLevel acceptedPhase linesOff afterAccess lineByteOf
-    senseAt readLine wiresOf selOf watchedOf le16Of le32Of frameOf answerBytes noOf isKind placeFrom foundOf writeRecord plainRecord powerRecord diskRecord decodedOf items.readOf ranged.senseOf
-    registerWritten neighbour tickDrive driveTicks isDriveSense sense.senseOf senseShown acceptedDrive tickStrobe strobeTicks heldStill unspoilt strobeAfter registerOf
+    senseAt readLine wiresOf selOf watchedOf le16Of le32Of frameOf answerBytes noOf isKind placeFrom foundOf writeRecord plainRecord powerRecord diskRecord decodedOf items.readRecord ranged.senseRecord
+    registerWritten neighbour tickDrive driveTicks isDriveSense sense.driveSense senseShown acceptedDrive tickStrobe strobeTicks heldStill unspoilt strobeAfter registerOf
     longEnough strobeWrites acceptedStrobe drivesTicks drivesDiskMoved placeRefused drivesPowered drivesAfter drivesShown acceptedDrives
     acceptedOf itemWait iwmRead actedOf stepOf refusesOf answerOf cut piecesFrom turnOf onto onPiece runPieces runOf values
 driveSamples =

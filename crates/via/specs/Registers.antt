@@ -1,4 +1,4 @@
--- Reading the VIA's registers 0 to 15, by document 01: the value, and the flags that the read clears. The code is in registers.
+-- Reading the VIA's registers 0 to 15, by document 01: the value, and the flags that the read clears.
 use Prim.Native.Nat.{ℕ, _+_, _/_, _%_}
 use mathlib.Core.Bool.{Bool, cond}
 use lib.Dec.{eqb}

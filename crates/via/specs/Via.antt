@@ -1,5 +1,4 @@
 -- The VIA by document 01: fresh, its ports, its timers tick by tick, its flags and its level, reset.
--- The code of `raisedOf`, `asking`, `levelOf` and `acceptedVia` is in viaflags.
 use Prim.Native.Nat.{ℕ, zero, suc, _+_, _*_}
 use mathlib.Core.Bool.{Bool, true, false, cond, not, _&&_}
 use lib.Dec.{eqb, ltb}

@@ -1,4 +1,4 @@
-// The VIA: ports, two timers, registers written, reset; what is asked of its flags is in viaflags, reading in registers. The state goes in by value, and the next one comes out.
+// The VIA: ports, two timers, registers written, reset; what is asked of its flags is in via_flags, reading in via_registers. The state goes in by value, and the next one comes out.
 ghost use mathlib.Core.Path.{_≡_};
 ghost use mathlib.Core.Bool.{cond, false};
 ghost use Prim.Native.Nat.{_<_};
