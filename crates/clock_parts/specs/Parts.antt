@@ -12,8 +12,8 @@ use Rattle.clock_parts.specs.declared.Core.{Core}
 use Rattle.clock_parts.specs.declared.PhaseAfter.{PhaseAfter}
 use Rattle.clock_parts.specs.declared.PhaseAfter.the-variants.{Known, ByStore}
 
-abbrev pub clockOf : Core → List ℕ → Clock
-clockOf k cells = record { phase = k .phase; store = record { cells = cells; seconds = k .seconds; protect = k .protect; test = k .test } }
+abbrev pub wholeClock : Core → List ℕ → Clock
+wholeClock k cells = record { phase = k .phase; store = record { cells = cells; seconds = k .seconds; protect = k .protect; test = k .test } }
 
 abbrev pub corePhase : Core → Phase → Core
 corePhase k x = record { phase = x; seconds = k .seconds; protect = k .protect; test = k .test }

@@ -4,7 +4,7 @@ ghost use mathlib.Core.Bool.{true};
 ghost use Rattle.clock_spec.specs.Phase.{acceptedPhase, counts};
 ghost use Rattle.clock_spec.specs.Shared.{advance, stops};
 ghost use Rattle.clock.specs.Step.{stepWires};
-ghost use Rattle.clock_parts.specs.Parts.{clockOf, corePhase, coreSeconds, FitsPhase};
+ghost use Rattle.clock_parts.specs.Parts.{wholeClock, corePhase, coreSeconds, FitsPhase};
 use clock::Clock;
 use clock_spec::Edge;
 use clock_spec::Phase;
@@ -20,7 +20,7 @@ pub struct Core {
 }
 
 pub fn core_of(c: Clock) -> Core
-    ensures { λ r. ⌜ clockOf r (c .store .cells) ≡ c ⌝ }
+    ensures { λ r. ⌜ wholeClock r (c .store .cells) ≡ c ⌝ }
 {
     let p = c.phase;
     let s = c.store;
@@ -40,8 +40,8 @@ pub fn cells_of(c: Clock) -> [u8; 20]
 }
 
 // The clock put together.
-pub fn clock_of(k: Core, cells: [u8; 20]) -> Clock
-    ensures { λ r. ⌜ r ≡ clockOf k cells ⌝ }
+pub fn whole_clock(k: Core, cells: [u8; 20]) -> Clock
+    ensures { λ r. ⌜ r ≡ wholeClock k cells ⌝ }
 {
     let p = k.phase;
     let s = Store {
@@ -146,7 +146,7 @@ fn phase_after(p: Phase, e: Edge) -> PhaseAfter
 // The clock's step by the levels before an item and after it. The cells are touched at the eighth bit of a command or of a data byte alone.
 pub fn step(k: Core, before: Wires, after: Wires, cells: &mut [u8; 20]) -> Core
     requires { ⌜ acceptedPhase 20 (k .phase) (before .enable) ≡ true ⌝ }
-    ensures { λ r. ⌜ clockOf r (now (cells .exit)) ≡ stepWires 20 (clockOf k (now (cells .entry))) before after ⌝ }
+    ensures { λ r. ⌜ wholeClock r (now (cells .exit)) ≡ stepWires 20 (wholeClock k (now (cells .entry))) before after ⌝ }
 {
     let p = k.phase;
     match phase_after(p, clock_phase::edge_between(before, after)) {
@@ -157,7 +157,7 @@ pub fn step(k: Core, before: Wires, after: Wires, cells: &mut [u8; 20]) -> Core
             test: k.test,
         },
         PhaseAfter::ByStore => {
-            let c = clock_of(k, *cells).step(before, after);
+            let c = whole_clock(k, *cells).step(before, after);
             *cells = cells_of(c);
             core_of(c)
         }

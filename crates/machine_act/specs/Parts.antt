@@ -9,7 +9,7 @@ use Rattle.via.specs.Via.{freshVia, resetOf}
 use Rattle.via.specs.Writes.{viaWritten}
 use Rattle.clock_spec.specs.Phase.{acceptedPhase}
 use Rattle.clock_parts.specs.declared.Core.{Core}
-use Rattle.clock_parts.specs.Parts.{clockOf}
+use Rattle.clock_parts.specs.Parts.{wholeClock}
 use Rattle.disk_spec.specs.declared.Drives.{Drives}
 use Rattle.item_spec.specs.declared.Item.{Item}
 use Rattle.machine_spec.specs.declared.Machine.{Machine}
@@ -23,8 +23,8 @@ use Rattle.machine_act.specs.declared.Change.the-variants.{Nothing, Flag
 -- ---- the parts
 
 -- The machine m, with its clock, its drives and its sense registers taken from beside it.
-abbrev pub machineOf : Machine → Core → List ℕ → Drives → List ℕ → Machine
-machineOf m k cells d sense = record { via = m .via; clock = clockOf k cells; disk = m .disk; inputs = m .inputs; sense = sense; drives = d }
+abbrev pub wholeMachine : Machine → Core → List ℕ → Drives → List ℕ → Machine
+wholeMachine m k cells d sense = record { via = m .via; clock = wholeClock k cells; disk = m .disk; inputs = m .inputs; sense = sense; drives = d }
 
 -- The clock's phase goes with its wires, as in every accepted state.
 abbrev pub PhaseAccepted : Machine → Type 0
@@ -66,7 +66,7 @@ ChangeInRange Fresh = Unit {0}
 
 -- The machine that the parts after an action make, its change carried out.
 abbrev pub machineAfter : Acted → Machine → List ℕ → List ℕ → Machine
-machineAfter a m cells sense = machineOf (machineChange (a .change) (withDisk m (a .disk))) (a .core) cells (a .drives) (senseChange (a .change) sense)
+machineAfter a m cells sense = wholeMachine (machineChange (a .change) (withDisk m (a .disk))) (a .core) cells (a .drives) (senseChange (a .change) sense)
 
 -- The item's action, and the clock's look at its wires.
 abbrev pub clockedOf : Machine → Item → Machine

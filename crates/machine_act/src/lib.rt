@@ -7,7 +7,7 @@ ghost use lib.ListN.{getD};
 ghost use Rattle.levels.specs.Levels.{allLevels};
 ghost use Rattle.clock_spec.specs.Phase.{shownLevel, acceptedPhase};
 ghost use Rattle.clock.specs.Step.{stepWires};
-ghost use Rattle.clock_parts.specs.Parts.{clockOf};
+ghost use Rattle.clock_parts.specs.Parts.{wholeClock};
 ghost use Rattle.disk_lines.specs.Lines.{readLine, senseAt};
 ghost use Rattle.disk_spec.specs.Drives.{drivesShown};
 ghost use Rattle.item_spec.specs.Items.{ItemInRange};
@@ -17,7 +17,7 @@ ghost use Rattle.machine_spec.specs.Wiring.{inputsOf};
 ghost use Rattle.machine_spec.specs.Machine.{Levels, cellCount};
 ghost use Rattle.machine_spec.specs.Stages.{itemWait};
 ghost use Rattle.machine_spec.specs.Action.{actedOf};
-ghost use Rattle.machine_act.specs.Parts.{machineOf, machineAfter, clockedOf, ChangeInRange, PhaseAccepted};
+ghost use Rattle.machine_act.specs.Parts.{wholeMachine, machineAfter, clockedOf, ChangeInRange, PhaseAccepted};
 use clock_parts::Core;
 use disk_lines::DiskLines;
 use disk_spec::Drives;
@@ -50,15 +50,15 @@ pub struct Acted {
 }
 
 // The machine put together: m, with its clock, its drives and its sense registers taken from beside it.
-pub fn machine_of(m: Machine, k: Core, cells: [u8; 20], d: Drives, sense: [u8; 32]) -> Machine
-    ensures { λ r. ⌜ r ≡ machineOf m k cells d sense ⌝ }
+pub fn whole_machine(m: Machine, k: Core, cells: [u8; 20], d: Drives, sense: [u8; 32]) -> Machine
+    ensures { λ r. ⌜ r ≡ wholeMachine m k cells d sense ⌝ }
 {
     let v = m.via;
     let l = m.disk;
     let inputs = m.inputs;
     Machine {
         via: v,
-        clock: clock_parts::clock_of(k, cells),
+        clock: clock_parts::whole_clock(k, cells),
         disk: l,
         inputs: inputs,
         sense: sense,
@@ -114,7 +114,7 @@ fn iwm_value(d: DiskLines, drives: Drives, location: u8, ports: Ports, sense: &[
 // The clock's look at its wires, which a write to the VIA may have moved.
 fn clocked(k: Core, was: Ports, next: Ports, cells: &mut [u8; 20]) -> Core
     requires { ⌜ acceptedPhase cellCount (k .phase) (wiresOf was (shownLevel (k .phase)) .enable) ≡ true ⌝ }
-    ensures { λ r. ⌜ clockOf r (now (cells .exit)) ≡ stepWires cellCount (clockOf k (now (cells .entry))) (wiresOf was (shownLevel (k .phase))) (wiresOf next (shownLevel (k .phase))) ⌝ }
+    ensures { λ r. ⌜ wholeClock r (now (cells .exit)) ≡ stepWires cellCount (wholeClock k (now (cells .entry))) (wiresOf was (shownLevel (k .phase))) (wiresOf next (shownLevel (k .phase))) ⌝ }
 {
     let p = k.phase;
     let line = clock_phase::shown_line(p);
@@ -132,10 +132,10 @@ fn sense_index(drive: u8, register: u8) -> usize
 // What an item does, its wait having passed, and the clock's look at its wires.
 pub fn act(m: Machine, k: Core, d: Drives, item: Item, sense: &[u8; 32], cells: &mut [u8; 20]) -> Acted
     requires { ⌜ ItemInRange item ⌝ }
-    requires { ⌜ Levels (machineOf m k (now cells) d (now sense)) ⌝ }
-    requires { ⌜ PhaseAccepted (machineOf m k (now cells) d (now sense)) ⌝ }
-    ensures { λ r. ⌜ machineAfter r m (now (cells .exit)) (now (sense .entry)) ≡ clockedOf (machineOf m k (now (cells .entry)) d (now (sense .entry))) item ⌝ }
-    ensures { λ r. ⌜ r .value ≡ actedOf (machineOf m k (now (cells .entry)) d (now (sense .entry))) item .value ⌝ }
+    requires { ⌜ Levels (wholeMachine m k (now cells) d (now sense)) ⌝ }
+    requires { ⌜ PhaseAccepted (wholeMachine m k (now cells) d (now sense)) ⌝ }
+    ensures { λ r. ⌜ machineAfter r m (now (cells .exit)) (now (sense .entry)) ≡ clockedOf (wholeMachine m k (now (cells .entry)) d (now (sense .entry))) item ⌝ }
+    ensures { λ r. ⌜ r .value ≡ actedOf (wholeMachine m k (now (cells .entry)) d (now (sense .entry))) item .value ⌝ }
     ensures { λ r. ⌜ ChangeInRange (r .change) ⌝ }
 {
     let mut value: u8 = 0;

@@ -81,7 +81,7 @@ fn carried(mut m: Machine, list: &[u8], answers: &mut [u8]) -> Ran
         out += 8;
     }
     Ran {
-        machine: machine_act::machine_of(m, core, cells, drives, sense),
+        machine: machine_act::whole_machine(m, core, cells, drives, sense),
         stop: stop,
         consumed: at,
         written: out,

@@ -26,7 +26,7 @@ use Rattle.item_spec.specs.Record.{frameOf}
 use Rattle.item_spec.specs.declared.Framed.the-variants.{Whole}
 use Rattle.clock.specs.declared.Clock.{Clock}
 use Rattle.machine_spec.specs.Machine.{withVia, withDisk, withClock}
-use Rattle.machine_act.specs.Parts.{machineOf, machineChange, senseChange, Within}
+use Rattle.machine_act.specs.Parts.{wholeMachine, machineChange, senseChange, ChangeInRange}
 use Rattle.run.proofs.Loop as loop
 use Rattle.run.proofs.Loop.{Head, at-rest}
 use Rattle.run.proofs.carried.Statement.{statement}
@@ -45,7 +45,7 @@ use Rattle.item_record.proofs.frame.Reads as frame-reads
 use Rattle.item_record.proofs.no.Reads as no-reads
 use Rattle.machine_answer.proofs.answer.Reads as answer-reads
 use Rattle.run_record.proofs.judge.Reads as judge-reads
-use Rattle.machine_act.proofs.machine_of.Reads as machine-of-reads
+use Rattle.machine_act.proofs.whole_machine.Reads as whole-machine-reads
 use Rattle.item_record.proofs.put.Reads as put-reads
 use Rattle.machine_act.proofs.wait_of.Reads as wait-of-reads
 use Rattle.via.proofs.Via.reset.Reads as reset-reads
@@ -54,12 +54,12 @@ use Rattle.via.proofs.Via.write.Reads as write-reads
 use Rattle.via.proofs.fresh.Reads as fresh-reads
 
 abbrev Inv-loop : tie.InvT-loop
-Inv-loop list answers₀ m₀ core₀ cells₀ drives₀ sense₀ stop₀ at₀ out₀ answers m core cells drives sense stop at out = Head list answers₀ m₀ answers (machineOf m core cells drives sense) at out × (stop ≡ 0)
+Inv-loop list answers₀ m₀ core₀ cells₀ drives₀ sense₀ stop₀ at₀ out₀ answers m core cells drives sense stop at out = Head list answers₀ m₀ answers (wholeMachine m core cells drives sense) at out × (stop ≡ 0)
 
 abbrev μ-loop : tie.MeasureT-loop
 μ-loop list answers₀ m₀ core₀ cells₀ drives₀ sense₀ stop₀ at₀ out₀ answers m core cells drives sense stop at out = length list - at
 
--- where a machineOf record was found
+-- where a wholeMachine record was found
 found : (c : tie.After-known-told Inv-loop μ-loop) → frameOf (drop (c .before .before .before .before .before .before .before .loop .at) (now (c .before .before .before .before .before .before .before .before .before .before .before .before .before .before .before .args .list))) ≡ Whole (c .before .n .given .0 .0)
 found c = loop.frame-rest (now (c .before .before .before .before .before .before .before .before .before .before .before .before .before .before .before .args .list)) (c .before .before .before .before .before .before .before .loop .at) (c .before .before .before .frame .ensures) (c .before .n .given .1)
 
@@ -81,25 +81,25 @@ stored c =
     (λ w. (simp (w .3, w .1 .given .1, w .2 .ensures), simp (w .4, w .1 .given .1)))))))) (c .match3 .came)
 
 -- the item carried out
-stepped : (c : tie.After-after Inv-loop μ-loop) → record { machine = machineOf (c .before .before .match3 .m) (c .before .before .before .before .before .before .act .result .core) (c .before .before .before .before .before .before .act .last .1 .1 .1 .1 .1 .0) (c .after .result) (c .before .before .match3 .sense); value = c .before .before .before .before .before .before .act .result .value } ≡ stepOf (machineOf (c .before .before .before .before .before .before .before .before .before .before .before .before .before .before .before .before .before .before .before .before .before .before .before .before .before .before .before .before .loop .m) (c .before .before .before .before .before .before .before .before .before .before .before .before .before .before .before .before .before .before .before .before .before .before .before .before .before .before .before .before .loop .core) (c .before .before .before .before .before .before .before .before .before .before .before .before .before .before .before .before .before .before .before .before .before .before .before .before .before .before .before .before .loop .cells) (c .before .before .before .before .before .before .before .before .before .before .before .before .before .before .before .before .before .before .before .before .before .before .before .before .before .before .before .before .loop .drives) (c .before .before .before .before .before .before .before .before .before .before .before .before .before .before .before .before .before .before .before .before .before .before .before .before .before .before .before .before .loop .sense)) (c .before .before .before .before .before .before .before .before .before .before .before .before .before .before .before .d .given .0 .0)
+stepped : (c : tie.After-after Inv-loop μ-loop) → record { machine = wholeMachine (c .before .before .match3 .m) (c .before .before .before .before .before .before .act .result .core) (c .before .before .before .before .before .before .act .last .1 .1 .1 .1 .1 .0) (c .after .result) (c .before .before .match3 .sense); value = c .before .before .before .before .before .before .act .result .value } ≡ stepOf (wholeMachine (c .before .before .before .before .before .before .before .before .before .before .before .before .before .before .before .before .before .before .before .before .before .before .before .before .before .before .before .before .loop .m) (c .before .before .before .before .before .before .before .before .before .before .before .before .before .before .before .before .before .before .before .before .before .before .before .before .before .before .before .before .loop .core) (c .before .before .before .before .before .before .before .before .before .before .before .before .before .before .before .before .before .before .before .before .before .before .before .before .before .before .before .before .loop .cells) (c .before .before .before .before .before .before .before .before .before .before .before .before .before .before .before .before .before .before .before .before .before .before .before .before .before .before .before .before .loop .drives) (c .before .before .before .before .before .before .before .before .before .before .before .before .before .before .before .before .before .before .before .before .before .before .before .before .before .before .before .before .loop .sense)) (c .before .before .before .before .before .before .before .before .before .before .before .before .before .before .before .d .given .0 .0)
 stepped c = turns.stepped (c .before .before .before .before .before .before .before .before .before .before .before .before .before .before .before .before .before .before .before .before .before .before .before .before .before .before .before .before .loop .m) (c .before .before .before .before .before .before .before .before .before .before .before .before .before .before .before .before .before .before .before .before .before .before .before .before .before .before .before .before .loop .core) (c .before .before .before .before .before .before .before .before .before .before .before .before .before .before .before .before .before .before .before .before .before .before .before .before .before .before .before .before .loop .cells) (c .before .before .before .before .before .before .before .before .before .before .before .before .before .before .before .before .before .before .before .before .before .before .before .before .before .before .before .before .loop .drives) (c .before .before .before .before .before .before .before .before .before .before .before .before .before .before .before .before .before .before .before .before .before .before .before .before .before .before .before .before .loop .sense) (c .before .before .before .before .before .before .before .before .before .before .before .before .before .before .before .d .given .0 .0) _ (c .before .before .before .before .before .before .before .before .before .before .wait .ensures ∙ ap (λ (n : ℕ). ticks n (c .before .before .before .before .before .before .before .before .before .before .before .before .before .before .before .before .before .before .before .before .before .before .before .before .before .before .before .before .loop .m .via)) (c .before .before .before .before .before .before .before .before .before .before .before .before .wait-of .ensures)) _ (c .before .before .before .before .before .before .before .before .before .wait2 .ensures ∙ ap (λ (n : ℕ). drivesTicks n (c .before .before .before .before .before .before .before .before .before .before .before .before .before .before .before .before .before .before .before .before .before .before .before .before .before .before .before .before .loop .drives)) (c .before .before .before .before .before .before .before .before .before .before .before .before .wait-of .ensures)) (c .before .before .before .before .before .before .act .result) _ (c .before .before .before .before .before .before .act .ensures .0) (c .before .before .before .before .before .before .act .ensures .1 .0) _ _ (stored (c .before .before) .0) (stored (c .before .before) .1) _ (simp (c .after .ensures, c .before .before .before .before .before .before .before .before .before .before .before .before .before .watched .ensures, c .before .watched2 .ensures))
 
 range : (c : tie.After-known-told2 Inv-loop μ-loop) → ItemInRange (c .before .d .given .0 .0)
 range c = subst JudgedInRange (c .before .d .given .1) (c .before .before .before .before .before .judge .ensures .1)
 
 -- its record
-did : (c : tie.After-answer Inv-loop μ-loop) → record { machine = machineOf (c .before .before .before .match3 .m) (c .before .before .before .before .before .before .before .act .result .core) (c .before .before .before .before .before .before .before .act .last .1 .1 .1 .1 .1 .0) (c .before .after .result) (c .before .before .before .match3 .sense); answer = c .answer .result }
-    ≡ turnOf (machineOf (c .before .before .before .before .before .before .before .before .before .before .before .before .before .before .before .before .before .before .before .before .before .before .before .before .before .before .before .before .before .loop .m) (c .before .before .before .before .before .before .before .before .before .before .before .before .before .before .before .before .before .before .before .before .before .before .before .before .before .before .before .before .before .loop .core) (c .before .before .before .before .before .before .before .before .before .before .before .before .before .before .before .before .before .before .before .before .before .before .before .before .before .before .before .before .before .loop .cells) (c .before .before .before .before .before .before .before .before .before .before .before .before .before .before .before .before .before .before .before .before .before .before .before .before .before .before .before .before .before .loop .drives) (c .before .before .before .before .before .before .before .before .before .before .before .before .before .before .before .before .before .before .before .before .before .before .before .before .before .before .before .before .before .loop .sense)) (take (c .before .before .before .before .before .before .before .before .before .before .before .before .before .before .before .before .before .before .before .before .before .before .before .n .given .0 .0 - 2) (drop 2 (take (length (now (c .before .before .before .before .before .before .before .before .before .before .before .before .before .before .before .before .before .before .before .before .before .before .before .before .before .before .before .before .before .before .before .before .before .before .before .before .before .args .list)) - c .before .before .before .before .before .before .before .before .before .before .before .before .before .before .before .before .before .before .before .before .before .before .before .before .before .before .before .before .before .loop .at) (drop (c .before .before .before .before .before .before .before .before .before .before .before .before .before .before .before .before .before .before .before .before .before .before .before .before .before .before .before .before .before .loop .at) (now (c .before .before .before .before .before .before .before .before .before .before .before .before .before .before .before .before .before .before .before .before .before .before .before .before .before .before .before .before .before .before .before .before .before .before .before .before .before .args .list))))))
+did : (c : tie.After-answer Inv-loop μ-loop) → record { machine = wholeMachine (c .before .before .before .match3 .m) (c .before .before .before .before .before .before .before .act .result .core) (c .before .before .before .before .before .before .before .act .last .1 .1 .1 .1 .1 .0) (c .before .after .result) (c .before .before .before .match3 .sense); answer = c .answer .result }
+    ≡ turnOf (wholeMachine (c .before .before .before .before .before .before .before .before .before .before .before .before .before .before .before .before .before .before .before .before .before .before .before .before .before .before .before .before .before .loop .m) (c .before .before .before .before .before .before .before .before .before .before .before .before .before .before .before .before .before .before .before .before .before .before .before .before .before .before .before .before .before .loop .core) (c .before .before .before .before .before .before .before .before .before .before .before .before .before .before .before .before .before .before .before .before .before .before .before .before .before .before .before .before .before .loop .cells) (c .before .before .before .before .before .before .before .before .before .before .before .before .before .before .before .before .before .before .before .before .before .before .before .before .before .before .before .before .before .loop .drives) (c .before .before .before .before .before .before .before .before .before .before .before .before .before .before .before .before .before .before .before .before .before .before .before .before .before .before .before .before .before .loop .sense)) (take (c .before .before .before .before .before .before .before .before .before .before .before .before .before .before .before .before .before .before .before .before .before .before .before .n .given .0 .0 - 2) (drop 2 (take (length (now (c .before .before .before .before .before .before .before .before .before .before .before .before .before .before .before .before .before .before .before .before .before .before .before .before .before .before .before .before .before .before .before .before .before .before .before .before .before .args .list)) - c .before .before .before .before .before .before .before .before .before .before .before .before .before .before .before .before .before .before .before .before .before .before .before .before .before .before .before .before .before .loop .at) (drop (c .before .before .before .before .before .before .before .before .before .before .before .before .before .before .before .before .before .before .before .before .before .before .before .before .before .before .before .before .before .loop .at) (now (c .before .before .before .before .before .before .before .before .before .before .before .before .before .before .before .before .before .before .before .before .before .before .before .before .before .before .before .before .before .before .before .before .before .before .before .before .before .args .list))))))
 unfolding turnJudged
-did c = turns.done (c .before .before .before .before .before .before .before .before .before .before .before .before .before .before .before .before .before .before .before .before .before .before .before .before .before .before .before .before .before .loop .m) (c .before .before .before .before .before .before .before .before .before .before .before .before .before .before .before .before .before .before .before .before .before .before .before .before .before .before .before .before .before .loop .core) (c .before .before .before .before .before .before .before .before .before .before .before .before .before .before .before .before .before .before .before .before .before .before .before .before .before .before .before .before .before .loop .cells) (c .before .before .before .before .before .before .before .before .before .before .before .before .before .before .before .before .before .before .before .before .before .before .before .before .before .before .before .before .before .loop .drives) (c .before .before .before .before .before .before .before .before .before .before .before .before .before .before .before .before .before .before .before .before .before .before .before .before .before .before .before .before .before .loop .sense) (c .before .before .before .before .before .before .before .before .before .before .before .before .before .before .before .before .d .given .0 .0) _ (c .before .before .before .before .before .before .before .before .before .before .before .wait .ensures ∙ ap (λ (n : ℕ). ticks n (c .before .before .before .before .before .before .before .before .before .before .before .before .before .before .before .before .before .before .before .before .before .before .before .before .before .before .before .before .before .loop .m .via)) (c .before .before .before .before .before .before .before .before .before .before .before .before .before .wait-of .ensures)) _ (c .before .before .before .before .before .before .before .before .before .before .wait2 .ensures ∙ ap (λ (n : ℕ). drivesTicks n (c .before .before .before .before .before .before .before .before .before .before .before .before .before .before .before .before .before .before .before .before .before .before .before .before .before .before .before .before .before .loop .drives)) (c .before .before .before .before .before .before .before .before .before .before .before .before .before .wait-of .ensures)) (c .before .before .before .before .before .before .before .act .result) _ (c .before .before .before .before .before .before .before .act .ensures .0) (c .before .before .before .before .before .before .before .act .ensures .1 .0) _ _ (stored (c .before .before .before) .0) (stored (c .before .before .before) .1) _ (simp (c .before .after .ensures, c .before .before .before .before .before .before .before .before .before .before .before .before .before .before .watched .ensures, c .before .before .watched2 .ensures)) _ (c .before .before .before .before .before .before .before .before .before .before .before .before .before .before .before .before .before .before .before .before .judge .ensures .0 (machineOf (c .before .before .before .before .before .before .before .before .before .before .before .before .before .before .before .before .before .before .before .before .before .before .before .before .before .before .before .before .before .loop .m) (c .before .before .before .before .before .before .before .before .before .before .before .before .before .before .before .before .before .before .before .before .before .before .before .before .before .before .before .before .before .loop .core) (c .before .before .before .before .before .before .before .before .before .before .before .before .before .before .before .before .before .before .before .before .before .before .before .before .before .before .before .before .before .loop .cells) (c .before .before .before .before .before .before .before .before .before .before .before .before .before .before .before .before .before .before .before .before .before .before .before .before .before .before .before .before .before .loop .drives) (c .before .before .before .before .before .before .before .before .before .before .before .before .before .before .before .before .before .before .before .before .before .before .before .before .before .before .before .before .before .loop .sense)) refl ∙ ap (turnJudged (machineOf (c .before .before .before .before .before .before .before .before .before .before .before .before .before .before .before .before .before .before .before .before .before .before .before .before .before .before .before .before .before .loop .m) (c .before .before .before .before .before .before .before .before .before .before .before .before .before .before .before .before .before .before .before .before .before .before .before .before .before .before .before .before .before .loop .core) (c .before .before .before .before .before .before .before .before .before .before .before .before .before .before .before .before .before .before .before .before .before .before .before .before .before .before .before .before .before .loop .cells) (c .before .before .before .before .before .before .before .before .before .before .before .before .before .before .before .before .before .before .before .before .before .before .before .before .before .before .before .before .before .loop .drives) (c .before .before .before .before .before .before .before .before .before .before .before .before .before .before .before .before .before .before .before .before .before .before .before .before .before .before .before .before .before .loop .sense))) (c .before .before .before .before .before .before .before .before .before .before .before .before .before .before .before .before .d .given .1)) _ (c .answer .ensures)
+did c = turns.done (c .before .before .before .before .before .before .before .before .before .before .before .before .before .before .before .before .before .before .before .before .before .before .before .before .before .before .before .before .before .loop .m) (c .before .before .before .before .before .before .before .before .before .before .before .before .before .before .before .before .before .before .before .before .before .before .before .before .before .before .before .before .before .loop .core) (c .before .before .before .before .before .before .before .before .before .before .before .before .before .before .before .before .before .before .before .before .before .before .before .before .before .before .before .before .before .loop .cells) (c .before .before .before .before .before .before .before .before .before .before .before .before .before .before .before .before .before .before .before .before .before .before .before .before .before .before .before .before .before .loop .drives) (c .before .before .before .before .before .before .before .before .before .before .before .before .before .before .before .before .before .before .before .before .before .before .before .before .before .before .before .before .before .loop .sense) (c .before .before .before .before .before .before .before .before .before .before .before .before .before .before .before .before .d .given .0 .0) _ (c .before .before .before .before .before .before .before .before .before .before .before .wait .ensures ∙ ap (λ (n : ℕ). ticks n (c .before .before .before .before .before .before .before .before .before .before .before .before .before .before .before .before .before .before .before .before .before .before .before .before .before .before .before .before .before .loop .m .via)) (c .before .before .before .before .before .before .before .before .before .before .before .before .before .wait-of .ensures)) _ (c .before .before .before .before .before .before .before .before .before .before .wait2 .ensures ∙ ap (λ (n : ℕ). drivesTicks n (c .before .before .before .before .before .before .before .before .before .before .before .before .before .before .before .before .before .before .before .before .before .before .before .before .before .before .before .before .before .loop .drives)) (c .before .before .before .before .before .before .before .before .before .before .before .before .before .wait-of .ensures)) (c .before .before .before .before .before .before .before .act .result) _ (c .before .before .before .before .before .before .before .act .ensures .0) (c .before .before .before .before .before .before .before .act .ensures .1 .0) _ _ (stored (c .before .before .before) .0) (stored (c .before .before .before) .1) _ (simp (c .before .after .ensures, c .before .before .before .before .before .before .before .before .before .before .before .before .before .before .watched .ensures, c .before .before .watched2 .ensures)) _ (c .before .before .before .before .before .before .before .before .before .before .before .before .before .before .before .before .before .before .before .before .judge .ensures .0 (wholeMachine (c .before .before .before .before .before .before .before .before .before .before .before .before .before .before .before .before .before .before .before .before .before .before .before .before .before .before .before .before .before .loop .m) (c .before .before .before .before .before .before .before .before .before .before .before .before .before .before .before .before .before .before .before .before .before .before .before .before .before .before .before .before .before .loop .core) (c .before .before .before .before .before .before .before .before .before .before .before .before .before .before .before .before .before .before .before .before .before .before .before .before .before .before .before .before .before .loop .cells) (c .before .before .before .before .before .before .before .before .before .before .before .before .before .before .before .before .before .before .before .before .before .before .before .before .before .before .before .before .before .loop .drives) (c .before .before .before .before .before .before .before .before .before .before .before .before .before .before .before .before .before .before .before .before .before .before .before .before .before .before .before .before .before .loop .sense)) refl ∙ ap (turnJudged (wholeMachine (c .before .before .before .before .before .before .before .before .before .before .before .before .before .before .before .before .before .before .before .before .before .before .before .before .before .before .before .before .before .loop .m) (c .before .before .before .before .before .before .before .before .before .before .before .before .before .before .before .before .before .before .before .before .before .before .before .before .before .before .before .before .before .loop .core) (c .before .before .before .before .before .before .before .before .before .before .before .before .before .before .before .before .before .before .before .before .before .before .before .before .before .before .before .before .before .loop .cells) (c .before .before .before .before .before .before .before .before .before .before .before .before .before .before .before .before .before .before .before .before .before .before .before .before .before .before .before .before .before .loop .drives) (c .before .before .before .before .before .before .before .before .before .before .before .before .before .before .before .before .before .before .before .before .before .before .before .before .before .before .before .before .before .loop .sense))) (c .before .before .before .before .before .before .before .before .before .before .before .before .before .before .before .before .d .given .1)) _ (c .answer .ensures)
 
 -- where the ways of the record meet: the parts together are the turn's machine
-met : (c : tie.At-match2-came Inv-loop μ-loop) → record { machine = machineOf (c .match2 .m) (c .match2 .core) (c .match2 .cells) (c .match2 .drives) (c .match2 .sense); answer = c .match2 .answer } ≡ turnOf (machineOf (c .before .before .before .before .before .before .before .before .before .before .before .before .loop .m) (c .before .before .before .before .before .before .before .before .before .before .before .before .loop .core) (c .before .before .before .before .before .before .before .before .before .before .before .before .loop .cells) (c .before .before .before .before .before .before .before .before .before .before .before .before .loop .drives) (c .before .before .before .before .before .before .before .before .before .before .before .before .loop .sense)) (take (c .before .before .before .before .before .before .n .given .0 .0 - 2) (drop 2 (take (length (now (c .before .before .before .before .before .before .before .before .before .before .before .before .before .before .before .before .before .before .before .before .args .list)) - c .before .before .before .before .before .before .before .before .before .before .before .before .loop .at) (drop (c .before .before .before .before .before .before .before .before .before .before .before .before .loop .at) (now (c .before .before .before .before .before .before .before .before .before .before .before .before .before .before .before .before .before .before .before .before .args .list))))))
+met : (c : tie.At-match2-came Inv-loop μ-loop) → record { machine = wholeMachine (c .match2 .m) (c .match2 .core) (c .match2 .cells) (c .match2 .drives) (c .match2 .sense); answer = c .match2 .answer } ≡ turnOf (wholeMachine (c .before .before .before .before .before .before .before .before .before .before .before .before .loop .m) (c .before .before .before .before .before .before .before .before .before .before .before .before .loop .core) (c .before .before .before .before .before .before .before .before .before .before .before .before .loop .cells) (c .before .before .before .before .before .before .before .before .before .before .before .before .loop .drives) (c .before .before .before .before .before .before .before .before .before .before .before .before .loop .sense)) (take (c .before .before .before .before .before .before .n .given .0 .0 - 2) (drop 2 (take (length (now (c .before .before .before .before .before .before .before .before .before .before .before .before .before .before .before .before .before .before .before .before .args .list)) - c .before .before .before .before .before .before .before .before .before .before .before .before .loop .at) (drop (c .before .before .before .before .before .before .before .before .before .before .before .before .loop .at) (now (c .before .before .before .before .before .before .before .before .before .before .before .before .before .before .before .before .before .before .before .before .args .list))))))
 unfolding turnJudged
 met c =
     ⊎-elim (λ w. simp (w .18, w .19, w .20, w .21, w .22, w .23) (did (record { before = record { before = record { before = record { before = record { before = record { before = record { before = record { before = record { before = record { before = record { before = record { before = record { before = record { before = record { before = record { before = record { before = record { before = c .before; match2 = w .0 }; d = w .1 }; known-told2 = w .2 }; watched = w .3 }; wait-of = w .4 }; wait-arg = w .5 }; wait = w .6 }; wait2 = w .7 }; sense2 = w .8 }; cells = w .9 }; act = w .10 }; disk = w .11 }; core = w .12 }; drives2 = w .13 }; match3 = w .14 }; watched2 = w .15 }; after = w .16 }; answer = w .17 })))
-    (λ w. simp (w .2, w .3, w .4, w .5, w .6, w .7) (sym (c .before .before .before .judge .ensures .0 (machineOf (c .before .before .before .before .before .before .before .before .before .before .before .before .loop .m) (c .before .before .before .before .before .before .before .before .before .before .before .before .loop .core) (c .before .before .before .before .before .before .before .before .before .before .before .before .loop .cells) (c .before .before .before .before .before .before .before .before .before .before .before .before .loop .drives) (c .before .before .before .before .before .before .before .before .before .before .before .before .loop .sense)) refl ∙ ap (turnJudged (machineOf (c .before .before .before .before .before .before .before .before .before .before .before .before .loop .m) (c .before .before .before .before .before .before .before .before .before .before .before .before .loop .core) (c .before .before .before .before .before .before .before .before .before .before .before .before .loop .cells) (c .before .before .before .before .before .before .before .before .before .before .before .before .loop .drives) (c .before .before .before .before .before .before .before .before .before .before .before .before .loop .sense))) (w .1 .given .1)
-      ∙ ap (λ (y : Answer). record { machine = (machineOf (c .before .before .before .before .before .before .before .before .before .before .before .before .loop .m) (c .before .before .before .before .before .before .before .before .before .before .before .before .loop .core) (c .before .before .before .before .before .before .before .before .before .before .before .before .loop .cells) (c .before .before .before .before .before .before .before .before .before .before .before .before .loop .drives) (c .before .before .before .before .before .before .before .before .before .before .before .before .loop .sense)); answer = y }) (sym (c .before .no2 .ensures ∙ ap noOf (c .before .before .refusal .ensures ∙ simp (w .1 .given .1))))))) (c .match2 .came)
+    (λ w. simp (w .2, w .3, w .4, w .5, w .6, w .7) (sym (c .before .before .before .judge .ensures .0 (wholeMachine (c .before .before .before .before .before .before .before .before .before .before .before .before .loop .m) (c .before .before .before .before .before .before .before .before .before .before .before .before .loop .core) (c .before .before .before .before .before .before .before .before .before .before .before .before .loop .cells) (c .before .before .before .before .before .before .before .before .before .before .before .before .loop .drives) (c .before .before .before .before .before .before .before .before .before .before .before .before .loop .sense)) refl ∙ ap (turnJudged (wholeMachine (c .before .before .before .before .before .before .before .before .before .before .before .before .loop .m) (c .before .before .before .before .before .before .before .before .before .before .before .before .loop .core) (c .before .before .before .before .before .before .before .before .before .before .before .before .loop .cells) (c .before .before .before .before .before .before .before .before .before .before .before .before .loop .drives) (c .before .before .before .before .before .before .before .before .before .before .before .before .loop .sense))) (w .1 .given .1)
+      ∙ ap (λ (y : Answer). record { machine = (wholeMachine (c .before .before .before .before .before .before .before .before .before .before .before .before .loop .m) (c .before .before .before .before .before .before .before .before .before .before .before .before .loop .core) (c .before .before .before .before .before .before .before .before .before .before .before .before .loop .cells) (c .before .before .before .before .before .before .before .before .before .before .before .before .loop .drives) (c .before .before .before .before .before .before .before .before .before .before .before .before .loop .sense)); answer = y }) (sym (c .before .no2 .ensures ∙ ap noOf (c .before .before .refusal .ensures ∙ simp (w .1 .given .1))))))) (c .match2 .came)
 
 -- the buffer keeps its length
 lengths : (c : tie.Left-loop Inv-loop μ-loop) → length (c .loop-test .answers) ≡ length (now (c .before .before .before .before .before .before .before .before .before .args .answers))
@@ -108,12 +108,12 @@ lengths c =
     ⊎-elim (λ w. ap length (w .1) ∙ h) (⊎-elim (λ w. ap length (w .2) ∙ h) (λ w. ap length (w .12) ∙ w .9 .kept .0 ∙ h)) (c .loop-test .came)
 
 -- where the ways out of the loop meet
-left : (c : tie.Left-loop Inv-loop μ-loop) → loop.Ret (now (c .before .before .before .before .before .before .before .before .before .args .list)) (now (c .before .before .before .before .before .before .before .before .before .args .answers)) (c .before .before .before .before .before .before .before .before .before .args .t1) (record { machine = (machineOf (c .before .loop .m) (c .before .loop .core) (c .before .loop .cells) (c .before .loop .drives) (c .before .loop .sense)); stop = c .loop-test .stop; consumed = c .before .loop .at; written = c .loop-test .out }) (c .loop-test .answers)
+left : (c : tie.Left-loop Inv-loop μ-loop) → loop.Ret (now (c .before .before .before .before .before .before .before .before .before .args .list)) (now (c .before .before .before .before .before .before .before .before .before .args .answers)) (c .before .before .before .before .before .before .before .before .before .args .t1) (record { machine = (wholeMachine (c .before .loop .m) (c .before .loop .core) (c .before .loop .cells) (c .before .loop .drives) (c .before .loop .sense)); stop = c .loop-test .stop; consumed = c .before .loop .at; written = c .loop-test .out }) (c .loop-test .answers)
 left c =
     let l = now (c .before .before .before .before .before .before .before .before .before .args .list) in let a = now (c .before .before .before .before .before .before .before .before .before .args .answers) in let m = c .before .before .before .before .before .before .before .before .before .args .t1 in let h = c .before .loop in
-    ⊎-elim (λ w. simp (w .1, w .2, w .3) (loop.ended l a m (c .before .before .before .before .before .before .before .before .before .pre) (h .answers) (machineOf (c .before .loop .m) (c .before .loop .core) (c .before .loop .cells) (c .before .loop .drives) (c .before .loop .sense)) (h .at) (h .out) (h .inv .0) (h .stop) (h .inv .1) (w .0 .left)))
-    (⊎-elim (λ w. simp (w .2, w .3, w .4) (loop.full l a m (c .before .before .before .before .before .before .before .before .before .pre) (h .answers) (machineOf (c .before .loop .m) (c .before .loop .core) (c .before .loop .cells) (c .before .loop .drives) (c .before .loop .sense)) (h .at) (h .out) (h .inv .0) (w .0 .taken) (w .1 .taken)))
-    (λ w. simp (w .12, w .13, w .14) (loop.cutoff l a m (c .before .before .before .before .before .before .before .before .before .pre) (h .answers) (machineOf (c .before .loop .m) (c .before .loop .core) (c .before .loop .cells) (c .before .loop .drives) (c .before .loop .sense)) (h .at) (h .out) (h .inv .0) (w .0 .taken) (w .1 .left)
+    ⊎-elim (λ w. simp (w .1, w .2, w .3) (loop.ended l a m (c .before .before .before .before .before .before .before .before .before .pre) (h .answers) (wholeMachine (c .before .loop .m) (c .before .loop .core) (c .before .loop .cells) (c .before .loop .drives) (c .before .loop .sense)) (h .at) (h .out) (h .inv .0) (h .stop) (h .inv .1) (w .0 .left)))
+    (⊎-elim (λ w. simp (w .2, w .3, w .4) (loop.full l a m (c .before .before .before .before .before .before .before .before .before .pre) (h .answers) (wholeMachine (c .before .loop .m) (c .before .loop .core) (c .before .loop .cells) (c .before .loop .drives) (c .before .loop .sense)) (h .at) (h .out) (h .inv .0) (w .0 .taken) (w .1 .taken)))
+    (λ w. simp (w .12, w .13, w .14) (loop.cutoff l a m (c .before .before .before .before .before .before .before .before .before .pre) (h .answers) (wholeMachine (c .before .loop .m) (c .before .loop .core) (c .before .loop .cells) (c .before .loop .drives) (c .before .loop .sense)) (h .at) (h .out) (h .inv .0) (w .0 .taken) (w .1 .left)
       (loop.frame-rest l (h .at) (w .3 .ensures) (w .5 .given .1)) (w .9 .last .0) (w .9 .ensures ∙ ap (putAt (h .answers) (h .out)) (w .8 .ensures ∙ ap answerBytes (w .7 .ensures)))))) (c .loop-test .came)
 
 
@@ -207,19 +207,19 @@ enum-known-change-2 : tie.Need-enum-known-change-2 Inv-loop μ-loop
 enum-known-change-2 c = search needs
 
 write-requires : tie.Need-write-requires Inv-loop μ-loop
-write-requires c κs = subst Within (c .before .before .change2 .given .1) (c .before .before .before .before .before .before .before .act .ensures .1 .1)
+write-requires c κs = subst ChangeInRange (c .before .before .change2 .given .1) (c .before .before .before .before .before .before .before .act .ensures .1 .1)
 
 enum-known-change-3 : tie.Need-enum-known-change-3 Inv-loop μ-loop
 enum-known-change-3 c = search needs
 
 element-write-m : tie.Need-element-write-m Inv-loop μ-loop
-element-write-m c = subst Within (c .before .change3 .given .1) (c .before .before .before .before .before .before .act .ensures .1 .1)
+element-write-m c = subst ChangeInRange (c .before .change3 .given .1) (c .before .before .before .before .before .before .act .ensures .1 .1)
 
 enum-known-change-4 : tie.Need-enum-known-change-4 Inv-loop μ-loop
 enum-known-change-4 c = search needs
 
 array-write-sense : tie.Need-array-write-sense Inv-loop μ-loop
-array-write-sense c = subst Within (c .before .change4 .given .1) (c .before .before .before .before .before .before .act .ensures .1 .1)
+array-write-sense c = subst ChangeInRange (c .before .change4 .given .1) (c .before .before .before .before .before .before .act .ensures .1 .1)
 
 enum-told-3 : tie.Need-enum-told-3 Inv-loop μ-loop
 enum-told-3 c = search needs
@@ -240,7 +240,7 @@ after-requires : tie.Need-after-requires Inv-loop μ-loop
 after-requires c κs = search needs
 
 answer-requires : tie.Need-answer-requires Inv-loop μ-loop
-answer-requires c κs = let l = parts _ (step-keeps (machineOf (c .before .before .before .before .before .before .before .before .before .before .before .before .before .before .before .before .before .before .before .before .before .before .before .before .before .before .before .before .loop .m) (c .before .before .before .before .before .before .before .before .before .before .before .before .before .before .before .before .before .before .before .before .before .before .before .before .before .before .before .before .loop .core) (c .before .before .before .before .before .before .before .before .before .before .before .before .before .before .before .before .before .before .before .before .before .before .before .before .before .before .before .before .loop .cells) (c .before .before .before .before .before .before .before .before .before .before .before .before .before .before .before .before .before .before .before .before .before .before .before .before .before .before .before .before .loop .drives) (c .before .before .before .before .before .before .before .before .before .before .before .before .before .before .before .before .before .before .before .before .before .before .before .before .before .before .before .before .loop .sense)) (c .before .before .before .before .before .before .before .before .before .before .before .before .before .before .before .d .given .0 .0) (range (c .before .before .before .before .before .before .before .before .before .before .before .before .before .before)) (c .before .before .before .before .before .before .before .before .before .before .before .before .before .before .before .before .before .before .before .before .before .before .before .before .before .before .before .before .loop .inv .0 .ok)) .levels in (ap (λ (y : Did). allLevels (y .machine .disk .lines)) (stepped c) ∙ l .0, ap (λ (y : Did). allLevels (y .machine .inputs)) (stepped c) ∙ l .1)
+answer-requires c κs = let l = parts _ (step-keeps (wholeMachine (c .before .before .before .before .before .before .before .before .before .before .before .before .before .before .before .before .before .before .before .before .before .before .before .before .before .before .before .before .loop .m) (c .before .before .before .before .before .before .before .before .before .before .before .before .before .before .before .before .before .before .before .before .before .before .before .before .before .before .before .before .loop .core) (c .before .before .before .before .before .before .before .before .before .before .before .before .before .before .before .before .before .before .before .before .before .before .before .before .before .before .before .before .loop .cells) (c .before .before .before .before .before .before .before .before .before .before .before .before .before .before .before .before .before .before .before .before .before .before .before .before .before .before .before .before .loop .drives) (c .before .before .before .before .before .before .before .before .before .before .before .before .before .before .before .before .before .before .before .before .before .before .before .before .before .before .before .before .loop .sense)) (c .before .before .before .before .before .before .before .before .before .before .before .before .before .before .before .d .given .0 .0) (range (c .before .before .before .before .before .before .before .before .before .before .before .before .before .before)) (c .before .before .before .before .before .before .before .before .before .before .before .before .before .before .before .before .before .before .before .before .before .before .before .before .before .before .before .before .loop .inv .0 .ok)) .levels in (ap (λ (y : Did). allLevels (y .machine .disk .lines)) (stepped c) ∙ l .0, ap (λ (y : Did). allLevels (y .machine .inputs)) (stepped c) ∙ l .1)
 
 enum-told-5 : tie.Need-enum-told-5 Inv-loop μ-loop
 enum-told-5 c = search needs
@@ -261,16 +261,16 @@ loop-less : tie.Need-loop-less Inv-loop μ-loop
 loop-less c = omega (arith, fits (c .before .before .before .before .before .before .before .before .before .before), c .before .before .before .before .before .before .before .before .before .before .before .before .before .before .before .before .loop-test .taken)
 
 loop-again : tie.Need-loop-again Inv-loop μ-loop
-loop-again c = (loop.again (now (c .before .before .before .before .before .before .before .before .before .before .before .before .before .before .before .before .before .before .before .before .before .before .before .before .before .args .list)) (now (c .before .before .before .before .before .before .before .before .before .before .before .before .before .before .before .before .before .before .before .before .before .before .before .before .before .args .answers)) (c .before .before .before .before .before .before .before .before .before .before .before .before .before .before .before .before .before .before .before .before .before .before .before .before .before .args .t1) (c .before .before .before .before .before .before .before .before .before .before .before .before .before .before .before .before .before .before .before .before .before .before .before .before .before .pre) (c .before .before .before .before .before .before .before .before .before .before .before .before .before .before .before .before .before .loop .answers) (machineOf (c .before .before .before .before .before .before .before .before .before .before .before .before .before .before .before .before .before .loop .m) (c .before .before .before .before .before .before .before .before .before .before .before .before .before .before .before .before .before .loop .core) (c .before .before .before .before .before .before .before .before .before .before .before .before .before .before .before .before .before .loop .cells) (c .before .before .before .before .before .before .before .before .before .before .before .before .before .before .before .before .before .loop .drives) (c .before .before .before .before .before .before .before .before .before .before .before .before .before .before .before .before .before .loop .sense)) (c .before .before .before .before .before .before .before .before .before .before .before .before .before .before .before .before .before .loop .at) (c .before .before .before .before .before .before .before .before .before .before .before .before .before .before .before .before .before .loop .out) (c .before .before .before .before .before .before .before .before .before .before .before .before .before .before .before .before .before .loop .inv .0) (c .before .before .before .before .before .before .before .before .before .before .before .before .before .before .before .before .loop-test .taken) (c .before .before .before .before .before .before .before .before .before .before .before .before .before .before .before .if1 .left) (c .before .before .before .before .before .before .before .before .before .before .before .n .given .0 .0) (found (c .before .before .before .before .before .before .before .before .before .before)) _ (met (c .before .before .before .before .before)) (c .before .before .before .answer-bytes2 .result) (c .before .before .before .answer-bytes2 .ensures) (c .before .before .put2 .last .0) (c .before .before .put2 .ensures), c .before .before .before .before .before .before .before .before .before .before .before .before .before .before .before .before .before .loop .inv .1)
+loop-again c = (loop.again (now (c .before .before .before .before .before .before .before .before .before .before .before .before .before .before .before .before .before .before .before .before .before .before .before .before .before .args .list)) (now (c .before .before .before .before .before .before .before .before .before .before .before .before .before .before .before .before .before .before .before .before .before .before .before .before .before .args .answers)) (c .before .before .before .before .before .before .before .before .before .before .before .before .before .before .before .before .before .before .before .before .before .before .before .before .before .args .t1) (c .before .before .before .before .before .before .before .before .before .before .before .before .before .before .before .before .before .before .before .before .before .before .before .before .before .pre) (c .before .before .before .before .before .before .before .before .before .before .before .before .before .before .before .before .before .loop .answers) (wholeMachine (c .before .before .before .before .before .before .before .before .before .before .before .before .before .before .before .before .before .loop .m) (c .before .before .before .before .before .before .before .before .before .before .before .before .before .before .before .before .before .loop .core) (c .before .before .before .before .before .before .before .before .before .before .before .before .before .before .before .before .before .loop .cells) (c .before .before .before .before .before .before .before .before .before .before .before .before .before .before .before .before .before .loop .drives) (c .before .before .before .before .before .before .before .before .before .before .before .before .before .before .before .before .before .loop .sense)) (c .before .before .before .before .before .before .before .before .before .before .before .before .before .before .before .before .before .loop .at) (c .before .before .before .before .before .before .before .before .before .before .before .before .before .before .before .before .before .loop .out) (c .before .before .before .before .before .before .before .before .before .before .before .before .before .before .before .before .before .loop .inv .0) (c .before .before .before .before .before .before .before .before .before .before .before .before .before .before .before .before .loop-test .taken) (c .before .before .before .before .before .before .before .before .before .before .before .before .before .before .before .if1 .left) (c .before .before .before .before .before .before .before .before .before .before .before .n .given .0 .0) (found (c .before .before .before .before .before .before .before .before .before .before)) _ (met (c .before .before .before .before .before)) (c .before .before .before .answer-bytes2 .result) (c .before .before .before .answer-bytes2 .ensures) (c .before .before .put2 .last .0) (c .before .before .put2 .ensures), c .before .before .before .before .before .before .before .before .before .before .before .before .before .before .before .before .before .loop .inv .1)
 
-machine-of-requires : tie.Need-machine-of-requires Inv-loop μ-loop
-machine-of-requires c κs = search needs
+whole-machine-requires : tie.Need-whole-machine-requires Inv-loop μ-loop
+whole-machine-requires c κs = search needs
 
 same-length : tie.Need-same-length Inv-loop μ-loop
 same-length c = lengths (c .before)
 
 returns : tie.Need-returns Inv-loop μ-loop
-returns c = simp (c .machine-of .ensures) (loop.ret (now (c .before .before .before .before .before .before .before .before .before .before .args .list)) (now (c .before .before .before .before .before .before .before .before .before .before .args .answers)) (c .before .before .before .before .before .before .before .before .before .before .args .t1) (left (c .before)))
+returns c = simp (c .whole-machine .ensures) (loop.ret (now (c .before .before .before .before .before .before .before .before .before .before .args .list)) (now (c .before .before .before .before .before .before .before .before .before .before .args .answers)) (c .before .before .before .before .before .before .before .before .before .before .args .t1) (left (c .before)))
 
 pub carried-spec : {M : Type 1} → statement M
 carried-spec =
@@ -326,6 +326,6 @@ carried-spec =
     add-out-2
     loop-less
     loop-again
-    machine-of-requires
+    whole-machine-requires
     same-length
     returns)

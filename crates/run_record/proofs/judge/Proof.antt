@@ -30,11 +30,11 @@ refuses-requires c κs = search needs
 
 returns-2 : tie.Need-returns-2
 unfolding turnOf turnJudged
-returns-2 c = (λ x e. let r : refusesOf x (c .before .before .x .given .0 .0) ≡ c .before .refuses .result = sym (c .before .refuses .ensures x e) in simp (← c .before .before .before .before .decode .ensures, c .before .before .x .given .1, r, ne-eqb _ _ (c .if1 .taken)), tt)
+returns-2 c = (λ x e. let r : refusesOf x (c .before .before .before .x .given .0 .0) ≡ c .before .refuses .result = sym (c .before .refuses .ensures x e) in simp (← c .before .before .before .before .before .decode .ensures, c .before .before .before .x .given .1, r, ne-eqb _ _ (c .if1 .taken)), tt)
 
 returns-3 : tie.Need-returns-3
 unfolding turnOf turnJudged
-returns-3 c = (λ x e. let r : refusesOf x (c .before .before .x .given .0 .0) ≡ c .before .refuses .result = sym (c .before .refuses .ensures x e) in simp (← c .before .before .before .before .decode .ensures, c .before .before .x .given .1, r, eq-eqb _ _ (c .if1 .left)), (decoded-range _ _ (sym (c .before .before .before .before .decode .ensures) ∙ c .before .before .x .given .1)))
+returns-3 c = (λ x e. let r : refusesOf x (c .before .before .before .x .given .0 .0) ≡ c .before .refuses .result = sym (c .before .refuses .ensures x e) in simp (← c .before .before .before .before .before .decode .ensures, c .before .before .before .x .given .1, r, eq-eqb _ _ (c .if1 .left)), (decoded-range _ _ (sym (c .before .before .before .before .before .decode .ensures) ∙ c .before .before .before .x .given .1)))
 
 pub judge-spec : {M : Type 1} → statement M
 judge-spec =
