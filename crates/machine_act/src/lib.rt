@@ -118,7 +118,12 @@ fn clocked(k: Core, was: Ports, next: Ports, cells: &mut [u8; 20]) -> Core
 {
     let p = k.phase;
     let line = clock_phase::shown_line(p);
-    clock_parts::step(k, machine_pins::wires_of(was, line), machine_pins::wires_of(next, line), cells)
+    clock_parts::step(
+        k,
+        machine_pins::wires_of(was, line),
+        machine_pins::wires_of(next, line),
+        cells,
+    )
 }
 
 // The place of a sense register among the 32.
@@ -130,7 +135,14 @@ fn sense_index(drive: u8, register: u8) -> usize
 }
 
 // What an item does, its wait having passed, and the clock's look at its wires.
-pub fn act(m: Machine, k: Core, d: Drives, item: Item, sense: &[u8; 32], cells: &mut [u8; 20]) -> Acted
+pub fn act(
+    m: Machine,
+    k: Core,
+    d: Drives,
+    item: Item,
+    sense: &[u8; 32],
+    cells: &mut [u8; 20],
+) -> Acted
     requires { ⌜ ItemInRange item ⌝ }
     requires { ⌜ Levels (wholeMachine m k (now cells) d (now sense)) ⌝ }
     requires { ⌜ PhaseAccepted (wholeMachine m k (now cells) d (now sense)) ⌝ }
@@ -152,7 +164,11 @@ pub fn act(m: Machine, k: Core, d: Drives, item: Item, sense: &[u8; 32], cells: 
             disk = m.disk.access(location);
             value = iwm_value(disk, d, location, m.via.ports, sense);
         }
-        Item::WriteVia { register, value, .. } => {
+        Item::WriteVia {
+            register,
+            value,
+            ..
+        } => {
             let next = m.via.write(register, value);
             core = clocked(k, m.via.ports, next.ports, cells);
             change = Change::Register(register, value);
@@ -164,7 +180,12 @@ pub fn act(m: Machine, k: Core, d: Drives, item: Item, sense: &[u8; 32], cells: 
             change = Change::Flags(m.via.flags | 1);
         }
         Item::Line { line, level, .. } => change = Change::Line(line as usize, level),
-        Item::Sense { drive, register, level, .. } => {
+        Item::Sense {
+            drive,
+            register,
+            level,
+            ..
+        } => {
             change = Change::Sense(sense_index(drive, register), level);
         }
         Item::Reset { .. } => {
@@ -178,7 +199,13 @@ pub fn act(m: Machine, k: Core, d: Drives, item: Item, sense: &[u8; 32], cells: 
             drives = disk_drives::power_cut(d);
             change = Change::Fresh;
         }
-        Item::Disk { drive, insert, locked, sides, .. } => {
+        Item::Disk {
+            drive,
+            insert,
+            locked,
+            sides,
+            ..
+        } => {
             drives = disk_drives::place(d, drive == 1, insert == 1, locked == 1, sides == 1);
         }
     }

@@ -44,7 +44,6 @@ refuses-same x y e (Disk w d i l b) = ap (λ (z : Drives). numberIf 8 (placeRefu
 
 module _ (m : Machine) (k : Core) (cells : List ℕ) (d : Drives) (sense : List ℕ) (i : Item)
     (v₁ : Via) (e₁ : v₁ ≡ ticks (itemWait i) (m .via)) (d₁ : Drives) where
-
   -- After the wait the action's terms hold.
   pub ready : acceptedOf (wholeMachine m k cells d sense) ≡ true → Levels (wholeMachine (withVia m v₁) k cells d₁ sense) × PhaseAccepted (wholeMachine (withVia m v₁) k cells d₁ sense)
   ready a =
@@ -57,7 +56,6 @@ module _ (m : Machine) (k : Core) (cells : List ℕ) (d : Drives) (sense : List 
       (worth : a .value ≡ actedOf (wholeMachine (withVia m v₁) k cells d₁ sense) i .value)
       (m₂ : Machine) (sense₂ : List ℕ) (e₂ : m₂ ≡ machineChange (a .change) (withDisk (withVia m v₁) (a .disk))) (s₂ : sense₂ ≡ senseChange (a .change) sense)
       (d₂ : Drives) (f₂ : d₂ ≡ drivesAfter (strobeLevels m) (strobeLevels m₂) (a .drives)) where
-
     at-wait : wholeMachine (withVia m v₁) k cells d₁ sense ≡ afterWait (itemWait i) (wholeMachine m k cells d sense)
     at-wait = ap (λ (v : Via). wholeMachine (withVia m v) k cells d₁ sense) e₁ ∙ ap (λ (x : Drives). wholeMachine (withVia m (ticks (itemWait i) (m .via))) k cells x sense) f₁
 

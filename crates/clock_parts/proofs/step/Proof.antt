@@ -46,7 +46,7 @@ returns c =
     let a = edge .before .args in
     let s = wholeClock (a .k) (now (a .cells)) .store in
     let f =
-        subst (FitsPhase (a .k .phase) (edge .edge-between .result)) (c .before .q .given .1) (c .before .before .before .phase-after .ensures) 20 s in
+    subst (FitsPhase (a .k .phase) (edge .edge-between .result)) (c .before .q .given .1) (c .before .before .before .phase-after .ensures) 20 s in
     phase-step 20 (a .k) (now (a .cells)) (a .before) (a .after) _ (f .0 ∙ ap (next 20 s (a .k .phase)) (edge .edge-between .ensures))
     (sym (ap (acts 20 (a .k .phase)) (edge .edge-between .ensures)) ∙ f .1)
 

@@ -99,7 +99,7 @@ unfolding turnJudged
 met c =
     ⊎-elim (λ w. simp (w .18, w .19, w .20, w .21, w .22, w .23) (did (record { before = record { before = record { before = record { before = record { before = record { before = record { before = record { before = record { before = record { before = record { before = record { before = record { before = record { before = record { before = record { before = record { before = record { before = c .before; match2 = w .0 }; d = w .1 }; known-told2 = w .2 }; watched = w .3 }; wait-of = w .4 }; wait-arg = w .5 }; wait = w .6 }; wait2 = w .7 }; sense2 = w .8 }; cells = w .9 }; act = w .10 }; disk = w .11 }; core = w .12 }; drives2 = w .13 }; match3 = w .14 }; watched2 = w .15 }; after = w .16 }; answer = w .17 })))
     (λ w. simp (w .2, w .3, w .4, w .5, w .6, w .7) (sym (c .before .before .before .judge .ensures .0 (wholeMachine (c .before .before .before .before .before .before .before .before .before .before .before .before .loop .m) (c .before .before .before .before .before .before .before .before .before .before .before .before .loop .core) (c .before .before .before .before .before .before .before .before .before .before .before .before .loop .cells) (c .before .before .before .before .before .before .before .before .before .before .before .before .loop .drives) (c .before .before .before .before .before .before .before .before .before .before .before .before .loop .sense)) refl ∙ ap (turnJudged (wholeMachine (c .before .before .before .before .before .before .before .before .before .before .before .before .loop .m) (c .before .before .before .before .before .before .before .before .before .before .before .before .loop .core) (c .before .before .before .before .before .before .before .before .before .before .before .before .loop .cells) (c .before .before .before .before .before .before .before .before .before .before .before .before .loop .drives) (c .before .before .before .before .before .before .before .before .before .before .before .before .loop .sense))) (w .1 .given .1)
-      ∙ ap (λ (y : Answer). record { machine = (wholeMachine (c .before .before .before .before .before .before .before .before .before .before .before .before .loop .m) (c .before .before .before .before .before .before .before .before .before .before .before .before .loop .core) (c .before .before .before .before .before .before .before .before .before .before .before .before .loop .cells) (c .before .before .before .before .before .before .before .before .before .before .before .before .loop .drives) (c .before .before .before .before .before .before .before .before .before .before .before .before .loop .sense)); answer = y }) (sym (c .before .no2 .ensures ∙ ap noOf (c .before .before .refusal .ensures ∙ simp (w .1 .given .1))))))) (c .match2 .came)
+    ∙ ap (λ (y : Answer). record { machine = (wholeMachine (c .before .before .before .before .before .before .before .before .before .before .before .before .loop .m) (c .before .before .before .before .before .before .before .before .before .before .before .before .loop .core) (c .before .before .before .before .before .before .before .before .before .before .before .before .loop .cells) (c .before .before .before .before .before .before .before .before .before .before .before .before .loop .drives) (c .before .before .before .before .before .before .before .before .before .before .before .before .loop .sense)); answer = y }) (sym (c .before .no2 .ensures ∙ ap noOf (c .before .before .refusal .ensures ∙ simp (w .1 .given .1))))))) (c .match2 .came)
 
 -- the buffer keeps its length
 lengths : (c : tie.Left-loop Inv-loop μ-loop) → length (c .loop-test .answers) ≡ length (now (c .before .before .before .before .before .before .before .before .before .args .answers))
@@ -114,10 +114,7 @@ left c =
     ⊎-elim (λ w. simp (w .1, w .2, w .3) (loop.ended l a m (c .before .before .before .before .before .before .before .before .before .pre) (h .answers) (wholeMachine (c .before .loop .m) (c .before .loop .core) (c .before .loop .cells) (c .before .loop .drives) (c .before .loop .sense)) (h .at) (h .out) (h .inv .0) (h .stop) (h .inv .1) (w .0 .left)))
     (⊎-elim (λ w. simp (w .2, w .3, w .4) (loop.full l a m (c .before .before .before .before .before .before .before .before .before .pre) (h .answers) (wholeMachine (c .before .loop .m) (c .before .loop .core) (c .before .loop .cells) (c .before .loop .drives) (c .before .loop .sense)) (h .at) (h .out) (h .inv .0) (w .0 .taken) (w .1 .taken)))
     (λ w. simp (w .12, w .13, w .14) (loop.cutoff l a m (c .before .before .before .before .before .before .before .before .before .pre) (h .answers) (wholeMachine (c .before .loop .m) (c .before .loop .core) (c .before .loop .cells) (c .before .loop .drives) (c .before .loop .sense)) (h .at) (h .out) (h .inv .0) (w .0 .taken) (w .1 .left)
-      (loop.frame-rest l (h .at) (w .3 .ensures) (w .5 .given .1)) (w .9 .last .0) (w .9 .ensures ∙ ap (putAt (h .answers) (h .out)) (w .8 .ensures ∙ ap answerBytes (w .7 .ensures)))))) (c .loop-test .came)
-
-
-
+    (loop.frame-rest l (h .at) (w .3 .ensures) (w .5 .given .1)) (w .9 .last .0) (w .9 .ensures ∙ ap (putAt (h .answers) (h .out)) (w .8 .ensures ∙ ap answerBytes (w .7 .ensures)))))) (c .loop-test .came)
 
 core-of-requires : tie.Need-core-of-requires Inv-loop μ-loop
 core-of-requires c κs = search needs
