@@ -26,7 +26,8 @@ swarmtempo: lists and state images of the board
       --save takes the image reached, --vcd the wires and lines over time as a Value Change Dump.
       --room gives the answers so many bytes in all; without it they have all they need.
   swarmtempo image FILE               a state image in words
-  swarmtempo bench [--records N]      records a second, and the ratio to a plain model
+  swarmtempo bench [--records N] [--instructions]
+                                      records a second, and the ratio to a plain model
   swarmtempo help | version
 
 A file named - is standard input or output; asm and disasm take them where no file is named.
@@ -197,11 +198,16 @@ fn command(mut words: Vec<String>) -> Result<u8, Failure> {
             Ok(0)
         }
         "bench" => {
+            let instructions = words.flag("--instructions");
             let records = words.number("--records")?.unwrap_or(200_000).clamp(1, 10_000_000);
             if let Some(extra) = words.file()? {
                 return Err(Failure::Usage(format!("`{extra}` is too much")));
             }
-            bench::bench(records as usize)?;
+            if instructions {
+                bench::instructions(records.min(10_000) as usize)?;
+            } else {
+                bench::bench(records as usize)?;
+            }
             Ok(0)
         }
         "help" | "--help" | "-h" => files::print(HELP).map(|()| 0),
