@@ -75,6 +75,6 @@ driveSamples =
       overReset = refl;
       overPower = refl;
       stored = refl;
-      shownLevel = refl;
+      shown = refl;
       drive = (refl, refl, refl);
     }
