@@ -4,7 +4,8 @@ use mathlib.Core.Path.{_≡_}
 use mathlib.Core.Bool.{true}
 use mathlib.Core.List.{List}
 use lib.ListN.{set}
-use Rattle.via.specs.Setters.{withFlags}
+use Rattle.via.specs.declared.Via.{Via}
+use Rattle.via.specs.Setters.{withPorts, withFlags}
 use Rattle.via.specs.Via.{freshVia, resetOf}
 use Rattle.via.specs.Writes.{viaWritten}
 use Rattle.clock_spec.specs.Phase.{acceptedPhase}
@@ -18,7 +19,7 @@ use Rattle.machine_spec.specs.Stages.{afterWires}
 use Rattle.machine_spec.specs.Action.{actedOf}
 use Rattle.machine_act.specs.declared.Acted.{Acted}
 use Rattle.machine_act.specs.declared.Change.{Change}
-use Rattle.machine_act.specs.declared.Change.the-variants.{Nothing, Flags, Register, Line, Sense, Reset, Fresh}
+use Rattle.machine_act.specs.declared.Change.the-variants.{Nothing, Flags, OutB, DirB, Register, Line, Sense, Reset, Fresh}
 
 -- ---- the parts
 
@@ -32,10 +33,18 @@ PhaseAccepted m = acceptedPhase cellCount (m .clock .phase) (wires m .enable) �
 
 -- ---- a change
 
+abbrev withOutB : Via → ℕ → Via
+withOutB v x = withPorts v (record { outb = x; outa = v .ports .outa; dirb = v .ports .dirb; dira = v .ports .dira })
+
+abbrev withDirB : Via → ℕ → Via
+withDirB v x = withPorts v (record { outb = v .ports .outb; outa = v .ports .outa; dirb = x; dira = v .ports .dira })
+
 -- What a change does to the machine that stays in place.
 unfoldable pub machineChange : Change → Machine → Machine
 machineChange Nothing m = m
 machineChange (Flags f) m = withVia m (withFlags (m .via) f)
+machineChange (OutB b) m = withVia m (withOutB (m .via) b)
+machineChange (DirB b) m = withVia m (withDirB (m .via) b)
 machineChange (Register r b) m = withVia m (viaWritten r b (m .via))
 machineChange (Line i l) m = withInputs m (set (m .inputs) i l)
 machineChange (Sense i l) m = m
@@ -46,6 +55,8 @@ machineChange Fresh m = withVia m freshVia
 unfoldable pub senseChange : Change → List ℕ → List ℕ
 senseChange Nothing s = s
 senseChange (Flags f) s = s
+senseChange (OutB b) s = s
+senseChange (DirB b) s = s
 senseChange (Register r b) s = s
 senseChange (Line i l) s = s
 senseChange (Sense i l) s = set s i l
@@ -56,6 +67,8 @@ senseChange Fresh s = s
 abbrev pub ChangeInRange : Change → Type 0
 ChangeInRange Nothing = Unit {0}
 ChangeInRange (Flags f) = Unit {0}
+ChangeInRange (OutB b) = Unit {0}
+ChangeInRange (DirB b) = Unit {0}
 ChangeInRange (Register r b) = r < 16
 ChangeInRange (Line i l) = i < 7
 ChangeInRange (Sense i l) = i < 32

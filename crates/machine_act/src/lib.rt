@@ -2,7 +2,8 @@
 // the clock's core and the drives go by value beside it; the cells and the sense registers are lent.
 ghost use mathlib.Core.Path.{_≡_};
 ghost use mathlib.Core.Bool.{true};
-ghost use Prim.Native.Nat.{_<_, _+_, _*_};
+ghost use Prim.Native.Nat.{ℕ, _<_, _+_, _*_};
+ghost use mathlib.Core.List.{List};
 ghost use lib.ListN.{getD};
 ghost use Rattle.levels.specs.Levels.{allLevels};
 ghost use Rattle.clock_spec.specs.Phase.{shownLevel, acceptedPhase};
@@ -12,12 +13,14 @@ ghost use Rattle.disk_lines.specs.Lines.{readLine, senseAt};
 ghost use Rattle.disk_spec.specs.Drives.{drivesShown};
 ghost use Rattle.item_spec.specs.Items.{ItemInRange};
 ghost use Rattle.via.specs.Registers.{valueRead};
+ghost use Rattle.via.specs.Writes.{portsWritten, viaWritten};
 ghost use Rattle.machine_spec.specs.Pins.{wiresOf, selOf};
 ghost use Rattle.machine_spec.specs.Wiring.{inputsOf};
-ghost use Rattle.machine_spec.specs.Machine.{Levels, cellCount};
+ghost use Rattle.machine_spec.specs.declared.Machine.{Machine};
+ghost use Rattle.machine_spec.specs.Machine.{withVia, Levels, cellCount};
 ghost use Rattle.machine_spec.specs.Stages.{itemWait};
 ghost use Rattle.machine_spec.specs.Action.{actedOf};
-ghost use Rattle.machine_act.specs.Parts.{wholeMachine, machineAfter, clockedOf, ChangeInRange, PhaseAccepted};
+ghost use Rattle.machine_act.specs.Parts.{wholeMachine, machineChange, senseChange, machineAfter, clockedOf, ChangeInRange, PhaseAccepted};
 use clock_parts::Core;
 use disk_lines::DiskLines;
 use disk_spec::Drives;
@@ -30,7 +33,10 @@ pub enum Change {
     Nothing,
     // The VIA's flags.
     Flags(u8),
-    // A VIA register, and the value written to it.
+    // The VIA's port B: its output, its direction.
+    OutB(u8),
+    DirB(u8),
+    // Another VIA register, and the value written to it.
     Register(u8, u8),
     // An IN line, and a sense register, each with its level.
     Line(usize, u8),
@@ -99,7 +105,6 @@ fn via_value(m: Machine, k: Core, register: u8) -> u8
 
 // What RD of an IWM location gives, the lines being those after the access. Location 14 alone asks the sense.
 fn iwm_value(d: DiskLines, drives: Drives, location: u8, ports: Ports, sense: &[u8; 32]) -> u8
-    requires { ⌜ allLevels (d .lines) ≡ true ⌝ }
     requires { ⌜ allLevels (now sense) ≡ true ⌝ }
     ensures { λ r. ⌜ r ≡ readLine location (drivesShown (senseAt d (selOf ports)) (getD (now (sense .entry)) (senseAt d (selOf ports)) 0) drives) d ⌝ }
 {
@@ -111,19 +116,35 @@ fn iwm_value(d: DiskLines, drives: Drives, location: u8, ports: Ports, sense: &[
     d.read(location, disk_drives::shown(drives, at, stored))
 }
 
-// The clock's look at its wires, which a write to the VIA may have moved.
-fn clocked(k: Core, was: Ports, next: Ports, cells: &mut [u8; 20]) -> Core
-    requires { ⌜ acceptedPhase cellCount (k .phase) (wiresOf was (shownLevel (k .phase)) .enable) ≡ true ⌝ }
-    ensures { λ r. ⌜ wholeClock r (now (cells .exit)) ≡ stepWires cellCount (wholeClock k (now (cells .entry))) (wiresOf was (shownLevel (k .phase))) (wiresOf next (shownLevel (k .phase))) ⌝ }
+// The clock's look at its wires, where a VIA register is written: port B's output and its direction alone move them.
+fn clocked(k: Core, ports: Ports, register: u8, value: u8, cells: &mut [u8; 20]) -> Core
+    requires { ⌜ acceptedPhase cellCount (k .phase) (wiresOf ports (shownLevel (k .phase)) .enable) ≡ true ⌝ }
+    ensures { λ r. ⌜ wholeClock r (now (cells .exit)) ≡ stepWires cellCount (wholeClock k (now (cells .entry))) (wiresOf ports (shownLevel (k .phase))) (wiresOf (portsWritten register value ports) (shownLevel (k .phase))) ⌝ }
 {
+    let mut next = ports;
+    match register {
+        0 => next.outb = value,
+        2 => next.dirb = value,
+        _ => return k,
+    }
     let p = k.phase;
     let line = clock_phase::shown_line(p);
-    clock_parts::step(
-        k,
-        machine_pins::wires_of(was, line),
-        machine_pins::wires_of(next, line),
-        cells,
-    )
+    let before = machine_pins::wires_of(ports, line);
+    clock_parts::step(k, before, machine_pins::wires_of(next, line), cells)
+}
+
+// What a write to a VIA register changes.
+fn via_change(register: u8, value: u8) -> Change
+    requires { ⌜ register < 16 ⌝ }
+    ensures { λ r. ⌜ ((m : Machine) → machineChange r m ≡ withVia m (viaWritten register value (m .via))) ⌝ }
+    ensures { λ r. ⌜ ((s : List ℕ) → senseChange r s ≡ s) ⌝ }
+    ensures { λ r. ⌜ ChangeInRange r ⌝ }
+{
+    match register {
+        0 => Change::OutB(value),
+        2 => Change::DirB(value),
+        _ => Change::Register(register, value),
+    }
 }
 
 // The place of a sense register among the 32.
@@ -169,9 +190,8 @@ pub fn act(
             value,
             ..
         } => {
-            let next = m.via.write(register, value);
-            core = clocked(k, m.via.ports, next.ports, cells);
-            change = Change::Register(register, value);
+            core = clocked(k, m.via.ports, register, value, cells);
+            change = via_change(register, value);
         }
         Item::WriteIwm { location, .. } => disk = m.disk.access(location),
         Item::Blank { .. } => change = Change::Flags(m.via.flags | 2),

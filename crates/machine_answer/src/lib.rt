@@ -27,7 +27,6 @@ pub fn refuses(d: Drives, item: Item) -> u8
 
 // The answer to an item that was carried out: the machine after it, whose clock, sense registers and drives are not looked at, and the value read.
 pub fn answer(m: Machine, value: u8) -> Answer
-    requires { ⌜ allLevels (m .disk .lines) ≡ true ⌝ }
     requires { ⌜ allLevels (m .inputs) ≡ true ⌝ }
     ensures { λ r. ⌜ r ≡ answerOf (record { machine = m; value = value }) ⌝ }
 {
@@ -36,7 +35,7 @@ pub fn answer(m: Machine, value: u8) -> Answer
         ok: true,
         value: value,
         level: machine_pins::interrupt_level(via_flags::level(m.via), inputs[5], inputs[6]),
-        lines: disk_lines::byte(m.disk),
+        lines: m.disk.lines,
         sel: machine_pins::sel_of(m.via.ports),
     }
 }

@@ -4,7 +4,6 @@ use mathlib.Core.Bool.{true}
 use lib.ListN.{getD}
 use Rattle.item_spec.specs.declared.Answer.{Answer}
 use Rattle.via.specs.Via.{levelOf}
-use Rattle.disk_lines.specs.Lines.{lineByteOf}
 use Rattle.item_spec.specs.declared.Item.{Item}
 use Rattle.machine_spec.specs.declared.Machine.{Machine}
 use Rattle.machine_spec.specs.Machine.{wires, strobeLevels}
@@ -26,6 +25,6 @@ answerOf d =
       ok = true;
       value = d .value;
       level = interruptLevel (levelOf (d .machine .via)) (getD (d .machine .inputs) 5 0) (getD (d .machine .inputs) 6 0);
-      lines = lineByteOf (d .machine .disk);
+      lines = d .machine .disk .lines;
       sel = selOf (d .machine .via .ports);
     }

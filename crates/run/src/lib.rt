@@ -23,9 +23,9 @@ fn unaccepted(m: Machine) -> Ran
     }
 }
 
-// Runs the list from an accepted machine. The VIA, the disk lines and the IN lines stay in m and are changed here alone; m's own clock, drives and sense registers
+// The same from a machine known to be accepted. The VIA, the disk lines and the IN lines stay in m and are changed here alone; m's own clock, drives and sense registers
 // are not looked at: what counts of them stands beside it.
-fn carried(mut m: Machine, list: &[u8], answers: &mut [u8]) -> Ran
+pub fn run_accepted(mut m: Machine, list: &[u8], answers: &mut [u8]) -> Ran
     requires { ⌜ acceptedOf m ≡ true ⌝ }
     ensures { λ r. ⌜ r ≡ ranOf (runOf m (now (list .entry)) (length (now (answers .entry)))) ⌝ }
     ensures { λ _. ⌜ now (answers .exit) ≡ over (runOf m (now (list .entry)) (length (now (answers .entry)))) (now (answers .entry)) ⌝ }
@@ -56,8 +56,14 @@ fn carried(mut m: Machine, list: &[u8], answers: &mut [u8]) -> Ran
         if let Decoded::Done(item) = d {
             let before = machine_pins::watched(m);
             let ticks = machine_act::wait_of(item);
-            m.via = m.via.wait(ticks);
-            drives = disk_drives::wait(drives, ticks);
+            if m.via.only_counts(ticks) {
+                m.via = m.via.count(ticks);
+            } else {
+                m.via = m.via.wait(ticks);
+            }
+            if disk_drives::busy(drives) {
+                drives = disk_drives::wait(drives, ticks);
+            }
             let a = machine_act::act(m, core, drives, item, &sense, &mut cells);
             let disk = a.disk;
             m.disk = disk;
@@ -67,13 +73,18 @@ fn carried(mut m: Machine, list: &[u8], answers: &mut [u8]) -> Ran
             match change {
                 Change::Nothing => {}
                 Change::Flags(f) => m.via.flags = f,
+                Change::OutB(b) => m.via.ports.outb = b,
+                Change::DirB(b) => m.via.ports.dirb = b,
                 Change::Register(r, b) => m.via = m.via.write(r, b),
                 Change::Line(i, level) => m.inputs[i] = level,
                 Change::Sense(i, level) => sense[i] = level,
                 Change::Reset => m.via = m.via.reset(),
                 Change::Fresh => m.via = via::fresh(),
             }
-            drives = disk_drives::after(drives, before, machine_pins::watched(m));
+            let after = machine_pins::watched(m);
+            if before.lstrb | after.lstrb {
+                drives = disk_drives::after(drives, before, after);
+            }
             answer = machine_answer::answer(m, a.value);
         }
         item_record::put(answers, out, item_record::answer_bytes(answer));
@@ -95,7 +106,7 @@ pub fn run(m: Machine, list: &[u8], answers: &mut [u8]) -> Ran
     ensures { λ r. ⌜ r .written ≤ length (now (answers .entry)) ⌝ }
 {
     if machine::accepted(m) {
-        return carried(m, list, answers);
+        return run_accepted(m, list, answers);
     }
     unaccepted(m)
 }

@@ -1,17 +1,15 @@
 use mathlib.Core.Path.{_≡_, refl, ap, subst, _∙_}
 use denote.Ref.{now}
-use Rattle.levels.specs.Levels.{allLevels}
 use Rattle.via.specs.Registers.{registerRead}
+use Rattle.via.specs.Writes.{viaWritten}
 use Rattle.via.specs.Via.{freshVia, raisedOf, resetOf}
 use Rattle.clock_spec.specs.Phase.{shownLevel}
 use Rattle.clock_spec.specs.Shared.{advance, stops}
 use Rattle.clock_parts.specs.Parts.{coreSeconds}
 use Rattle.clock_parts.proofs.Laws.{enabled-idle}
-use Rattle.disk_lines.specs.declared.DiskLines.{DiskLines}
-use Rattle.disk_lines.proofs.Laws.{access-levels}
 use Rattle.item_spec.specs.Items.{ItemInRange}
 use Rattle.machine_spec.specs.declared.Machine.{Machine}
-use Rattle.machine_spec.specs.Machine.{wires, cellCount}
+use Rattle.machine_spec.specs.Machine.{withDisk, wires, cellCount}
 use Rattle.machine_spec.specs.Pins.{wiresOf}
 use Rattle.machine_spec.specs.Accesses.{viaRead, iwmRead}
 use Rattle.machine_spec.specs.Action.{actedOf}
@@ -48,7 +46,7 @@ enum-known-item : tie.Need-enum-known-item
 enum-known-item c = search needs
 
 via-value-requires : tie.Need-via-value-requires
-via-value-requires c κs = (subst ItemInRange (c .before .item .given .1) (c .before .before .before .before .pre .0), c .before .before .before .before .pre .1 .0 .1)
+via-value-requires c κs = (subst ItemInRange (c .before .item .given .1) (c .before .before .before .before .pre .0), c .before .before .before .before .pre .1 .0 .0)
 
 flags-read-requires : tie.Need-flags-read-requires
 flags-read-requires c κs = search needs
@@ -60,16 +58,16 @@ access-requires : tie.Need-access-requires
 access-requires c κs = subst ItemInRange (c .before .item2 .given .1) (c .before .before .before .before .pre .0)
 
 iwm-value-requires : tie.Need-iwm-value-requires
-iwm-value-requires c κs = (ap (λ (d : DiskLines). allLevels (d .lines)) (c .access .ensures) ∙ access-levels _ _ (c .before .before .before .before .before .pre .1 .0 .0), c .before .before .before .before .before .pre .1 .0 .2)
+iwm-value-requires c κs = c .before .before .before .before .before .pre .1 .0 .1
 
 enum-known-item-3 : tie.Need-enum-known-item-3
 enum-known-item-3 c = search needs
 
-write-requires : tie.Need-write-requires
-write-requires c κs = subst ItemInRange (c .before .item3 .given .1) (c .before .before .before .before .pre .0)
-
 clocked-requires : tie.Need-clocked-requires
 clocked-requires c κs = search needs
+
+via-change-requires : tie.Need-via-change-requires
+via-change-requires c κs = subst ItemInRange (c .before .before .before .item3 .given .1) (c .before .before .before .before .before .before .pre .0)
 
 enum-known-item-4 : tie.Need-enum-known-item-4
 enum-known-item-4 c = search needs
@@ -89,8 +87,8 @@ add-seconds-requires c κs = search needs
 enum-known-item-5 : tie.Need-enum-known-item-5
 enum-known-item-5 c = search needs
 
-cast-t32 : tie.Need-cast-t32
-cast-t32 c = search needs
+cast-t31 : tie.Need-cast-t31
+cast-t31 c = search needs
 
 enum-known-item-6 : tie.Need-enum-known-item-6
 enum-known-item-6 c = search needs
@@ -137,8 +135,10 @@ unfolding actedOf viaRead registerRead iwmRead raisedOf machineChange senseChang
 returns-2 c = (quiet (c .before .before .before .before .before .before) _ (simp (c .before .before .before .item2 .given .1, c .before .access .ensures)) (simp (c .before .before .before .item2 .given .1)), (simp (c .before .before .before .item2 .given .1, c .iwm-value .ensures, c .before .access .ensures), tt))
 
 returns-3 : tie.Need-returns-3
-unfolding actedOf machineChange senseChange
-returns-3 c = (simp (c .before .before .before .before .item3 .given .1, ← c .before .before .write .ensures, ← c .clocked .ensures), (simp (c .before .before .before .before .item3 .given .1), subst ItemInRange (c .before .before .before .before .item3 .given .1) (c .before .before .before .before .before .before .before .pre .0)))
+unfolding actedOf viaWritten
+returns-3 c =
+    let a = c .before .before .before .before .before .before .before .args in
+    (simp (c .before .before .before .before .item3 .given .1, c .via-change .ensures .0 (withDisk (a .m) (a .m .disk)), c .via-change .ensures .1 .0 (now (a .sense)), ← c .before .clocked .ensures), (simp (c .before .before .before .before .item3 .given .1), c .via-change .ensures .1 .1))
 
 returns-4 : tie.Need-returns-4
 unfolding actedOf viaRead registerRead iwmRead raisedOf machineChange senseChange
@@ -187,15 +187,15 @@ act-spec =
     access-requires
     iwm-value-requires
     enum-known-item-3
-    write-requires
     clocked-requires
+    via-change-requires
     enum-known-item-4
     access-requires-2
     enum-told
     enum-told-2
     add-seconds-requires
     enum-known-item-5
-    cast-t32
+    cast-t31
     enum-known-item-6
     sense-index-requires
     enum-told-3

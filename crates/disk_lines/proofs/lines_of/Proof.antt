@@ -1,9 +1,13 @@
+use mathlib.Core.Path.{ap}
+use Prim.Native.Nat.{ℕ}
 use native.Mathlib.Omega.{arith}
-use Rattle.levels.proofs.Laws.{level-at}
-use Rattle.disk_lines.specs.Lines.{lineByteOf}
+use Rattle.disk_lines.specs.Lines.{linesOf}
 use borrow.Author.Needs.{needs}
-use Rattle.disk_lines.proofs.byte.Statement.{statement}
-use Rattle.disk_lines.proofs.byte.Tie as tie
+use Rattle.disk_lines.proofs.lines_of.Statement.{statement}
+use Rattle.disk_lines.proofs.lines_of.Tie as tie
+use Rattle.disk_lines.proofs.lines_of.Reads as reads
+use Rattle.disk_lines.proofs.lines_of.Lts as lts
+use Rattle.disk_lines.proofs.nibble.Reads as nibble-reads
 
 array-read-nibble : tie.Need-array-read-nibble
 array-read-nibble c = search needs
@@ -18,7 +22,7 @@ array-read-nibble-4 : tie.Need-array-read-nibble-4
 array-read-nibble-4 c = search needs
 
 nibble-requires : tie.Need-nibble-requires
-nibble-requires c κs = omega (arith, level-at (c .before .args .d .lines) 0 (c .before .pre), level-at (c .before .args .d .lines) 1 (c .before .pre), level-at (c .before .args .d .lines) 2 (c .before .pre), level-at (c .before .args .d .lines) 3 (c .before .pre))
+nibble-requires c κs = search needs
 
 array-read-nibble-5 : tie.Need-array-read-nibble-5
 array-read-nibble-5 c = search needs
@@ -33,20 +37,20 @@ array-read-nibble-8 : tie.Need-array-read-nibble-8
 array-read-nibble-8 c = search needs
 
 nibble-requires-2 : tie.Need-nibble-requires-2
-nibble-requires-2 c κs = omega (arith, level-at (c .before .before .args .d .lines) 4 (c .before .before .pre), level-at (c .before .before .args .d .lines) 5 (c .before .before .pre), level-at (c .before .before .args .d .lines) 6 (c .before .before .pre), level-at (c .before .before .args .d .lines) 7 (c .before .before .pre))
+nibble-requires-2 c κs = search needs
 
-mul-result : tie.Need-mul-result
-mul-result c = search needs
+mul-t7 : tie.Need-mul-t7
+mul-t7 c = search needs
 
-add-result : tie.Need-add-result
-add-result c = search needs
+add-t10 : tie.Need-add-t10
+add-t10 c = search needs
 
 returns : tie.Need-returns
-unfolding lineByteOf
-returns c = omega (arith, c .before .nibble .ensures .0, c .nibble2 .ensures .0)
+unfolding linesOf
+returns c = ap (λ (b : ℕ). record { lines = b }) (omega (arith, c .before .nibble .ensures .0, c .nibble2 .ensures .0))
 
-pub byte-spec : {M : Type 1} → statement M
-byte-spec =
+pub lines-of-spec : {M : Type 1} → statement M
+lines-of-spec =
     tie.close
     (tie.spec
     array-read-nibble
@@ -59,6 +63,6 @@ byte-spec =
     array-read-nibble-7
     array-read-nibble-8
     nibble-requires-2
-    mul-result
-    add-result
+    mul-t7
+    add-t10
     returns)
