@@ -5,7 +5,6 @@ use mathlib.Core.List.{List, [], _∷_}
 use lib.ListN.{getD}
 use Rattle.item_spec.specs.declared.Answer.{Answer}
 use Rattle.via.specs.Via.{levelOf}
-use Rattle.disk_lines.specs.Lines.{lineByteOf}
 use Rattle.item_spec.specs.declared.Item.{Item}
 use Rattle.machine_spec.specs.declared.Machine.{Machine}
 use Rattle.machine_spec.specs.Machine.{wires, strobeLevels}
@@ -35,6 +34,6 @@ answerOf d =
       ok = true;
       value = d .value;
       level = interruptLevel (levelOf (d .machine .via)) (getD (d .machine .inputs) 5 0) (getD (d .machine .inputs) 6 0);
-      lines = lineByteOf (d .machine .disk);
+      lines = d .machine .disk .lines;
       sel = selOf (d .machine .via .ports);
     }

@@ -58,7 +58,7 @@ pub extern "C" fn swarmtempo_run(
     if !image::valid(image) {
         return 7;
     }
-    let r = run::run(image::load(image), list, answers);
+    let r = run::run_accepted(image::load(image), list, answers);
     *consumed = r.consumed as u64;
     *written = r.written as u64;
     image::save(image, r.machine);

@@ -31,7 +31,6 @@ swarmtempo: lists and state images of the board
   swarmtempo keyboard [TEXT] [--model BYTE | --image IN] [--save OUT]
       runs events on a keyboard and shows its answers: 0t COMMAND $10, 100t KEY $33, 195840t alone.
       Commands also by name: INQUIRY INSTANT MODEL TEST.
-  swarmtempo bench [--records N]      records a second, and the ratio to a plain model
   swarmtempo sheet get SETTING [--bench SHEET] [--house SHEET] [--text]
   swarmtempo sheet list [SHEET] [-o OUT] [--text]
   swarmtempo sheet make [TEXT] [-o OUT]
@@ -39,6 +38,8 @@ swarmtempo: lists and state images of the board
       sheets of settings, one record a line as text: 7 3 \"north\" (setting, version, bytes).
       make is text to a sheet, list a sheet to text; compact writes the counting records alone.
       With --text the sheets named are text. Exit status: 1 a sheet is broken, 2 not set, 6 no room.
+  swarmtempo bench [--records N] [--instructions]
+                                      records a second, and the ratio to a plain model
   swarmtempo help | version
 
 A file named - is standard input or output; asm and disasm take them where no file is named.
@@ -215,11 +216,16 @@ fn command(mut words: Vec<String>) -> Result<u8, Failure> {
             text: words.file()?,
         }),
         "bench" => {
+            let instructions = words.flag("--instructions");
             let records = words.number("--records")?.unwrap_or(200_000).clamp(1, 10_000_000);
             if let Some(extra) = words.file()? {
                 return Err(Failure::Usage(format!("`{extra}` is too much")));
             }
-            bench::bench(records as usize)?;
+            if instructions {
+                bench::instructions(records.min(10_000) as usize)?;
+            } else {
+                bench::bench(records as usize)?;
+            }
             Ok(0)
         }
         "sheet" => sheet::sheet(words),
