@@ -1,9 +1,9 @@
 -- What the bytes of a record with ranges ask for: document 01, "Items and answers as bytes" and refusals 3 and 5, and request W-203's DI.
 use Prim.Native.Nat.{ℕ}
-use mathlib.Core.Bool.{cond}
+use mathlib.Core.Bool.{Bool, cond, _||_}
 use mathlib.Core.List.{List}
 use lib.ListN.{getD}
-use lib.Dec.{ltb}
+use lib.Dec.{ltb, eqb}
 use Rattle.itemspec.specs.Items.{sized, waitOf}
 use Rattle.itemspec.specs.declared.Item.the-variants.{Line, Sense, Disk}
 use Rattle.itemspec.specs.declared.Decoded.{Decoded}
@@ -21,6 +21,10 @@ lineOf s = sized s 6 (upTo (getD s 4 0) 6 (upTo (getD s 5 0) 1 (Done (Line (wait
 unfoldable pub senseOf : List ℕ → Decoded
 senseOf s =
     sized s 7 (upTo (getD s 4 0) 1 (upTo (getD s 5 0) 15 (upTo (getD s 6 0) 1 (Done (Sense (waitOf s) (getD s 4 0) (getD s 5 0) (getD s 6 0))))))
+
+-- W-214: "SN for registers 0 to 5, 12 and 15 goes."
+unfoldable pub isRetired : ℕ → Bool
+isRetired r = ltb r 6 || eqb r 12 || eqb r 15
 
 -- DI, 8: "drive, insert 1 or remove 0, locked 1, double-sided 1"; "in all four, always, other values get refusal 5".
 unfoldable pub diskOf : List ℕ → Decoded

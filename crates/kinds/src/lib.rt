@@ -7,7 +7,7 @@ use itemspec::Decoded;
 use itemspec::Plain;
 
 // Whether a record's kind is this one.
-fn is(s: &[u8], kind: &[u8; 2]) -> bool
+pub fn is(s: &[u8], kind: &[u8; 2]) -> bool
     requires { ⌜ 2 ≤ length (now s) ⌝ }
     ensures { λ r. ⌜ r ≡ isKind (now (s .entry)) (now (kind .entry)) ⌝ }
 {

@@ -2,7 +2,7 @@
 ghost use mathlib.Core.Path.{_≡_};
 ghost use Prim.Native.Nat.{_≤_};
 ghost use lib.ListN.{length};
-ghost use Rattle.itemspec.specs.Ranged.{lineOf, senseOf, diskOf};
+ghost use Rattle.itemspec.specs.Ranged.{lineOf, senseOf, isRetired, diskOf};
 use itemspec::Decoded;
 use itemspec::Item;
 
@@ -46,6 +46,13 @@ pub fn sense_item(s: &[u8]) -> Decoded
         register,
         level,
     })
+}
+
+// Whether SN on this register has retired.
+pub fn is_retired(register: u8) -> bool
+    ensures { λ r. ⌜ r ≡ isRetired register ⌝ }
+{
+    (register < 6) | (register == 12) | (register == 15)
 }
 
 // DI

@@ -1,0 +1,104 @@
+// What is written for one record of an old capture, and whether it is counted.
+ghost use mathlib.Core.Path.{_≡_};
+ghost use mathlib.Core.List.{_++_};
+ghost use Prim.Native.Nat.{_+_, _≤_};
+ghost use lib.ListN.{length};
+ghost use Rattle.octets.specs.Octets.{putAt};
+ghost use Rattle.capture_spec.specs.Convert.{lockedOf, lineBytes, diskBytes, changesOf, partOf, loneOf};
+use capture_spec::DriveLevels;
+use capture_spec::Levels;
+
+// The two kinds that are written.
+const IN: [u8; 2] = *b"IN";
+
+const DI: [u8; 2] = *b"DI";
+
+// Whether a disk put in now is locked: 1 where it is.
+fn locked(x: DriveLevels) -> u8
+    ensures { λ r. ⌜ r ≡ lockedOf x ⌝ }
+{
+    if x.wrtprt == 0 {
+        return 1;
+    }
+    0
+}
+
+// An IN on line 0 with these two bytes of wait, and a DI with wait 0.
+fn pair(w0: u8, w1: u8, line0: u8, drive: u8, x: DriveLevels, level: u8) -> [u8; 18]
+    ensures { λ r. ⌜ r ≡ lineBytes w0 w1 line0 ++ diskBytes drive x level ⌝ }
+{
+    if level == 0 {
+        return [6, 0, IN[0], IN[1], w0, w1, 0, line0, 8, 0, DI[0], DI[1], 0, 0, drive, 1, locked(x), x.sides];
+    }
+    [6, 0, IN[0], IN[1], w0, w1, 0, line0, 8, 0, DI[0], DI[1], 0, 0, drive, 0, 0, 0]
+}
+
+// An IN on line 0 with these two bytes of wait.
+fn line(w0: u8, w1: u8, line0: u8) -> [u8; 8]
+    ensures { λ r. ⌜ r ≡ lineBytes w0 w1 line0 ⌝ }
+{
+    [6, 0, IN[0], IN[1], w0, w1, 0, line0]
+}
+
+// Whether an SN changes whether a disk is present.
+fn changes(m: Levels, row: &[u8]) -> bool
+    requires { ⌜ 9 ≤ length (now row) ⌝ }
+    ensures { λ r. ⌜ r ≡ changesOf m (now (row .entry)) ⌝ }
+{
+    if row[7] == 1 {
+        let x = capture_record::drive(m, row[6]);
+        if row[8] == x.cstin {
+            return false;
+        }
+        return true;
+    }
+    false
+}
+
+// The number of bytes written for a record.
+pub fn size(m: Levels, row: &[u8]) -> usize
+    requires { ⌜ 4 ≤ length (now row) ⌝ }
+    ensures { λ r. ⌜ r ≡ length (partOf m (now (row .entry))) ⌝ }
+{
+    if capture_record::is_retired(row) {
+        if changes(m, row) {
+            return 18;
+        }
+        return 8;
+    }
+    row.len()
+}
+
+// 1 for a valid retired SN with no DI after it.
+pub fn lone(m: Levels, row: &[u8]) -> usize
+    requires { ⌜ 4 ≤ length (now row) ⌝ }
+    ensures { λ r. ⌜ r ≡ loneOf m (now (row .entry)) ⌝ }
+{
+    if capture_record::is_retired(row) {
+        if changes(m, row) {
+            return 0;
+        }
+        return 1;
+    }
+    0
+}
+
+// Writes at `at` what is written for a record.
+pub fn put(out: &mut [u8], at: usize, m: Levels, row: &[u8])
+    requires { ⌜ 4 ≤ length (now row) ⌝ }
+    requires { ⌜ at + length (partOf m (now row)) ≤ length (now out) ⌝ }
+    ensures { λ _. ⌜ now (out .exit) ≡ putAt (now (out .entry)) at (partOf m (now (row .entry))) ⌝ }
+{
+    if capture_record::is_retired(row) {
+        if changes(m, row) {
+            let x = capture_record::drive(m, row[6]);
+            let b = pair(row[4], row[5], m.line0, row[6], x, row[8]);
+            octets::copy(out, at, &b);
+            return;
+        }
+        let b = line(row[4], row[5], m.line0);
+        octets::copy(out, at, &b);
+        return;
+    }
+    octets::copy(out, at, row);
+}

@@ -1,0 +1,49 @@
+-- A capture as its records: document 01, "Items and answers as bytes", and which of its records request W-214 speaks of.
+use Prim.Native.Nat.{ℕ, zero, suc, _-_}
+use mathlib.Core.Bool.{Bool, false, cond}
+use mathlib.Core.List.{List, [], _∷_, _++_}
+use lib.ListN.{getD, take, drop}
+use lib.Dec.{eqb}
+use Rattle.itemspec.specs.declared.Framed.{Framed}
+use Rattle.itemspec.specs.declared.Framed.the-variants.{Whole, Cut}
+use Rattle.itemspec.specs.Record.{frameOf}
+use Rattle.itemspec.specs.Items.{refusalOf}
+use Rattle.itemspec.specs.Ranged.{isRetired}
+use Rattle.itemspec.specs.Kinds.{isKind, decodedOf}
+
+-- A capture is its whole records, each with the two bytes of its length, up to the end or up to one refused with 1.
+pub data Capture : Type 0 where
+  row : List ℕ → Capture → Capture
+  end : Capture
+  cut : List ℕ → Capture
+
+abbrev pub framed : Framed → List ℕ → (ℕ → Capture) → Capture
+framed (Whole n) l go = row (take n l) (go (n - 1))
+framed Cut l go = cut l
+
+-- The records after the first k bytes.
+unfoldable pub captureFrom : ℕ → List ℕ → Capture
+captureFrom k [] = end
+captureFrom zero (x ∷ xs) = framed (frameOf (x ∷ xs)) (x ∷ xs) (λ k. captureFrom k xs)
+captureFrom (suc k) (x ∷ xs) = captureFrom k xs
+
+abbrev pub captureOf : List ℕ → Capture
+captureOf l = captureFrom 0 l
+
+-- The bytes of its whole records.
+unfoldable pub bytesOf : Capture → List ℕ
+bytesOf (row r c) = r ++ bytesOf c
+bytesOf end = []
+bytesOf (cut l) = []
+
+-- The bytes of a record after its length, as the decoder takes them.
+abbrev pub bodyOf : List ℕ → List ℕ
+bodyOf r = drop 2 r
+
+-- "A valid retired SN": the decoder before W-214 lets it through, and its register is one of those that go. S is 83, N 78.
+unfoldable pub retiredOf : List ℕ → Bool
+retiredOf r = cond (isKind (bodyOf r) (83 ∷ 78 ∷ [])) (cond (eqb (refusalOf (decodedOf (bodyOf r))) 0) (isRetired (getD r 7 0)) false) false
+
+-- A valid IN on line 0. I is 73, N 78.
+unfoldable pub line0Of : List ℕ → Bool
+line0Of r = cond (isKind (bodyOf r) (73 ∷ 78 ∷ [])) (cond (eqb (refusalOf (decodedOf (bodyOf r))) 0) (eqb (getD r 6 0) 0) false) false

@@ -1,0 +1,59 @@
+-- A record of one of the kinds IN and SN is read as that kind's definition reads it, and one that is let through has that kind's length and ranges.
+use Prim.Native.Nat.{ℕ, _≤_}
+use mathlib.Core.Path.{_≡_, refl, sym, ap, _∙_}
+use mathlib.Core.Bool.{Bool, true, false, cond, _&&_, true≢false}
+use mathlib.Core.List.{List, [], _∷_}
+use native.Mathlib.Omega.{arith}
+use lib.ListN.{length, getD}
+use lib.Dec.{ltb, eqb}
+use borrow.Author.Tests.{eqb-true, ltb-false}
+use Rattle.itemspec.specs.Items.{refusalOf, sized, waitOf}
+use Rattle.itemspec.specs.Ranged.{upTo, lineOf, senseOf}
+use Rattle.itemspec.specs.Kinds.{isKind, decodedOf}
+use Rattle.itemspec.specs.declared.Decoded.{Decoded}
+use Rattle.itemspec.specs.declared.Decoded.the-variants.{Done, Refused}
+
+-- the two bytes of a kind
+pub kind-bytes : (s : List ℕ) (a b : ℕ) → isKind s (a ∷ b ∷ []) ≡ true → (getD s 0 0 ≡ a) × (getD s 1 0 ≡ b)
+unfolding isKind
+kind-bytes s a b h = go (eqb (getD s 0 0) a) (eqb (getD s 1 0) b) refl refl h
+  where
+    go : (x y : Bool) → eqb (getD s 0 0) a ≡ x → eqb (getD s 1 0) b ≡ y → (x && y) ≡ true → (getD s 0 0 ≡ a) × (getD s 1 0 ≡ b)
+    go true true p q h = (eqb-true _ _ p, eqb-true _ _ q)
+    go true false p q h = absurd (true≢false (sym h))
+    go false y p q h = absurd (true≢false (sym h))
+
+pub kind-line : (s : List ℕ) → isKind s (73 ∷ 78 ∷ []) ≡ true → decodedOf s ≡ lineOf s
+unfolding decodedOf isKind
+kind-line s h = let e = kind-bytes s 73 78 h in simp (e .0, e .1)
+
+pub kind-sense : (s : List ℕ) → isKind s (83 ∷ 78 ∷ []) ≡ true → decodedOf s ≡ senseOf s
+unfolding decodedOf isKind
+kind-sense s h = let e = kind-bytes s 83 78 h in simp (e .0, e .1)
+
+-- what is let through has the kind's length
+sized-through : (s : List ℕ) (n : ℕ) (x : Decoded) → refusalOf (sized s n x) ≡ 0 → (length s ≡ n) × (refusalOf x ≡ 0)
+sized-through s n x = go (eqb (length s) n) refl
+  where
+    go : (t : Bool) → eqb (length s) n ≡ t → refusalOf (cond t x (Refused 3)) ≡ 0 → (length s ≡ n) × (refusalOf x ≡ 0)
+    go true p h = (eqb-true _ _ p, h)
+    go false p h = absurd (omega arith)
+
+-- and values within their ranges
+upTo-through : (v most : ℕ) (x : Decoded) → refusalOf (upTo v most x) ≡ 0 → (v ≤ most) × (refusalOf x ≡ 0)
+upTo-through v most x = go (ltb most v) refl
+  where
+    go : (t : Bool) → ltb most v ≡ t → refusalOf (cond t (Refused 5) x) ≡ 0 → (v ≤ most) × (refusalOf x ≡ 0)
+    go true p h = absurd (omega arith)
+    go false p h = (ltb-false _ _ p, h)
+
+pub line-through : (s : List ℕ) → refusalOf (lineOf s) ≡ 0 → (length s ≡ 6) × (getD s 5 0 ≤ 1)
+unfolding lineOf
+line-through s h =
+    let l = sized-through s 6 _ h in
+    let a = upTo-through (getD s 4 0) 6 _ (l .1) in
+    (l .0, upTo-through (getD s 5 0) 1 _ (a .1) .0)
+
+pub sense-through : (s : List ℕ) → refusalOf (senseOf s) ≡ 0 → length s ≡ 7
+unfolding senseOf
+sense-through s h = sized-through s 7 _ h .0
