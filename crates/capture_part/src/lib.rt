@@ -4,7 +4,7 @@ ghost use mathlib.Core.List.{_++_};
 ghost use Prim.Native.Nat.{_+_, _≤_};
 ghost use lib.ListN.{length};
 ghost use Rattle.octets.specs.Octets.{putAt};
-ghost use Rattle.capture_spec.specs.Convert.{lockedOf, lineBytes, diskBytes, changesOf, partOf, loneOf};
+ghost use Rattle.capture_spec.specs.Convert.{lockedOf, lineFor, diskFor, changesOf, partOf, loneOf};
 use capture_spec::DriveLevels;
 use capture_spec::Levels;
 
@@ -23,21 +23,27 @@ fn locked(x: DriveLevels) -> u8
     0
 }
 
-// An IN on line 0 with these two bytes of wait, and a DI with wait 0.
-fn pair(w0: u8, w1: u8, line0: u8, drive: u8, x: DriveLevels, level: u8) -> [u8; 18]
-    ensures { λ r. ⌜ r ≡ lineBytes w0 w1 line0 ++ diskBytes drive x level ⌝ }
+// The IN and the DI for a retired SN.
+fn pair(m: Levels, row: &[u8]) -> [u8; 18]
+    requires { ⌜ 9 ≤ length (now row) ⌝ }
+    ensures { λ r. ⌜ r ≡ lineFor m (now (row .entry)) ++ diskFor m (now (row .entry)) ⌝ }
 {
-    if level == 0 {
-        return [6, 0, IN[0], IN[1], w0, w1, 0, line0, 8, 0, DI[0], DI[1], 0, 0, drive, 1, locked(x), x.sides];
+    let drive = row[6];
+    let x = capture_record::drive(m, drive);
+    let w0 = row[4];
+    let w1 = row[5];
+    if row[8] == 0 {
+        return [6, 0, IN[0], IN[1], w0, w1, 0, m.line0, 8, 0, DI[0], DI[1], 0, 0, drive, 1, locked(x), x.sides];
     }
-    [6, 0, IN[0], IN[1], w0, w1, 0, line0, 8, 0, DI[0], DI[1], 0, 0, drive, 0, 0, 0]
+    [6, 0, IN[0], IN[1], w0, w1, 0, m.line0, 8, 0, DI[0], DI[1], 0, 0, drive, 0, 0, 0]
 }
 
-// An IN on line 0 with these two bytes of wait.
-fn line(w0: u8, w1: u8, line0: u8) -> [u8; 8]
-    ensures { λ r. ⌜ r ≡ lineBytes w0 w1 line0 ⌝ }
+// The IN for a retired SN.
+fn line(m: Levels, row: &[u8]) -> [u8; 8]
+    requires { ⌜ 9 ≤ length (now row) ⌝ }
+    ensures { λ r. ⌜ r ≡ lineFor m (now (row .entry)) ⌝ }
 {
-    [6, 0, IN[0], IN[1], w0, w1, 0, line0]
+    [6, 0, IN[0], IN[1], row[4], row[5], 0, m.line0]
 }
 
 // Whether an SN changes whether a disk is present.
@@ -91,12 +97,11 @@ pub fn put(out: &mut [u8], at: usize, m: Levels, row: &[u8])
 {
     if capture_record::is_retired(row) {
         if changes(m, row) {
-            let x = capture_record::drive(m, row[6]);
-            let b = pair(row[4], row[5], m.line0, row[6], x, row[8]);
+            let b = pair(m, row);
             octets::copy(out, at, &b);
             return;
         }
-        let b = line(row[4], row[5], m.line0);
+        let b = line(m, row);
         octets::copy(out, at, &b);
         return;
     }

@@ -11,8 +11,8 @@ use Rattle.capture_spec.specs.Capture.{Capture, row, end, cut, captureOf
 use Rattle.capture_spec.specs.Levels.{firstLevels, driveOf, nextOf}
 
 -- "an IN of the same wait repeating line 0's present level": length 6, IN, the two bytes of the wait, line 0, the level.
-abbrev pub lineBytes : ℕ → ℕ → ℕ → List ℕ
-lineBytes w0 w1 level = 6 ∷ 0 ∷ 73 ∷ 78 ∷ w0 ∷ w1 ∷ 0 ∷ level ∷ []
+unfoldable pub lineFor : Levels → List ℕ → List ℕ
+lineFor m r = 6 ∷ 0 ∷ 73 ∷ 78 ∷ getD r 4 0 ∷ getD r 5 0 ∷ 0 ∷ m .line0 ∷ []
 
 -- "locked where that drive's register 3 last had 0".
 unfoldable pub lockedOf : DriveLevels → ℕ
@@ -26,6 +26,9 @@ diskBytes drive x level =
     (8 ∷ 0 ∷ 68 ∷ 73 ∷ 0 ∷ 0 ∷ drive ∷ 1 ∷ lockedOf x ∷ x .sides ∷ [])
     (8 ∷ 0 ∷ 68 ∷ 73 ∷ 0 ∷ 0 ∷ drive ∷ 0 ∷ 0 ∷ 0 ∷ [])
 
+unfoldable pub diskFor : Levels → List ℕ → List ℕ
+diskFor m r = diskBytes (getD r 6 0) (driveOf m (getD r 6 0)) (getD r 8 0)
+
 -- "on register 1 .. where, by the SN items alone, it changes whether a disk is present".
 unfoldable pub changesOf : Levels → List ℕ → Bool
 changesOf m r = cond (eqb (getD r 7 0) 1) (cond (eqb (getD r 8 0) (driveOf m (getD r 6 0) .cstin)) false true) false
@@ -34,9 +37,7 @@ changesOf m r = cond (eqb (getD r 7 0) 1) (cond (eqb (getD r 8 0) (driveOf m (ge
 unfoldable pub partOf : Levels → List ℕ → List ℕ
 partOf m r =
     cond (retiredOf r)
-    (cond (changesOf m r)
-    (lineBytes (getD r 4 0) (getD r 5 0) (m .line0) ++ diskBytes (getD r 6 0) (driveOf m (getD r 6 0)) (getD r 8 0))
-    (lineBytes (getD r 4 0) (getD r 5 0) (m .line0)))
+    (cond (changesOf m r) (lineFor m r ++ diskFor m r) (lineFor m r))
     r
 
 -- "Those without a DI are counted."
