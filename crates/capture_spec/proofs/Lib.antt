@@ -1,3 +1,5 @@
 pub mod Records
 pub mod Parts
 pub mod Walk
+pub mod Frames
+pub mod Promises

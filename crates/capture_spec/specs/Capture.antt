@@ -1,6 +1,7 @@
 -- A capture as its records: document 01, "Items and answers as bytes", and which of its records request W-214 speaks of.
 use Prim.Native.Nat.{ℕ, zero, suc, _-_}
 use mathlib.Core.Bool.{Bool, false, cond}
+use mathlib.Core.Path.{_≡_}
 use mathlib.Core.List.{List, [], _∷_, _++_}
 use lib.ListN.{getD, take, drop}
 use lib.Dec.{eqb}
@@ -35,6 +36,18 @@ unfoldable pub bytesOf : Capture → List ℕ
 bytesOf (row r c) = r ++ bytesOf c
 bytesOf end = []
 bytesOf (cut l) = []
+
+-- The bytes from the record refused with 1 on.
+unfoldable pub leftOf : Capture → List ℕ
+leftOf (row r c) = leftOf c
+leftOf end = []
+leftOf (cut l) = l
+
+-- No whole record has this property.
+abbrev pub None : (List ℕ → Bool) → Capture → Type 0
+None p (row r c) = (p r ≡ false) × None p c
+None p end = Unit {0}
+None p (cut l) = Unit {0}
 
 -- The bytes of a record after its length, as the decoder takes them.
 abbrev pub bodyOf : List ℕ → List ℕ

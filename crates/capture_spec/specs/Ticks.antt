@@ -1,9 +1,8 @@
 -- The ticks that a capture passes before and after W-214: "Given room, a capture without DI passes as many ticks as before W-214."
 use Prim.Native.Nat.{ℕ, suc, _+_}
-use mathlib.Core.Bool.{Bool, true, false, cond}
+use mathlib.Core.Bool.{Bool, cond}
 use mathlib.Core.List.{List, [], _∷_}
 use lib.Dec.{eqb}
-use mathlib.Core.Path.{_≡_}
 use Rattle.itemspec.specs.Items.{waitOf, refusalOf}
 use Rattle.itemspec.specs.Kinds.{isKind, decodedOf}
 use Rattle.capture_spec.specs.Capture.{Capture, row, end, cut, bodyOf, retiredOf}
@@ -28,14 +27,3 @@ unfoldable pub ticks : (List ℕ → ℕ) → (ℕ → Bool) → ℕ → Capture
 ticks refusal eight n (row r c) = passes refusal (eight n) r + ticks refusal eight (suc n) c
 ticks refusal eight n end = 0
 ticks refusal eight n (cut l) = 0
-
--- A capture without DI, and one without a valid retired SN.
-abbrev pub NoDisk : Capture → Type 0
-NoDisk (row r c) = (isDisk r ≡ false) × NoDisk c
-NoDisk end = Unit {0}
-NoDisk (cut l) = Unit {0}
-
-abbrev pub NoneRetired : Capture → Type 0
-NoneRetired (row r c) = (retiredOf r ≡ false) × NoneRetired c
-NoneRetired end = Unit {0}
-NoneRetired (cut l) = Unit {0}
