@@ -3,3 +3,5 @@ pub mod Parts
 pub mod Walk
 pub mod Frames
 pub mod Promises
+pub mod TickLaws
+pub mod Samples

@@ -17,7 +17,7 @@ same-length c = search needs
 
 -- src/lib.rt:8:1
 returns : tie.Need-returns
-returns c = let e = c .before .before .convert .ensures in (ap (λ (x : Converted). x .refusal) (e .0), ap (λ (x : Converted). x .written) (e .0), ap (λ (x : Converted). x .count) (e .0), e .1)
+returns c = let e = c .before .before .convert .ensures in (ap (λ (x : Converted). x .refusal) (e .0), (ap (λ (x : Converted). x .written) (e .0), (ap (λ (x : Converted). x .count) (e .0), e .1)))
 
 pub swarmtempo-convert-spec : {M : Type 1} → statement M
 swarmtempo-convert-spec = tie.close (tie.spec convert-requires same-length returns)
