@@ -112,8 +112,8 @@ six-means l room r q = go (ltb room (length (turnedOf l))) refl q
   where
     go : (t : Bool) → ltb room (length (turnedOf l)) ≡ t
         → r
-          ≡ cond t (record { refusal = 6; written = 0; count = 0 })
-            (record { refusal = endOf (captureOf l); written = length (turnedOf l); count = countFrom firstLevels (captureOf l) })
+        ≡ cond t (record { refusal = 6; written = 0; count = 0 })
+        (record { refusal = endOf (captureOf l); written = length (turnedOf l); count = countFrom firstLevels (captureOf l) })
         → (r .refusal ≡ 6 → room < length (turnedOf l)) × ((r .refusal ≡ 6 → ⊥) → length (turnedOf l) ≤ room)
     go true p q = (λ h. ltb-true _ _ p, λ h. absurd (h (ap (λ (x : Converted). x .refusal) q)))
     go false p q = (λ h. let s : endOf (captureOf l) ≡ 6 = sym (ap (λ (x : Converted). x .refusal) q) ∙ h in absurd (omega (arith, s, end-small (captureOf l))), λ h. ltb-false _ _ p)

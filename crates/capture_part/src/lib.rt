@@ -4,7 +4,7 @@ ghost use mathlib.Core.List.{_++_};
 ghost use Prim.Native.Nat.{_+_, _≤_};
 ghost use lib.ListN.{length};
 ghost use Rattle.octets.specs.Octets.{putAt};
-ghost use Rattle.capture_spec.specs.Convert.{lockedOf, lineFor, diskFor, changesOf, partOf, loneOf};
+ghost use Rattle.capture_spec.specs.Convert.{insertOf, lockedOf, sidesOf, lineFor, diskFor, changesOf, partOf, loneOf};
 use capture_spec::DriveLevels;
 use capture_spec::Levels;
 
@@ -13,12 +13,35 @@ const IN: [u8; 2] = *b"IN";
 
 const DI: [u8; 2] = *b"DI";
 
-// Whether a disk put in now is locked: 1 where it is.
-fn locked(x: DriveLevels) -> u8
-    ensures { λ r. ⌜ r ≡ lockedOf x ⌝ }
+// What a DI says for a level of register 1: 1 where it puts a disk in.
+fn insert(level: u8) -> u8
+    ensures { λ r. ⌜ r ≡ insertOf level ⌝ }
 {
-    if x.wrtprt == 0 {
+    if level == 0 {
         return 1;
+    }
+    0
+}
+
+// 1 where the disk put in is locked.
+fn locked(x: DriveLevels, level: u8) -> u8
+    ensures { λ r. ⌜ r ≡ lockedOf x level ⌝ }
+{
+    if level == 0 {
+        if x.wrtprt == 0 {
+            return 1;
+        }
+        return 0;
+    }
+    0
+}
+
+// 1 where the disk put in is double-sided.
+fn sides(x: DriveLevels, level: u8) -> u8
+    ensures { λ r. ⌜ r ≡ sidesOf x level ⌝ }
+{
+    if level == 0 {
+        return x.sides;
     }
     0
 }
@@ -29,13 +52,28 @@ fn pair(m: Levels, row: &[u8]) -> [u8; 18]
     ensures { λ r. ⌜ r ≡ lineFor m (now (row .entry)) ++ diskFor m (now (row .entry)) ⌝ }
 {
     let drive = row[6];
+    let level = row[8];
     let x = capture_record::drive(m, drive);
-    let w0 = row[4];
-    let w1 = row[5];
-    if row[8] == 0 {
-        return [6, 0, IN[0], IN[1], w0, w1, 0, m.line0, 8, 0, DI[0], DI[1], 0, 0, drive, 1, locked(x), x.sides];
-    }
-    [6, 0, IN[0], IN[1], w0, w1, 0, m.line0, 8, 0, DI[0], DI[1], 0, 0, drive, 0, 0, 0]
+    [
+        6,
+        0,
+        IN[0],
+        IN[1],
+        row[4],
+        row[5],
+        0,
+        m.line0,
+        8,
+        0,
+        DI[0],
+        DI[1],
+        0,
+        0,
+        drive,
+        insert(level),
+        locked(x, level),
+        sides(x, level),
+    ]
 }
 
 // The IN for a retired SN.

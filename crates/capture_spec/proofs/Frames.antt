@@ -4,20 +4,18 @@ use mathlib.Core.Path.{_≡_, refl, sym, ap, _∙_}
 use mathlib.Core.Bool.{Bool, true, false, cond}
 use mathlib.Core.List.{List, [], _∷_, _++_}
 use native.Mathlib.Omega.{arith}
-use lib.ListN.{length, getD, take, drop, length-append}
+use lib.ListN.{length, take, drop}
 use lib.Seq.{length-take-le, getD-take, take-append-seam, drop-append-seam}
-use lib.Dec.{ltb, eqb}
+use lib.Dec.{ltb}
 use borrow.Author.Tests.{ltb-false, le-ltb}
 use Rattle.octets.specs.Octets.{le16Of}
 use Rattle.itemspec.specs.Record.{frameOf}
 use Rattle.itemspec.specs.declared.Framed.{Framed}
 use Rattle.itemspec.specs.declared.Framed.the-variants.{Whole, Cut}
 use Rattle.itemspec.proofs.RecordLaws.{whole-append}
-use Rattle.capture_spec.specs.declared.DriveLevels.{DriveLevels}
 use Rattle.capture_spec.specs.declared.Levels.{Levels}
 use Rattle.capture_spec.specs.Capture.{Capture, row, end, cut, framed, captureFrom, captureOf}
-use Rattle.capture_spec.specs.Levels.{driveOf}
-use Rattle.capture_spec.specs.Convert.{lineFor, lockedOf, diskBytes, diskFor}
+use Rattle.capture_spec.specs.Convert.{lineFor, diskFor}
 use Rattle.capture_spec.proofs.Walk.{capture-row}
 
 -- a list is one whole record
@@ -50,13 +48,8 @@ unfolding frameOf le16Of lineFor
 line-record m r = refl
 
 pub disk-record : (m : Levels) (r : List ℕ) → IsRecord (diskFor m r)
-unfolding frameOf le16Of diskFor diskBytes
-disk-record m r = go (getD r 6 0) (driveOf m (getD r 6 0)) (eqb (getD r 8 0) 0)
-  where
-    go : (drive : ℕ) (x : DriveLevels) (t : Bool)
-        → IsRecord (cond t (8 ∷ 0 ∷ 68 ∷ 73 ∷ 0 ∷ 0 ∷ drive ∷ 1 ∷ lockedOf x ∷ x .sides ∷ []) (8 ∷ 0 ∷ 68 ∷ 73 ∷ 0 ∷ 0 ∷ drive ∷ 0 ∷ 0 ∷ 0 ∷ []))
-    go drive x true = refl
-    go drive x false = refl
+unfolding frameOf le16Of diskFor
+disk-record m r = refl
 
 -- every row of a capture is a record
 abbrev pub Records : Capture → Type 0

@@ -1,28 +1,24 @@
 -- W-214: a capture without a valid retired SN is unchanged, byte for byte; converting twice equals converting once.
 use Prim.Native.Nat.{ℕ, zero, suc, _+_, _-_, _≤_}
 use mathlib.Core.Path.{_≡_, refl, sym, ap, _∙_}
-use mathlib.Core.Bool.{Bool, true, false, cond}
+use mathlib.Core.Bool.{Bool, true, false}
 use mathlib.Core.List.{List, [], _∷_, _++_, append-nil, append-assoc}
 use native.Mathlib.Omega.{arith}
 use native.Mathlib.Nat.{zero-add}
-use lib.ListN.{length, getD, take, drop, take-append-drop}
+use lib.ListN.{length, take, drop, take-append-drop}
 use lib.Seq.{drop-nil}
-use lib.Dec.{eqb}
 use borrow.Author.Tests.{le-ltb}
 use Rattle.itemspec.specs.Record.{frameOf}
 use Rattle.itemspec.specs.declared.Framed.{Framed}
 use Rattle.itemspec.specs.declared.Framed.the-variants.{Whole, Cut}
 use Rattle.itemspec.specs.Kinds.{isKind}
 use Rattle.itemspec.proofs.RecordLaws.{whole-fits}
-use Rattle.capture_spec.specs.declared.DriveLevels.{DriveLevels}
 use Rattle.capture_spec.specs.declared.Levels.{Levels}
-use Rattle.capture_spec.specs.declared.Converted.{Converted}
 use Rattle.capture_spec.specs.Capture.{Capture, row, end, cut, framed, captureFrom, captureOf, bytesOf, leftOf, None, retiredOf}
-use Rattle.capture_spec.specs.Levels.{firstLevels, driveOf, nextOf}
-use Rattle.capture_spec.specs.Convert.{lineFor, lockedOf, diskBytes, diskFor, changesOf, partOf, loneOf, turnedFrom, countFrom, endOf, turnedOf, convertedOf, outputOf}
+use Rattle.capture_spec.specs.Levels.{firstLevels, nextOf}
+use Rattle.capture_spec.specs.Convert.{lineFor, diskFor, changesOf, partOf, loneOf, turnedFrom, countFrom, endOf, turnedOf, convertedOf}
 use Rattle.capture_spec.proofs.Parts.{part-same, part-line, part-pair}
-use Rattle.capture_spec.proofs.Walk.{capture-drop}
-use Rattle.capture_spec.proofs.Frames.{IsRecord, Records, line-record, disk-record, capture-records, capture-cons}
+use Rattle.capture_spec.proofs.Frames.{Records, line-record, disk-record, capture-records, capture-cons}
 
 -- ---- the converted capture as records
 
@@ -115,13 +111,8 @@ unfolding retiredOf isKind lineFor
 line-kept m r = refl
 
 disk-kept : (m : Levels) (r : List ℕ) → retiredOf (diskFor m r) ≡ false
-unfolding retiredOf isKind diskFor diskBytes
-disk-kept m r = go (getD r 6 0) (driveOf m (getD r 6 0)) (eqb (getD r 8 0) 0)
-  where
-    go : (drive : ℕ) (x : DriveLevels) (t : Bool)
-        → retiredOf (cond t (8 ∷ 0 ∷ 68 ∷ 73 ∷ 0 ∷ 0 ∷ drive ∷ 1 ∷ lockedOf x ∷ x .sides ∷ []) (8 ∷ 0 ∷ 68 ∷ 73 ∷ 0 ∷ 0 ∷ drive ∷ 0 ∷ 0 ∷ 0 ∷ [])) ≡ false
-    go drive x true = refl
-    go drive x false = refl
+unfolding retiredOf isKind diskFor
+disk-kept m r = refl
 
 rows-none : (c : Capture) (m : Levels) → None retiredOf (rowsFrom m c)
 unfolding rowsFrom

@@ -12,7 +12,7 @@ use Rattle.itemspec.specs.Kinds.{isKind, decodedOf}
 use Rattle.capture_spec.specs.declared.Converted.{Converted}
 use Rattle.capture_spec.specs.Capture.{captureFrom, captureOf, retiredOf, line0Of, leftOf}
 use Rattle.capture_spec.specs.Levels.{noLevels, firstLevels, driveSenseOf, driveOf, senseTo, nextOf}
-use Rattle.capture_spec.specs.Convert.{lineFor, lockedOf, diskBytes, diskFor, changesOf, partOf, loneOf, turnedFrom, countFrom, endOf, turnedOf, convertedOf, outputOf}
+use Rattle.capture_spec.specs.Convert.{lineFor, insertOf, lockedOf, sidesOf, diskFor, changesOf, partOf, loneOf, turnedFrom, countFrom, endOf, turnedOf, convertedOf, outputOf}
 use Rattle.capture_spec.specs.Ticks.{refusalBefore, refusalAfter, isDisk, passes, ticks}
 
 -- records: SN and DI with a wait of w + 256 x ticks, IN likewise
@@ -46,11 +46,11 @@ pub record Samples : Type 0 where
   pub others : turnedOf (sn 0 0 0 3 0 ++ sn 0 0 0 3 1 ++ sn 0 0 1 12 0 ++ sn 0 0 0 1 0) ≡ line 0 0 0 1 ++ line 0 0 0 1 ++ line 0 0 0 1 ++ line 0 0 0 1 ++ disk 0 1 0 1
   -- registers 6 to 11, 13 and 14 stay, and so do a level 2, a drive 2 and a length of 8; none of them counts for line 0 or a drive
   pub stays :
-    turnedOf (sn 1 0 0 6 0 ++ sn 1 0 0 11 0 ++ sn 1 0 0 13 0 ++ sn 1 0 1 14 0 ++ sn 1 0 0 1 2 ++ sn 1 0 2 1 0 ++ (8 ∷ 0 ∷ 83 ∷ 78 ∷ 1 ∷ 0 ∷ 0 ∷ 1 ∷ 0 ∷ 0 ∷ []) ++ sn 1 0 0 1 1)
-    ≡ sn 1 0 0 6 0 ++ sn 1 0 0 11 0 ++ sn 1 0 0 13 0 ++ sn 1 0 1 14 0 ++ sn 1 0 0 1 2 ++ sn 1 0 2 1 0 ++ (8 ∷ 0 ∷ 83 ∷ 78 ∷ 1 ∷ 0 ∷ 0 ∷ 1 ∷ 0 ∷ 0 ∷ []) ++ line 1 0 0 1
+      turnedOf (sn 1 0 0 6 0 ++ sn 1 0 0 11 0 ++ sn 1 0 0 13 0 ++ sn 1 0 1 14 0 ++ sn 1 0 0 1 2 ++ sn 1 0 2 1 0 ++ (8 ∷ 0 ∷ 83 ∷ 78 ∷ 1 ∷ 0 ∷ 0 ∷ 1 ∷ 0 ∷ 0 ∷ []) ++ sn 1 0 0 1 1)
+      ≡ sn 1 0 0 6 0 ++ sn 1 0 0 11 0 ++ sn 1 0 0 13 0 ++ sn 1 0 1 14 0 ++ sn 1 0 0 1 2 ++ sn 1 0 2 1 0 ++ (8 ∷ 0 ∷ 83 ∷ 78 ∷ 1 ∷ 0 ∷ 0 ∷ 1 ∷ 0 ∷ 0 ∷ []) ++ line 1 0 0 1
   -- the registers that go
   pub goes :
-    turnedOf (sn 1 0 0 0 0 ++ sn 2 0 0 2 0 ++ sn 3 0 0 4 0 ++ sn 4 0 0 5 0 ++ sn 5 0 0 15 0) ≡ line 1 0 0 1 ++ line 2 0 0 1 ++ line 3 0 0 1 ++ line 4 0 0 1 ++ line 5 0 0 1
+      turnedOf (sn 1 0 0 0 0 ++ sn 2 0 0 2 0 ++ sn 3 0 0 4 0 ++ sn 4 0 0 5 0 ++ sn 5 0 0 15 0) ≡ line 1 0 0 1 ++ line 2 0 0 1 ++ line 3 0 0 1 ++ line 4 0 0 1 ++ line 5 0 0 1
   -- an IN on line 1, and one on line 0 with level 2, do not count for line 0
   pub lines : turnedOf (line 0 0 1 0 ++ line 0 0 0 2 ++ sn 0 0 0 0 0) ≡ line 0 0 1 0 ++ line 0 0 0 2 ++ line 0 0 0 1
   -- a cut record ends the work, and too little room before it wins
@@ -67,7 +67,7 @@ pub record Samples : Type 0 where
   pub refused : ticks refusalAfter (λ n. false) 0 (captureOf story) ≡ 9
 
 pub samples : Samples
-unfolding le16Of le32Of frameOf placeFrom foundOf plainOf readOf writeOf powerOf lineOf senseOf isRetired diskOf isKind decodedOf captureFrom retiredOf line0Of leftOf noLevels firstLevels driveSenseOf driveOf senseTo nextOf lineFor lockedOf diskBytes diskFor changesOf partOf loneOf turnedFrom countFrom endOf turnedOf convertedOf outputOf refusalBefore refusalAfter isDisk passes ticks
+unfolding le16Of le32Of frameOf placeFrom foundOf plainOf readOf writeOf powerOf lineOf senseOf isRetired diskOf isKind decodedOf captureFrom retiredOf line0Of leftOf noLevels firstLevels driveSenseOf driveOf senseTo nextOf lineFor insertOf lockedOf sidesOf diskFor changesOf partOf loneOf turnedFrom countFrom endOf turnedOf convertedOf outputOf refusalBefore refusalAfter isDisk passes ticks
 samples =
     record {
       turned = refl;

@@ -1,22 +1,21 @@
 -- W-214: "Given room, a capture without DI passes as many ticks as before W-214."
-use Prim.Native.Nat.{ℕ, suc, _+_, _*_, _≤_}
+use Prim.Native.Nat.{ℕ, suc, _+_, _≤_}
 use mathlib.Core.Path.{_≡_, refl, sym, ap, ap₂, _∙_}
 use mathlib.Core.Bool.{Bool, true, false, cond}
-use mathlib.Core.List.{List, [], _∷_}
+use mathlib.Core.List.{List}
 use native.Mathlib.Omega.{arith}
-use lib.ListN.{getD, drop}
+use lib.ListN.{getD}
 use lib.Seq.{getD-drop}
-use lib.Dec.{ltb, eqb}
+use lib.Dec.{eqb}
 use borrow.Author.Tests.{le-ltb, eq-eqb}
 use Rattle.octets.specs.Octets.{le16Of}
-use Rattle.itemspec.specs.Items.{waitOf, refusalOf}
+use Rattle.itemspec.specs.Items.{waitOf}
 use Rattle.itemspec.specs.Ranged.{lineOf}
 use Rattle.itemspec.specs.Kinds.{isKind, decodedOf}
-use Rattle.capture_spec.specs.declared.DriveLevels.{DriveLevels}
 use Rattle.capture_spec.specs.declared.Levels.{Levels}
 use Rattle.capture_spec.specs.Capture.{Capture, row, end, cut, captureOf, None, bodyOf, retiredOf, line0Of}
-use Rattle.capture_spec.specs.Levels.{firstLevels, driveOf, senseTo, withInternal, withExternal, driveSenseOf, nextOf}
-use Rattle.capture_spec.specs.Convert.{lineFor, lockedOf, diskBytes, diskFor, changesOf, turnedOf}
+use Rattle.capture_spec.specs.Levels.{firstLevels, senseTo, withInternal, withExternal, driveSenseOf, nextOf}
+use Rattle.capture_spec.specs.Convert.{lineFor, diskFor, changesOf, turnedOf}
 use Rattle.capture_spec.specs.Ticks.{refusalBefore, refusalAfter, isDisk, passes, ticks}
 use Rattle.capture_spec.proofs.Records.{retired-through, line0-long}
 use Rattle.capture_spec.proofs.Promises.{partRows, rowsFrom, turned-capture}
@@ -47,24 +46,16 @@ line-ticks : (m : Levels) (r : List ℕ) (e : Bool) → m .line0 ≤ 1 → passe
 unfolding passes refusalAfter refusalBefore retiredOf isDisk isKind decodedOf lineOf le16Of lineFor
 line-ticks m r e h = simp (le-ltb 1 (m .line0) h, getD-drop 2 r 2 0, getD-drop 2 r 3 0)
 
-either : (e : Bool) (w : ℕ) → w ≡ 0 → cond e 0 w ≡ 0
-either true w p = refl
-either false w p = p
-
 -- the DI that is written passes no tick, refused or not
-disk-ticks : (m : Levels) (r : List ℕ) (e : Bool) → passes refusalAfter e (diskFor m r) ≡ 0
-unfolding passes isDisk isKind le16Of diskFor diskBytes
-disk-ticks m r e = which (getD r 6 0) (driveOf m (getD r 6 0)) (eqb (getD r 8 0) 0)
-  where
-    none : (w : ℕ) (t d : Bool) → w ≡ 0 → cond t (cond d (cond e 0 w) w) 0 ≡ 0
-    none w true true p = either e w p
-    none w true false p = p
-    none w false d p = refl
+none : (w : ℕ) (t d e : Bool) → w ≡ 0 → cond t (cond d (cond e 0 w) w) 0 ≡ 0
+none w true true true p = refl
+none w true true false p = p
+none w true false e p = p
+none w false d e p = refl
 
-    which : (drive : ℕ) (x : DriveLevels) (t : Bool)
-        → passes refusalAfter e (cond t (8 ∷ 0 ∷ 68 ∷ 73 ∷ 0 ∷ 0 ∷ drive ∷ 1 ∷ lockedOf x ∷ x .sides ∷ []) (8 ∷ 0 ∷ 68 ∷ 73 ∷ 0 ∷ 0 ∷ drive ∷ 0 ∷ 0 ∷ 0 ∷ [])) ≡ 0
-    which drive x true = none 0 (eqb (refusalAfter (8 ∷ 0 ∷ 68 ∷ 73 ∷ 0 ∷ 0 ∷ drive ∷ 1 ∷ lockedOf x ∷ x .sides ∷ [])) 0) true refl
-    which drive x false = none 0 (eqb (refusalAfter (8 ∷ 0 ∷ 68 ∷ 73 ∷ 0 ∷ 0 ∷ drive ∷ 0 ∷ 0 ∷ 0 ∷ [])) 0) true refl
+disk-ticks : (m : Levels) (r : List ℕ) (e : Bool) → passes refusalAfter e (diskFor m r) ≡ 0
+unfolding passes isDisk isKind le16Of diskFor
+disk-ticks m r e = none 0 (eqb (refusalAfter (diskFor m r)) 0) true e refl
 
 -- a valid retired SN was carried out
 retired-ticks : (r : List ℕ) (e : Bool) → isDisk r ≡ false → retiredOf r ≡ true → passes refusalBefore e r ≡ waitOf (bodyOf r)

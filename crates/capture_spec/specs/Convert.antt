@@ -14,17 +14,21 @@ use Rattle.capture_spec.specs.Levels.{firstLevels, driveOf, nextOf}
 unfoldable pub lineFor : Levels → List ℕ → List ℕ
 lineFor m r = 6 ∷ 0 ∷ 73 ∷ 78 ∷ getD r 4 0 ∷ getD r 5 0 ∷ 0 ∷ m .line0 ∷ []
 
--- "locked where that drive's register 3 last had 0".
-unfoldable pub lockedOf : DriveLevels → ℕ
-lockedOf x = cond (eqb (x .wrtprt) 0) 1 0
+-- Whether the DI puts a disk in: "level 0 present".
+unfoldable pub insertOf : ℕ → ℕ
+insertOf level = cond (eqb level 0) 1 0
 
--- "a DI with wait 0": length 8, DI, the wait, the drive; then insert, locked, double-sided. "level 0 present; .. sides the last level of its 12 ..; both 0 in
--- a removal".
-unfoldable pub diskBytes : ℕ → DriveLevels → ℕ → List ℕ
-diskBytes drive x level =
-    cond (eqb level 0)
-    (8 ∷ 0 ∷ 68 ∷ 73 ∷ 0 ∷ 0 ∷ drive ∷ 1 ∷ lockedOf x ∷ x .sides ∷ [])
-    (8 ∷ 0 ∷ 68 ∷ 73 ∷ 0 ∷ 0 ∷ drive ∷ 0 ∷ 0 ∷ 0 ∷ [])
+-- "locked where that drive's register 3 last had 0 ..; both 0 in a removal".
+unfoldable pub lockedOf : DriveLevels → ℕ → ℕ
+lockedOf x level = cond (eqb level 0) (cond (eqb (x .wrtprt) 0) 1 0) 0
+
+-- "sides the last level of its 12, else 1; both 0 in a removal".
+unfoldable pub sidesOf : DriveLevels → ℕ → ℕ
+sidesOf x level = cond (eqb level 0) (x .sides) 0
+
+-- "a DI with wait 0": length 8, DI, the two bytes of the wait, the drive, insert, locked, double-sided.
+abbrev pub diskBytes : ℕ → DriveLevels → ℕ → List ℕ
+diskBytes drive x level = 8 ∷ 0 ∷ 68 ∷ 73 ∷ 0 ∷ 0 ∷ drive ∷ insertOf level ∷ lockedOf x level ∷ sidesOf x level ∷ []
 
 unfoldable pub diskFor : Levels → List ℕ → List ℕ
 diskFor m r = diskBytes (getD r 6 0) (driveOf m (getD r 6 0)) (getD r 8 0)

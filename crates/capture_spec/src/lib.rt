@@ -1,5 +1,5 @@
-// Old captures turned over, once: request W-214. Types, the definitions (specs/) and their laws (proofs/). The code is in capture_record, capture_part, capture
-// and capture_entry.
+// Old captures turned over, once: request W-214. Types, the definitions (specs/) and their laws (proofs/). The code is in capture_record, capture_part and
+// capture.
 
 // The last levels that the SN items of a capture gave the registers of one drive that a DI is made from.
 pub struct DriveLevels {

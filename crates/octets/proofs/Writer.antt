@@ -46,8 +46,8 @@ module _ (o₀ whole : List ℕ) where
             n≤ = omega arith;
             long = L ∙ w .long;
             kept =
-              ap (drop (n + length x)) p ∙ drop-at (take n o ++ x) (drop (n + length x) o) (n + length x) lx ∙ sym (drop-drop (length x) n o)
-              ∙ ap (drop (length x)) (w .kept)
-              ∙ drop-drop (length x) n o₀;
+                ap (drop (n + length x)) p ∙ drop-at (take n o ++ x) (drop (n + length x) o) (n + length x) lx ∙ sym (drop-drop (length x) n o)
+                ∙ ap (drop (length x)) (w .kept)
+                ∙ drop-drop (length x) n o₀;
             is = rw T (w .is ∙ ap (λ (t : List ℕ). take n o ++ t) e ∙ sym (append-assoc (take n o) x todo′));
           }

@@ -1,9 +1,6 @@
 use Rattle.capture.proofs.Passes.{todo, todo-end, todo-cut, todo-next, whole-todo}
-use Rattle.capture_spec.specs.declared.Levels.{Levels}
-use Rattle.capture_spec.specs.Levels.{firstLevels}
 use Rattle.octets.proofs.Writer.{Wrote, wrote-first, wrote-end, wrote-room, wrote-next}
-use Rattle.capture_spec.proofs.Walk.{lone-fits}
-use Rattle.capture_spec.specs.Convert.{partOf, loneOf, turnedOf}
+use Rattle.capture_spec.specs.Convert.{partOf, turnedOf}
 use Rattle.capture_spec.specs.Levels.{nextOf}
 use Rattle.itemspec.proofs.RecordLaws.{whole-fits}
 use Rattle.itemspec.specs.declared.Framed.the-variants.{Whole}
@@ -12,18 +9,11 @@ use borrow.Author.Needs.{needs}
 use denote.Ref.{now}
 use lib.Seq.{length-take-le}
 use lib.ListN.{length, take, drop, length-drop}
-use mathlib.Core.Path.{_≡_, refl, sym, ap, _∙_}
+use mathlib.Core.Path.{_≡_, refl, sym, _∙_}
 use native.Mathlib.Omega.{arith}
-use Prim.Native.Nat.{ℕ, _+_, _-_, _≤_, _<_}
+use Prim.Native.Nat.{_-_, _≤_}
 use Rattle.capture.proofs.write.Statement.{statement}
 use Rattle.capture.proofs.write.Tie as tie
-use Rattle.capture.proofs.write.Reads as reads
-use Rattle.capture.proofs.write.Lts as lts
-use Rattle.capture_part.proofs.put.Reads as put-reads
-use Rattle.capture_part.proofs.size.Reads as size-reads
-use Rattle.capture_record.proofs.first.Reads as first-reads
-use Rattle.capture_record.proofs.next.Reads as next-reads
-use Rattle.record.proofs.frame.Reads as frame-reads
 
 abbrev Inv-loop : tie.InvT-loop
 Inv-loop list out₀ rest₀ m₀ n₀ out rest m n = Wrote out₀ (turnedOf list) out n (todo m rest)
@@ -41,79 +31,60 @@ fits c = whole-fits (now (c .before .before .before .before .before .loop .rest)
 long : (c : tie.After-known-told Inv-loop μ-loop) → length (take (c .before .k .given .0 .0) (now (c .before .before .before .before .before .loop .rest))) ≡ c .before .k .given .0 .0
 long c = length-take-le (c .before .k .given .0 .0) (now (c .before .before .before .before .before .loop .rest)) (fits c .1)
 
--- src/lib.rt:53:9
 first-requires : tie.Need-first-requires Inv-loop μ-loop
 first-requires c κs = search needs
 
--- src/lib.rt:55:5
 loop-holds : tie.Need-loop-holds Inv-loop μ-loop
 loop-holds c = rw (c .first .ensures, ← whole-todo (now (c .before .before .before .args .list))) (wrote-first (now (c .before .before .before .args .out)) (turnedOf (now (c .before .before .before .args .list))))
 
--- src/lib.rt:56:32
 frame-requires : tie.Need-frame-requires Inv-loop μ-loop
 frame-requires c κs = search needs
 
--- src/lib.rt:56:27
 enum-known-k : tie.Need-enum-known-k Inv-loop μ-loop
 enum-known-k c = search needs
 
--- src/lib.rt:57:13
 enum-told : tie.Need-enum-told Inv-loop μ-loop
 enum-told c = search needs
 
--- src/lib.rt:57:13
 same-length : tie.Need-same-length Inv-loop μ-loop
 same-length c = search needs
 
--- src/lib.rt:57:13
 returns : tie.Need-returns Inv-loop μ-loop
 returns c = wrote-end (now (c .before .before .before .before .before .before .before .before .args .out)) (turnedOf (now (c .before .before .before .before .before .before .before .before .args .list))) (c .before .before .before .before .loop .out) (c .before .before .before .before .loop .n) (todo (c .before .before .before .before .loop .m) (now (c .before .before .before .before .loop .rest))) (c .before .before .before .before .loop .inv) (todo-cut (c .before .before .before .before .loop .m) (now (c .before .before .before .before .loop .rest)) (c .before .before .before .loop-test .taken) (sym (c .before .before .frame .ensures) ∙ c .enum-told .given .1)) .0
 
--- src/lib.rt:59:13
 slice-aggregate-row : tie.Need-slice-aggregate-row Inv-loop μ-loop
 slice-aggregate-row c = sym (long (c .before))
 
--- src/lib.rt:60:13
 size-requires : tie.Need-size-requires Inv-loop μ-loop
 size-requires c κs = omega (arith, long (c .before), fits (c .before))
 
--- src/lib.rt:61:9
 put-requires : tie.Need-put-requires Inv-loop μ-loop
 put-requires c κs = (omega (arith, long (c .before .before .before), fits (c .before .before .before)), wrote-room (now (c .before .before .before .before .before .before .before .before .before .before .before .before .args .out)) (turnedOf (now (c .before .before .before .before .before .before .before .before .before .before .before .before .args .list))) (c .before .before .before .before .before .before .before .before .loop .out) (c .before .before .before .before .before .before .before .before .loop .n) (todo (c .before .before .before .before .before .before .before .before .loop .m) (now (c .before .before .before .before .before .before .before .before .loop .rest))) (c .before .before .before .before .before .before .before .before .loop .inv) (partOf (c .before .before .before .before .before .before .before .before .loop .m) (take (c .before .before .before .before .k .given .0 .0) (now (c .before .before .before .before .before .before .before .before .loop .rest)))) (todo (nextOf (c .before .before .before .before .before .before .before .before .loop .m) (take (c .before .before .before .before .k .given .0 .0) (now (c .before .before .before .before .before .before .before .before .loop .rest)))) (take (length (now (c .before .before .before .before .before .before .before .before .loop .rest)) - (c .before .before .before .before .k .given .0 .0)) (drop (c .before .before .before .before .k .given .0 .0) (now (c .before .before .before .before .before .before .before .before .loop .rest))))) (todo-next (c .before .before .before .before .before .before .before .before .loop .m) (nextOf (c .before .before .before .before .before .before .before .before .loop .m) (take (c .before .before .before .before .k .given .0 .0) (now (c .before .before .before .before .before .before .before .before .loop .rest)))) (now (c .before .before .before .before .before .before .before .before .loop .rest)) (c .before .before .before .before .k .given .0 .0) (found (c .before .before .before)) refl) (c .before .before .before .before .before .before .before .before .before .before .before .before .pre))
 
--- src/lib.rt:62:9
 add-n : tie.Need-add-n Inv-loop μ-loop
 add-n c = omega (arith, wrote-room (now (c .before .before .before .before .before .before .before .before .before .before .before .before .before .before .before .args .out)) (turnedOf (now (c .before .before .before .before .before .before .before .before .before .before .before .before .before .before .before .args .list))) (c .before .before .before .before .before .before .before .before .before .before .before .loop .out) (c .before .before .before .before .before .before .before .before .before .before .before .loop .n) (todo (c .before .before .before .before .before .before .before .before .before .before .before .loop .m) (now (c .before .before .before .before .before .before .before .before .before .before .before .loop .rest))) (c .before .before .before .before .before .before .before .before .before .before .before .loop .inv) (partOf (c .before .before .before .before .before .before .before .before .before .before .before .loop .m) (take (c .before .before .before .before .before .before .before .k .given .0 .0) (now (c .before .before .before .before .before .before .before .before .before .before .before .loop .rest)))) (todo (nextOf (c .before .before .before .before .before .before .before .before .before .before .before .loop .m) (take (c .before .before .before .before .before .before .before .k .given .0 .0) (now (c .before .before .before .before .before .before .before .before .before .before .before .loop .rest)))) (take (length (now (c .before .before .before .before .before .before .before .before .before .before .before .loop .rest)) - (c .before .before .before .before .before .before .before .k .given .0 .0)) (drop (c .before .before .before .before .before .before .before .k .given .0 .0) (now (c .before .before .before .before .before .before .before .before .before .before .before .loop .rest))))) (todo-next (c .before .before .before .before .before .before .before .before .before .before .before .loop .m) (nextOf (c .before .before .before .before .before .before .before .before .before .before .before .loop .m) (take (c .before .before .before .before .before .before .before .k .given .0 .0) (now (c .before .before .before .before .before .before .before .before .before .before .before .loop .rest)))) (now (c .before .before .before .before .before .before .before .before .before .before .before .loop .rest)) (c .before .before .before .before .before .before .before .k .given .0 .0) (found (c .before .before .before .before .before .before)) refl) (c .before .before .before .before .before .before .before .before .before .before .before .before .before .before .before .pre), c .before .before .before .before .size .ensures, c .before .before .before .before .before .before .before .before .before .before .before .loop .inv .long, c .before .before .before .before .before .before .before .before .before .before .before .before .before .before .before .good)
 
--- src/lib.rt:63:9
 next-requires : tie.Need-next-requires Inv-loop μ-loop
 next-requires c κs = omega (arith, long (c .before .before .before .before .before .before), fits (c .before .before .before .before .before .before))
 
--- src/lib.rt:64:16
 sub-rest : tie.Need-sub-rest Inv-loop μ-loop
 sub-rest c = fits (c .before .before .before .before .before .before .before) .1
 
--- src/lib.rt:64:16
 part-rest-start : tie.Need-part-rest-start Inv-loop μ-loop
 part-rest-start c = omega (arith, fits (c .before .before .before .before .before .before .before))
 
--- src/lib.rt:64:16
 part-rest-end : tie.Need-part-rest-end Inv-loop μ-loop
 part-rest-end c = search needs
 
--- src/lib.rt:55:5
 loop-less : tie.Need-loop-less Inv-loop μ-loop
 loop-less c = omega (arith, fits (c .before .before .before .before .before .before .before .before), length-drop (c .before .before .before .before .before .before .before .before .before .k .given .0 .0) (now (c .before .before .before .before .before .before .before .before .before .before .before .before .before .loop .rest)), c .before .before .before .before .before .before .before .before .before .before .before .before .loop-test .taken)
 
--- src/lib.rt:55:5
 loop-again : tie.Need-loop-again Inv-loop μ-loop
 loop-again c = rw (c .before .before .before .before .before .before .size .ensures, c .before .next .ensures) (wrote-next (now (c .before .before .before .before .before .before .before .before .before .before .before .before .before .before .before .before .before .args .out)) (turnedOf (now (c .before .before .before .before .before .before .before .before .before .before .before .before .before .before .before .before .before .args .list))) (c .before .before .before .before .before .before .before .before .before .before .before .before .before .loop .out) (c .before .before .before .before .before .before .before .before .before .before .before .before .before .loop .n) (todo (c .before .before .before .before .before .before .before .before .before .before .before .before .before .loop .m) (now (c .before .before .before .before .before .before .before .before .before .before .before .before .before .loop .rest))) (c .before .before .before .before .before .before .before .before .before .before .before .before .before .loop .inv) (partOf (c .before .before .before .before .before .before .before .before .before .before .before .before .before .loop .m) (take (c .before .before .before .before .before .before .before .before .before .k .given .0 .0) (now (c .before .before .before .before .before .before .before .before .before .before .before .before .before .loop .rest)))) (todo (nextOf (c .before .before .before .before .before .before .before .before .before .before .before .before .before .loop .m) (take (c .before .before .before .before .before .before .before .before .before .k .given .0 .0) (now (c .before .before .before .before .before .before .before .before .before .before .before .before .before .loop .rest)))) (take (length (now (c .before .before .before .before .before .before .before .before .before .before .before .before .before .loop .rest)) - (c .before .before .before .before .before .before .before .before .before .k .given .0 .0)) (drop (c .before .before .before .before .before .before .before .before .before .k .given .0 .0) (now (c .before .before .before .before .before .before .before .before .before .before .before .before .before .loop .rest))))) (todo-next (c .before .before .before .before .before .before .before .before .before .before .before .before .before .loop .m) (nextOf (c .before .before .before .before .before .before .before .before .before .before .before .before .before .loop .m) (take (c .before .before .before .before .before .before .before .before .before .k .given .0 .0) (now (c .before .before .before .before .before .before .before .before .before .before .before .before .before .loop .rest)))) (now (c .before .before .before .before .before .before .before .before .before .before .before .before .before .loop .rest)) (c .before .before .before .before .before .before .before .before .before .k .given .0 .0) (found (c .before .before .before .before .before .before .before .before)) refl) (c .before .before .before .before .before .before .before .before .before .before .before .before .before .before .before .before .before .pre) _ (c .before .before .before .before .put .ensures))
 
--- src/lib.rt:48:1
 same-length-2 : tie.Need-same-length-2 Inv-loop μ-loop
 same-length-2 c = search needs
 
--- src/lib.rt:48:1
 returns-2 : tie.Need-returns-2 Inv-loop μ-loop
 returns-2 c = wrote-end (now (c .before .before .before .before .before .args .out)) (turnedOf (now (c .before .before .before .before .before .args .list))) (c .before .loop .out) (c .before .loop .n) (todo (c .before .loop .m) (now (c .before .loop .rest))) (c .before .loop .inv) (todo-end (c .before .loop .m) (now (c .before .loop .rest)) (c .loop-test .left)) .0
 

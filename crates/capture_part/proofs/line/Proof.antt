@@ -3,26 +3,19 @@ use mathlib.Core.Path.{refl}
 use borrow.Author.Needs.{needs}
 use Rattle.capture_part.proofs.line.Statement.{statement}
 use Rattle.capture_part.proofs.line.Tie as tie
-use Rattle.capture_part.proofs.line.Reads as reads
-use Rattle.capture_part.proofs.line.Lts as lts
 
--- src/lib.rt:46:12
 array-read-t6 : tie.Need-array-read-t6
 array-read-t6 c = search needs
 
--- src/lib.rt:46:19
 array-read-t10 : tie.Need-array-read-t10
 array-read-t10 c = search needs
 
--- src/lib.rt:46:26
 shared-slice-read-t12 : tie.Need-shared-slice-read-t12
 shared-slice-read-t12 c = search needs
 
--- src/lib.rt:46:34
 shared-slice-read-t14 : tie.Need-shared-slice-read-t14
 shared-slice-read-t14 c = search needs
 
--- src/lib.rt:42:1
 returns : tie.Need-returns
 unfolding lineFor
 returns c = refl
