@@ -7,7 +7,7 @@ use lib.Dec.{eqb}
 use Rattle.text.specs.Text.{hexOf, decimalOf}
 
 -- The words of a refusal: ` cut record`, ` unknown kind`, ` wrong length for the kind`, ` no such address`, ` out of range`,
--- ` disk already there, or none there`.
+-- ` disk already there, or none there`, ` SN on this register has retired`.
 unfoldable pub wordsOf : ℕ → List ℕ
 wordsOf n =
     cond (eqb n 1) (32 ∷ 99 ∷ 117 ∷ 116 ∷ 32 ∷ 114 ∷ 101 ∷ 99 ∷ 111 ∷ 114 ∷ 100 ∷ [])
@@ -16,7 +16,8 @@ wordsOf n =
     (cond (eqb n 4) (32 ∷ 110 ∷ 111 ∷ 32 ∷ 115 ∷ 117 ∷ 99 ∷ 104 ∷ 32 ∷ 97 ∷ 100 ∷ 100 ∷ 114 ∷ 101 ∷ 115 ∷ 115 ∷ [])
     (cond (eqb n 5) (32 ∷ 111 ∷ 117 ∷ 116 ∷ 32 ∷ 111 ∷ 102 ∷ 32 ∷ 114 ∷ 97 ∷ 110 ∷ 103 ∷ 101 ∷ [])
     (cond (eqb n 8) (32 ∷ 100 ∷ 105 ∷ 115 ∷ 107 ∷ 32 ∷ 97 ∷ 108 ∷ 114 ∷ 101 ∷ 97 ∷ 100 ∷ 121 ∷ 32 ∷ 116 ∷ 104 ∷ 101 ∷ 114 ∷ 101 ∷ 44 ∷ 32 ∷ 111 ∷ 114 ∷ 32 ∷ 110 ∷ 111 ∷ 110 ∷ 101 ∷ 32 ∷ 116 ∷ 104 ∷ 101 ∷ 114 ∷ 101 ∷ [])
-    [])))))
+    (cond (eqb n 9) (32 ∷ 83 ∷ 78 ∷ 32 ∷ 111 ∷ 110 ∷ 32 ∷ 116 ∷ 104 ∷ 105 ∷ 115 ∷ 32 ∷ 114 ∷ 101 ∷ 103 ∷ 105 ∷ 115 ∷ 116 ∷ 101 ∷ 114 ∷ 32 ∷ 104 ∷ 97 ∷ 115 ∷ 32 ∷ 114 ∷ 101 ∷ 116 ∷ 105 ∷ 114 ∷ 101 ∷ 100 ∷ [])
+    []))))))
 
 -- An answer OK, `OK value FF level 0 lines 00 SEL 1`: the value read, the interrupt level, the disk lines, SEL.
 unfoldable pub okOf : ℕ → ℕ → ℕ → ℕ → List ℕ

@@ -18,6 +18,8 @@ const RANGE: [u8; 34] = *b" out of range                     ";
 
 const DISK: [u8; 34] = *b" disk already there, or none there";
 
+const RETIRED: [u8; 34] = *b" SN on this register has retired  ";
+
 // The words of a refusal: the first `size` bytes of `text`.
 struct Words {
     text: [u8; 34],
@@ -54,6 +56,10 @@ fn words_of(number: u8) -> Words
         8 => Words {
             text: DISK,
             size: 34,
+        },
+        9 => Words {
+            text: RETIRED,
+            size: 32,
         },
         _ => Words {
             text: [0; 34],

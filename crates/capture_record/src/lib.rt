@@ -22,10 +22,7 @@ pub fn is_retired(row: &[u8]) -> bool
 {
     let s = body(row);
     if kinds::is(s, b"SN") {
-        if items::refusal(kinds::decode(s)) == 0 {
-            return ranged::is_retired(row[7]);
-        }
-        return false;
+        return items::refusal(kinds::decode(s)) == 9;
     }
     false
 }

@@ -7,7 +7,7 @@ use native.Mathlib.Omega.{arith}
 use lib.ListN.{getD}
 use lib.Seq.{getD-drop}
 use lib.Dec.{eqb}
-use borrow.Author.Tests.{le-ltb, eq-eqb}
+use borrow.Author.Tests.{le-ltb}
 use Rattle.octets.specs.Octets.{le16Of}
 use Rattle.itemspec.specs.Items.{waitOf}
 use Rattle.itemspec.specs.Ranged.{lineOf}
@@ -17,7 +17,7 @@ use Rattle.capture_spec.specs.Capture.{Capture, row, end, cut, captureOf
 use Rattle.capture_spec.specs.Levels.{firstLevels, senseTo, withInternal, withExternal, driveSenseOf, nextOf}
 use Rattle.capture_spec.specs.Convert.{lineFor, diskFor, changesOf, turnedOf}
 use Rattle.capture_spec.specs.Ticks.{refusalBefore, refusalAfter, isDisk, passes, ticks}
-use Rattle.capture_spec.proofs.Records.{retired-through, line0-long}
+use Rattle.capture_spec.proofs.Records.{line0-long}
 use Rattle.capture_spec.proofs.Promises.{partRows, rowsFrom, turned-capture}
 
 -- line 0's level is 0 or 1 at every record
@@ -43,7 +43,7 @@ next-line0 m r h = go (retiredOf r) (line0Of r) refl
 
 -- the IN that is written is carried out, with the wait of the SN
 line-ticks : (m : Levels) (r : List ℕ) (e : Bool) → m .line0 ≤ 1 → passes refusalAfter e (lineFor m r) ≡ waitOf (bodyOf r)
-unfolding passes refusalAfter refusalBefore retiredOf isDisk isKind decodedOf lineOf le16Of lineFor
+unfolding passes refusalAfter isDisk isKind decodedOf lineOf le16Of lineFor
 line-ticks m r e h = simp (le-ltb 1 (m .line0) h, getD-drop 2 r 2 0, getD-drop 2 r 3 0)
 
 -- the DI that is written passes no tick, refused or not
@@ -60,11 +60,11 @@ disk-ticks m r e = none 0 (eqb (refusalAfter (diskFor m r)) 0) true e refl
 -- a valid retired SN was carried out
 retired-ticks : (r : List ℕ) (e : Bool) → isDisk r ≡ false → retiredOf r ≡ true → passes refusalBefore e r ≡ waitOf (bodyOf r)
 unfolding passes refusalBefore
-retired-ticks r e d h = simp (d, eq-eqb _ _ (retired-through r h .1))
+retired-ticks r e d h = simp (d, h)
 
 -- every other record is carried out or refused as before
 same-record : (r : List ℕ) (e f : Bool) → isDisk r ≡ false → retiredOf r ≡ false → passes refusalAfter e r ≡ passes refusalBefore f r
-unfolding passes refusalAfter
+unfolding passes refusalBefore
 same-record r e f d h = simp (d, h)
 
 -- ---- a capture

@@ -9,7 +9,6 @@ use Rattle.itemspec.specs.declared.Framed.{Framed}
 use Rattle.itemspec.specs.declared.Framed.the-variants.{Whole, Cut}
 use Rattle.itemspec.specs.Record.{frameOf}
 use Rattle.itemspec.specs.Items.{refusalOf}
-use Rattle.itemspec.specs.Ranged.{isRetired}
 use Rattle.itemspec.specs.Kinds.{isKind, decodedOf}
 
 -- A capture is its whole records, each with the two bytes of its length, up to the end or up to one refused with 1.
@@ -53,9 +52,9 @@ None p (cut l) = Unit {0}
 abbrev pub bodyOf : List ℕ → List ℕ
 bodyOf r = drop 2 r
 
--- "A valid retired SN": the decoder before W-214 lets it through, and its register is one of those that go. S is 83, N 78.
+-- "A valid retired SN": its length and ranges are right and its register is one of those that go, so "such an item is refusal 9". S is 83, N 78.
 unfoldable pub retiredOf : List ℕ → Bool
-retiredOf r = cond (isKind (bodyOf r) (83 ∷ 78 ∷ [])) (cond (eqb (refusalOf (decodedOf (bodyOf r))) 0) (isRetired (getD r 7 0)) false) false
+retiredOf r = cond (isKind (bodyOf r) (83 ∷ 78 ∷ [])) (eqb (refusalOf (decodedOf (bodyOf r))) 9) false
 
 -- A valid IN on line 0. I is 73, N 78.
 unfoldable pub line0Of : List ℕ → Bool

@@ -7,12 +7,12 @@ use Rattle.itemspec.specs.Items.{waitOf, refusalOf}
 use Rattle.itemspec.specs.Kinds.{isKind, decodedOf}
 use Rattle.capture_spec.specs.Capture.{Capture, row, end, cut, bodyOf, retiredOf}
 
--- The refusal of a record by its bytes, before W-214 and after it: "Such an item is refusal 9, checked after 5".
-unfoldable pub refusalBefore : List ℕ → ℕ
-refusalBefore r = refusalOf (decodedOf (bodyOf r))
-
+-- The refusal of a record by its bytes: after W-214, and before it, when refusal 9 was none.
 unfoldable pub refusalAfter : List ℕ → ℕ
-refusalAfter r = cond (retiredOf r) 9 (refusalBefore r)
+refusalAfter r = refusalOf (decodedOf (bodyOf r))
+
+unfoldable pub refusalBefore : List ℕ → ℕ
+refusalBefore r = cond (retiredOf r) 0 (refusalAfter r)
 
 -- Kind DI, the only one that the state may refuse, with 8. D is 68, I 73.
 unfoldable pub isDisk : List ℕ → Bool

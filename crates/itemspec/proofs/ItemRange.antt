@@ -11,7 +11,7 @@ use Rattle.octets.specs.Octets.{le32Of, Bytes}
 use Rattle.octets.proofs.Laws.{le16-width, le32-width}
 use Rattle.itemspec.specs.Addresses.{foundOf}
 use Rattle.itemspec.specs.Items.{sized, placed, waitOf, readOf, writeOf, powerOf, plainItem, plainOf, InRange, InWidth}
-use Rattle.itemspec.specs.Ranged.{upTo, lineOf, senseOf, diskOf}
+use Rattle.itemspec.specs.Ranged.{upTo, lineOf, isRetired, senseOf, diskOf}
 use Rattle.itemspec.specs.Kinds.{isKind, decodedOf}
 use Rattle.itemspec.specs.declared.Item.{Item}
 use Rattle.itemspec.specs.declared.Item.the-variants.{ReadVia, ReadIwm, WriteVia, WriteIwm}
@@ -78,7 +78,7 @@ in-range s =
     (good-sized InRange s 9 _ (good-placed InRange (le32Of s 4) (λ r. WriteVia (waitOf s) r (getD s 8 0)) (λ k. WriteIwm (waitOf s) k (getD s 8 0)) (λ r h. h) (λ k h. h)))
     (λ k. good-sized InRange s 4 _ (plain-range k (waitOf s)))
     (good-sized InRange s 6 _ (good-upTo InRange (getD s 4 0) 6 _ (λ a. good-upTo InRange (getD s 5 0) 1 _ (λ b. (omega arith, omega arith)))))
-    (good-sized InRange s 7 _ (good-upTo InRange (getD s 4 0) 1 _ (λ a. good-upTo InRange (getD s 5 0) 15 _ (λ b. good-upTo InRange (getD s 6 0) 1 _ (λ c. (omega arith, omega arith, omega arith))))))
+    (good-sized InRange s 7 _ (good-upTo InRange (getD s 4 0) 1 _ (λ a. good-upTo InRange (getD s 5 0) 15 _ (λ b. good-upTo InRange (getD s 6 0) 1 _ (λ c. good-cond InRange (isRetired (getD s 5 0)) _ _ tt (omega arith, omega arith, omega arith))))))
     (good-sized InRange s 8 _ tt)
     (good-sized InRange s 8 _
     (good-upTo InRange (getD s 4 0) 1 _ (λ a. good-upTo InRange (getD s 5 0) 1 _ (λ b. good-upTo InRange (getD s 6 0) 1 _ (λ c. good-upTo InRange (getD s 7 0) 1 _ (λ d. (omega arith, omega arith, omega arith, omega arith)))))))
@@ -101,7 +101,7 @@ in-width s bs =
     (good-sized InWidth s 9 _ (good-placed InWidth (le32Of s 4) (λ r. WriteVia (waitOf s) r (getD s 8 0)) (λ k. WriteIwm (waitOf s) k (getD s 8 0)) (λ r h. (w, bs 8)) (λ k h. (w, bs 8))))
     (λ k. good-sized InWidth s 4 _ (plain-width k (waitOf s) w))
     (good-sized InWidth s 6 _ (good-upTo InWidth (getD s 4 0) 6 _ (λ a. good-upTo InWidth (getD s 5 0) 1 _ (λ b. w))))
-    (good-sized InWidth s 7 _ (good-upTo InWidth (getD s 4 0) 1 _ (λ a. good-upTo InWidth (getD s 5 0) 15 _ (λ b. good-upTo InWidth (getD s 6 0) 1 _ (λ c. w)))))
+    (good-sized InWidth s 7 _ (good-upTo InWidth (getD s 4 0) 1 _ (λ a. good-upTo InWidth (getD s 5 0) 15 _ (λ b. good-upTo InWidth (getD s 6 0) 1 _ (λ c. good-cond InWidth (isRetired (getD s 5 0)) _ _ tt w)))))
     (good-sized InWidth s 8 _ (w, le32-width s 4 bs))
     (good-sized InWidth s 8 _
     (good-upTo InWidth (getD s 4 0) 1 _ (λ a. good-upTo InWidth (getD s 5 0) 1 _ (λ b. good-upTo InWidth (getD s 6 0) 1 _ (λ c. good-upTo InWidth (getD s 7 0) 1 _ (λ d. w))))))

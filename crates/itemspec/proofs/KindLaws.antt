@@ -1,4 +1,5 @@
--- A record of one of the kinds IN and SN is read as that kind's definition reads it, and one that is let through has that kind's length and ranges.
+-- A record of one of the kinds IN and SN is read as that kind's definition reads it; an IN that is let through, and an SN that is refused with 9, have that
+-- kind's length and ranges.
 use Prim.Native.Nat.{ℕ, _≤_}
 use mathlib.Core.Path.{_≡_, refl, sym, ap, _∙_}
 use mathlib.Core.Bool.{Bool, true, false, cond, _&&_, true≢false}
@@ -6,10 +7,11 @@ use mathlib.Core.List.{List, [], _∷_}
 use native.Mathlib.Omega.{arith}
 use lib.ListN.{length, getD}
 use lib.Dec.{ltb, eqb}
-use borrow.Author.Tests.{eqb-true, ltb-false}
+use borrow.Author.Tests.{eqb-true, ltb-false, le-ltb}
 use Rattle.itemspec.specs.Items.{refusalOf, sized, waitOf}
-use Rattle.itemspec.specs.Ranged.{upTo, lineOf, senseOf}
+use Rattle.itemspec.specs.Ranged.{upTo, lineOf, isRetired, senseOf}
 use Rattle.itemspec.specs.Kinds.{isKind, decodedOf}
+use Rattle.itemspec.specs.declared.Item.the-variants.{Sense}
 use Rattle.itemspec.specs.declared.Decoded.{Decoded}
 use Rattle.itemspec.specs.declared.Decoded.the-variants.{Done, Refused}
 
@@ -54,6 +56,25 @@ line-through s h =
     let a = upTo-through (getD s 4 0) 6 _ (l .1) in
     (l .0, upTo-through (getD s 5 0) 1 _ (a .1) .0)
 
-pub sense-through : (s : List ℕ) → refusalOf (senseOf s) ≡ 0 → length s ≡ 7
+-- an SN is refused with 9 exactly where its length and ranges are right and its register goes
+pub nine-through : (s : List ℕ) → refusalOf (senseOf s) ≡ 9
+    → (length s ≡ 7) × (getD s 4 0 ≤ 1) × (getD s 5 0 ≤ 15) × (getD s 6 0 ≤ 1) × (isRetired (getD s 5 0) ≡ true)
 unfolding senseOf
-sense-through s h = sized-through s 7 _ h .0
+nine-through s = go (eqb (length s) 7) (ltb 1 (getD s 4 0)) (ltb 15 (getD s 5 0)) (ltb 1 (getD s 6 0)) (isRetired (getD s 5 0)) refl refl refl refl
+  where
+    item : Decoded
+    item = Done (Sense (waitOf s) (getD s 4 0) (getD s 5 0) (getD s 6 0))
+
+    go : (n a b c t : Bool) → eqb (length s) 7 ≡ n → ltb 1 (getD s 4 0) ≡ a → ltb 15 (getD s 5 0) ≡ b → ltb 1 (getD s 6 0) ≡ c
+        → refusalOf (cond n (cond a (Refused 5) (cond b (Refused 5) (cond c (Refused 5) (cond t (Refused 9) item)))) (Refused 3)) ≡ 9
+        → (length s ≡ 7) × (getD s 4 0 ≤ 1) × (getD s 5 0 ≤ 15) × (getD s 6 0 ≤ 1) × (t ≡ true)
+    go true false false false true p q r u h = (eqb-true _ _ p, ltb-false _ _ q, ltb-false _ _ r, ltb-false _ _ u, refl)
+    go true false false false false p q r u h = absurd (omega arith)
+    go true false false true t p q r u h = absurd (omega arith)
+    go true false true c t p q r u h = absurd (omega arith)
+    go true true b c t p q r u h = absurd (omega arith)
+    go false a b c t p q r u h = absurd (omega arith)
+
+pub nine-where : (s : List ℕ) → length s ≡ 7 → getD s 4 0 ≤ 1 → getD s 5 0 ≤ 15 → getD s 6 0 ≤ 1 → isRetired (getD s 5 0) ≡ true → senseOf s ≡ Refused 9
+unfolding senseOf
+nine-where s n a b c t = simp (n, le-ltb 1 (getD s 4 0) a, le-ltb 15 (getD s 5 0) b, le-ltb 1 (getD s 6 0) c, t)

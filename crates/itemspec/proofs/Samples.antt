@@ -1,10 +1,10 @@
--- Document 01's samples of records and request W-203's DI, computed by the definition: a record's bytes after its length.
+-- Document 01's samples of records request W-203's DI and request W-214's refusal 9, computed by the definition: a record's bytes after its length.
 use mathlib.Core.Path.{_≡_, refl}
 use mathlib.Core.List.{[], _∷_}
 use Rattle.octets.specs.Octets.{le16Of, le32Of}
 use Rattle.itemspec.specs.Addresses.{placeFrom, foundOf}
 use Rattle.itemspec.specs.Items.{plainOf, readOf, writeOf, powerOf}
-use Rattle.itemspec.specs.Ranged.{lineOf, senseOf, diskOf}
+use Rattle.itemspec.specs.Ranged.{lineOf, isRetired, senseOf, diskOf}
 use Rattle.itemspec.specs.Kinds.{isKind, decodedOf}
 use Rattle.itemspec.specs.declared.Item.{Item}
 use Rattle.itemspec.specs.declared.Item.the-variants.{ReadVia, ReadIwm, WriteVia, Line, Sense, Power, Disk}
@@ -19,7 +19,17 @@ pub record Samples : Type 0 where
   pub write : decodedOf (87 ∷ 82 ∷ 0 ∷ 0 ∷ 254 ∷ 253 ∷ 239 ∷ 0 ∷ 129 ∷ []) ≡ Done (WriteVia 0 14 129)
   pub second : decodedOf (83 ∷ 69 ∷ 0 ∷ 0 ∷ []) ≡ Done (Item.Second 0)
   pub line : decodedOf (73 ∷ 78 ∷ 0 ∷ 0 ∷ 4 ∷ 1 ∷ []) ≡ Done (Line 0 4 1)
-  pub sense : decodedOf (83 ∷ 78 ∷ 0 ∷ 0 ∷ 1 ∷ 15 ∷ 0 ∷ []) ≡ Done (Sense 0 1 15 0)
+  pub sense : decodedOf (83 ∷ 78 ∷ 0 ∷ 0 ∷ 1 ∷ 14 ∷ 0 ∷ []) ≡ Done (Sense 0 1 14 0)
+  -- SN on registers 6, 11 and 13 stays; on 5, 12 and 15 it is 9, but 5 where the level is 2, and 3 where a byte is missing
+  pub six : decodedOf (83 ∷ 78 ∷ 2 ∷ 1 ∷ 0 ∷ 6 ∷ 1 ∷ []) ≡ Done (Sense 258 0 6 1)
+  pub eleven : decodedOf (83 ∷ 78 ∷ 0 ∷ 0 ∷ 0 ∷ 11 ∷ 1 ∷ []) ≡ Done (Sense 0 0 11 1)
+  pub thirteen : decodedOf (83 ∷ 78 ∷ 0 ∷ 0 ∷ 1 ∷ 13 ∷ 0 ∷ []) ≡ Done (Sense 0 1 13 0)
+  pub zero : decodedOf (83 ∷ 78 ∷ 0 ∷ 0 ∷ 0 ∷ 0 ∷ 1 ∷ []) ≡ Refused 9
+  pub five : decodedOf (83 ∷ 78 ∷ 0 ∷ 0 ∷ 0 ∷ 5 ∷ 1 ∷ []) ≡ Refused 9
+  pub twelve : decodedOf (83 ∷ 78 ∷ 0 ∷ 0 ∷ 1 ∷ 12 ∷ 0 ∷ []) ≡ Refused 9
+  pub fifteen : decodedOf (83 ∷ 78 ∷ 0 ∷ 0 ∷ 1 ∷ 15 ∷ 0 ∷ []) ≡ Refused 9
+  pub level : decodedOf (83 ∷ 78 ∷ 0 ∷ 0 ∷ 1 ∷ 15 ∷ 2 ∷ []) ≡ Refused 5
+  pub nineShort : decodedOf (83 ∷ 78 ∷ 0 ∷ 0 ∷ 1 ∷ 15 ∷ []) ≡ Refused 3
   -- PW with 5 seconds off
   pub power : decodedOf (80 ∷ 87 ∷ 0 ∷ 0 ∷ 5 ∷ 0 ∷ 0 ∷ 0 ∷ []) ≡ Done (Power 0 5)
   -- DI: a locked, double-sided disk into the external drive, after 258 ticks
@@ -44,7 +54,7 @@ pub record Samples : Type 0 where
   pub state : decodedOf (83 ∷ 84 ∷ 0 ∷ 0 ∷ []) ≡ Refused 2
 
 pub samples : Samples
-unfolding le16Of le32Of isKind placeFrom foundOf plainOf readOf writeOf lineOf senseOf powerOf diskOf decodedOf
+unfolding le16Of le32Of isKind placeFrom foundOf plainOf readOf writeOf lineOf isRetired senseOf powerOf diskOf decodedOf
 samples =
     record {
       read = refl;
@@ -53,6 +63,15 @@ samples =
       second = refl;
       line = refl;
       sense = refl;
+      six = refl;
+      eleven = refl;
+      thirteen = refl;
+      zero = refl;
+      five = refl;
+      twelve = refl;
+      fifteen = refl;
+      level = refl;
+      nineShort = refl;
       power = refl;
       insert = refl;
       long = refl;

@@ -60,7 +60,7 @@ samples =
 
 pub driveSamples : DriveSamples
 unfolding allLevels freshVia tickOf ticks resetOf asking levelOf acceptedVia written between stepWires next acts act shown acceptedPhase linesOff accessed lineByteOf
-    senseAt readLine wiresOf selOf watchedOf le16Of le32Of frameOf answerBytes noOf isKind placeFrom foundOf writeOf plainOf powerOf diskOf decodedOf items.readOf ranged.senseOf
+    senseAt readLine wiresOf selOf watchedOf le16Of le32Of frameOf answerBytes noOf isKind placeFrom foundOf writeOf plainOf powerOf diskOf decodedOf items.readOf ranged.isRetired ranged.senseOf
     registerWritten neighbour tickDrive driveTicks drivesSense sense.senseOf shownOf acceptedDrive tickStrobe strobeTicks heldStill unspoilt strobeAfter registerOf
     longEnough strobeWrites acceptedStrobe drivesTicks placed placeRefused drivesPowered drivesAfter drivesShown acceptedDrives
     acceptedOf waitOf iwmRead actedOf stepOf refusesOf answerOf cut piecesFrom turnOf onto onPiece runPieces runOf values
@@ -75,6 +75,7 @@ driveSamples =
       overReset = refl;
       overPower = refl;
       stored = refl;
+      retired = refl;
       shown = refl;
       drive = (refl, refl, refl);
     }

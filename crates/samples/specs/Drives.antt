@@ -27,8 +27,9 @@ pub record DriveSamples : Type 0 where
   pub motor : valuesFrom 7 1 (di 0 1 0 0 ++ ready ++ access 0 3 ++ strobe 1 ++ sense) ≡ 0 ∷ []
   pub overReset : valuesFrom 12 1 (di 0 1 0 0 ++ ready ++ access 0 3 ++ strobe 1 ++ rs ++ ready ++ access 0 3 ++ sense) ≡ 0 ∷ []
   pub overPower : valuesFrom 12 4 (di 0 1 0 0 ++ ready ++ access 0 3 ++ strobe 1 ++ pw ++ ready ++ access 0 3 ++ sense ++ wr 0 3 0 ++ access 0 2 ++ sense) ≡ 128 ∷ 0 ∷ 0 ∷ 0 ∷ []
-  -- SN on a register of the drive does not show (2), on another it does (6).
+  -- SN on a register of the drive is 9 and does not show (2), on another it does (6); 5 comes before 9.
   pub stored : valuesFrom 6 1 (sn 0 2 0 ++ sn 0 6 0 ++ ready ++ access 0 1 ++ sense) ≡ 128 ∷ []
+  pub retired : valuesFrom 0 5 (sn 0 2 0 ++ sn 0 6 0 ++ sn 1 15 2 ++ sn 1 15 1 ++ sn 1 12 0) ≡ 9 ∷ 0 ∷ 5 ∷ 9 ∷ 9 ∷ []
   pub shown : valuesFrom 7 1 (sn 0 2 0 ++ sn 0 6 0 ++ ready ++ access 0 1 ++ access 0 3 ++ sense) ≡ 0 ∷ []
   -- A locked, double-sided disk in the external drive.
   pub drive : (after (di 1 1 1 1) .drives .external .locked ≡ true) × (after (di 1 1 1 1) .drives .external .sides ≡ true) × (after (di 1 1 1 1) .drives .internal .disk ≡ false)

@@ -33,9 +33,14 @@ returns-6 c = (sym (ap wordsOf (c .match .keys6)), (omega arith, refl))
 
 returns-7 : tie.Need-returns-7
 unfolding wordsOf
-returns-7 c =
+returns-7 c = (sym (ap wordsOf (c .match .keys7)), (omega arith, refl))
+
+returns-8 : tie.Need-returns-8
+unfolding wordsOf
+returns-8 c =
     let m = c .match .rest in (
       sym (rw (
+        ne-eqb _ _ (m .0 .0 .0 .0 .0 .0 .1),
         ne-eqb _ _ (m .0 .0 .0 .0 .0 .1),
         ne-eqb _ _ (m .0 .0 .0 .0 .1),
         ne-eqb _ _ (m .0 .0 .0 .1),
@@ -48,4 +53,5 @@ returns-7 c =
 
 pub words-of-spec : {M : Type 1} → statement M
 words-of-spec =
-    tie.close (tie.spec returns returns-2 returns-3 returns-4 returns-5 returns-6 returns-7)
+    tie.close
+    (tie.spec returns returns-2 returns-3 returns-4 returns-5 returns-6 returns-7 returns-8)

@@ -1,15 +1,9 @@
-use Rattle.itemspec.specs.Kinds.{isKind, decodedOf}
-use Rattle.itemspec.specs.Items.{refusalOf}
-use mathlib.Core.List.{List, [], _∷_}
-use Prim.Native.Nat.{ℕ}
-use Rattle.capture_spec.proofs.Records.{sense-long}
 use denote.Ref.{now}
 use lib.ListN.{length, length-drop}
-use mathlib.Core.Path.{sym, ap, _∙_}
+use mathlib.Core.Path.{ap}
 use native.Mathlib.Omega.{arith}
 use borrow.Author.Needs.{needs}
 use Rattle.capture_spec.specs.Capture.{retiredOf}
-use borrow.Author.Tests.{eq-eqb, ne-eqb}
 use Rattle.capture_record.proofs.is_retired.Statement.{statement}
 use Rattle.capture_record.proofs.is_retired.Tie as tie
 
@@ -25,34 +19,15 @@ decode-requires c κs = omega (arith, ap length (c .before .before .before .body
 refusal-requires : tie.Need-refusal-requires
 refusal-requires c κs = search needs
 
-shared-slice-read-is-retired : tie.Need-shared-slice-read-is-retired
-shared-slice-read-is-retired c = let r = now (c .before .before .before .before .before .before .before .before .before .args .row) in let e = c .before .before .before .before .before .before .before .body .ensures in omega (arith, sense-long r (ap (λ (s : List ℕ). isKind s (83 ∷ 78 ∷ [])) (sym e) ∙ sym (c .before .before .before .before .before .is .ensures) ∙ c .before .before .before .before .if1 .taken) (ap (λ (s : List ℕ). refusalOf (decodedOf s)) (sym e) ∙ ap refusalOf (sym (c .before .before .before .decode .ensures)) ∙ sym (c .before .before .refusal .ensures) ∙ c .before .if2 .taken))
-
-is-retired-requires : tie.Need-is-retired-requires
-is-retired-requires c κs = search needs
-
 returns : tie.Need-returns
 unfolding retiredOf
-returns c = simp (← c .before .before .before .before .before .before .before .before .body .ensures, ← c .before .before .before .before .before .before .is .ensures, c .before .before .before .before .before .if1 .taken, ← c .before .before .before .before .decode .ensures, ← c .before .before .before .refusal .ensures, eq-eqb _ _ (c .before .before .if2 .taken), ← c .is-retired .ensures)
+returns c = simp (← c .before .before .before .before .before .body .ensures, ← c .before .before .before .is .ensures, c .before .before .if1 .taken, ← c .before .decode .ensures, ← c .refusal .ensures)
 
 returns-2 : tie.Need-returns-2
 unfolding retiredOf
-returns-2 c = simp (← c .before .before .before .before .before .before .body .ensures, ← c .before .before .before .before .is .ensures, c .before .before .before .if1 .taken, ← c .before .before .decode .ensures, ← c .before .refusal .ensures, ne-eqb _ _ (c .if2 .left))
-
-returns-3 : tie.Need-returns-3
-unfolding retiredOf
-returns-3 c = simp (← c .before .before .before .body .ensures, ← c .before .is .ensures, c .if1 .left)
+returns-2 c = simp (← c .before .before .before .body .ensures, ← c .before .is .ensures, c .if1 .left)
 
 pub is-retired-spec : {M : Type 1} → statement M
 is-retired-spec =
     tie.close
-    (tie.spec
-    body-requires
-    is-requires
-    decode-requires
-    refusal-requires
-    shared-slice-read-is-retired
-    is-retired-requires
-    returns
-    returns-2
-    returns-3)
+    (tie.spec body-requires is-requires decode-requires refusal-requires returns returns-2)
