@@ -177,6 +177,14 @@ fn on_the_command_line() {
     assert!(said.ends_with("stopped at byte 24 of 27: a record is cut there\n"), "{said}");
     assert_eq!(fs::read(new).expect("written"), convert(&whole).0);
 
+    // A byte more than it takes; NEW stays as it is.
+    fs::File::create(old).and_then(|file| file.set_len((1 << 28) + 1)).expect("a long file");
+    let done = command(&["convert", old, "-o", new]);
+    assert_eq!(done.status.code(), Some(64));
+    let said = String::from_utf8(done.stderr).expect("text");
+    assert!(said.contains("more than 268435456 bytes"), "{said}");
+    assert_eq!(fs::read(new).expect("written"), convert(&whole).0);
+
     assert_eq!(command(&["convert", old]).status.code(), Some(64));
     assert_eq!(command(&["convert", "-o", new]).status.code(), Some(64));
     fs::remove_dir_all(&folder).expect("removed");

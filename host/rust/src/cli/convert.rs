@@ -13,16 +13,25 @@ const SENSE_LEN: usize = 9;
 const LINE_LEN: usize = 8;
 const DISK_LEN: usize = 10;
 
+/// The old capture, whole.
+fn capture(name: &str) -> Result<Vec<u8>, Failure> {
+    let mut bytes = Vec::new();
+    let mut long = source::length(name).is_some_and(|length| length > CAPTURE_MAX);
+    if !long {
+        let mut from = source::bytes(name)?.take(CAPTURE_MAX + 1);
+        from.read_to_end(&mut bytes).map_err(|error| failure(name, error))?;
+        long = bytes.len() as u64 > CAPTURE_MAX;
+    }
+    if long {
+        return Err(Failure::Usage(format!("{} has more than {CAPTURE_MAX} bytes", shown(name))));
+    }
+    Ok(bytes)
+}
+
 /// Writes the new capture whole, or nothing; gives the exit status: 0, or 1 where a cut record ended
 /// the work.
 pub fn run(old: &str, new: &str) -> Result<u8, Failure> {
-    let mut bytes = Vec::new();
-    let mut from = source::bytes(old)?.take(CAPTURE_MAX + 1);
-    from.read_to_end(&mut bytes).map_err(|error| failure(old, error))?;
-    if bytes.len() as u64 > CAPTURE_MAX {
-        let name = shown(old);
-        return Err(Failure::Usage(format!("{name} has more than {CAPTURE_MAX} bytes")));
-    }
+    let bytes = capture(old)?;
     let (out, end) = convert(&bytes);
     let mut to = Out::bytes(new)?;
     to.put(&out)?;
