@@ -33,7 +33,7 @@ pub record Samples : Type 0 where
   -- IN: line, level
   pub line : decodedOf (0x49 ∷ 0x4e ∷ 1 ∷ 2 ∷ 6 ∷ 1 ∷ []) ≡ Done (Line 513 6 1)
   -- SN: drive, register, level
-  pub sense : decodedOf (0x53 ∷ 0x4e ∷ 1 ∷ 2 ∷ 1 ∷ 15 ∷ 0 ∷ []) ≡ Done (Sense 513 1 15 0)
+  pub sense : decodedOf (0x53 ∷ 0x4e ∷ 1 ∷ 2 ∷ 1 ∷ 14 ∷ 0 ∷ []) ≡ Done (Sense 513 1 14 0)
   -- PW: $07060504 seconds off
   pub power : decodedOf (0x50 ∷ 0x57 ∷ 1 ∷ 2 ∷ 4 ∷ 5 ∷ 6 ∷ 7 ∷ []) ≡ Done (Power 513 0x07060504)
   -- DI: drive, insert, locked, double-sided
@@ -59,7 +59,10 @@ pub record Samples : Type 0 where
   -- 5: IN lines 6 and 7, level 2
   pub lineRange : numbers ((0x49 ∷ 0x4e ∷ 0 ∷ 0 ∷ 6 ∷ 0 ∷ []) ∷ (0x49 ∷ 0x4e ∷ 0 ∷ 0 ∷ 7 ∷ 0 ∷ []) ∷ (0x49 ∷ 0x4e ∷ 0 ∷ 0 ∷ 0 ∷ 2 ∷ []) ∷ []) ≡ 0 ∷ 5 ∷ 5 ∷ []
   -- SN drive 2, register 16, level 2
-  pub senseRange : numbers ((0x53 ∷ 0x4e ∷ 0 ∷ 0 ∷ 1 ∷ 15 ∷ 1 ∷ []) ∷ (0x53 ∷ 0x4e ∷ 0 ∷ 0 ∷ 2 ∷ 0 ∷ 0 ∷ []) ∷ (0x53 ∷ 0x4e ∷ 0 ∷ 0 ∷ 0 ∷ 16 ∷ 0 ∷ []) ∷ (0x53 ∷ 0x4e ∷ 0 ∷ 0 ∷ 0 ∷ 0 ∷ 2 ∷ []) ∷ []) ≡ 0 ∷ 5 ∷ 5 ∷ 5 ∷ []
+  pub senseRange : numbers ((0x53 ∷ 0x4e ∷ 0 ∷ 0 ∷ 1 ∷ 14 ∷ 1 ∷ []) ∷ (0x53 ∷ 0x4e ∷ 0 ∷ 0 ∷ 2 ∷ 0 ∷ 0 ∷ []) ∷ (0x53 ∷ 0x4e ∷ 0 ∷ 0 ∷ 0 ∷ 16 ∷ 0 ∷ []) ∷ (0x53 ∷ 0x4e ∷ 0 ∷ 0 ∷ 0 ∷ 0 ∷ 2 ∷ []) ∷ []) ≡ 0 ∷ 5 ∷ 5 ∷ 5 ∷ []
+  -- W-214: SN on registers 0, 5, 12 and 15 is 9, on 6, 11 and 13 it stays; on 15 with level 2 it is 5, with a byte missing 3
+  pub retired : numbers ((0x53 ∷ 0x4e ∷ 0 ∷ 0 ∷ 0 ∷ 0 ∷ 1 ∷ []) ∷ (0x53 ∷ 0x4e ∷ 0 ∷ 0 ∷ 0 ∷ 5 ∷ 1 ∷ []) ∷ (0x53 ∷ 0x4e ∷ 0 ∷ 0 ∷ 0 ∷ 6 ∷ 1 ∷ []) ∷ (0x53 ∷ 0x4e ∷ 0 ∷ 0 ∷ 0 ∷ 11 ∷ 1 ∷ []) ∷ (0x53 ∷ 0x4e ∷ 0 ∷ 0 ∷ 1 ∷ 12 ∷ 0 ∷ []) ∷ (0x53 ∷ 0x4e ∷ 0 ∷ 0 ∷ 1 ∷ 13 ∷ 0 ∷ []) ∷ (0x53 ∷ 0x4e ∷ 0 ∷ 0 ∷ 1 ∷ 15 ∷ 0 ∷ []) ∷ (0x53 ∷ 0x4e ∷ 0 ∷ 0 ∷ 1 ∷ 15 ∷ 2 ∷ []) ∷ (0x53 ∷ 0x4e ∷ 0 ∷ 0 ∷ 1 ∷ 15 ∷ []) ∷ [])
+      ≡ 9 ∷ 9 ∷ 0 ∷ 0 ∷ 9 ∷ 0 ∷ 9 ∷ 5 ∷ 3 ∷ []
   -- DI with 2 at each place, in a removal too
   pub diskRange : numbers ((0x44 ∷ 0x49 ∷ 0 ∷ 0 ∷ 1 ∷ 1 ∷ 1 ∷ 1 ∷ []) ∷ (0x44 ∷ 0x49 ∷ 0 ∷ 0 ∷ 2 ∷ 0 ∷ 0 ∷ 0 ∷ []) ∷ (0x44 ∷ 0x49 ∷ 0 ∷ 0 ∷ 0 ∷ 2 ∷ 0 ∷ 0 ∷ []) ∷ (0x44 ∷ 0x49 ∷ 0 ∷ 0 ∷ 0 ∷ 0 ∷ 2 ∷ 0 ∷ []) ∷ (0x44 ∷ 0x49 ∷ 0 ∷ 0 ∷ 0 ∷ 0 ∷ 0 ∷ 2 ∷ []) ∷ [])
       ≡ 0 ∷ 5 ∷ 5 ∷ 5 ∷ 5 ∷ []

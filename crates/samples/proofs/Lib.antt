@@ -5,3 +5,4 @@ pub mod Senses
 pub mod Clock
 pub mod Strobes
 pub mod States
+pub mod Retired

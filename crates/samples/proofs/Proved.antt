@@ -60,7 +60,7 @@ samples =
 
 pub driveSamples : DriveSamples
 unfolding allLevels freshVia tickOf ticks resetOf asking levelOf acceptedVia viaWritten between stepWires next acts act shownLevel acceptedPhase linesOff withLevel afterAccess
-    senseAt readLine wiresOf selOf watchedOf le16Of le32Of frameOf answerBytes noOf isKind placeFrom foundOf writeRecord plainRecord powerRecord diskRecord decodedOf items.readRecord ranged.senseRecord
+    senseAt readLine wiresOf selOf watchedOf le16Of le32Of frameOf answerBytes noOf isKind placeFrom foundOf writeRecord plainRecord powerRecord diskRecord decodedOf items.readRecord ranged.isRetired ranged.senseRecord
     registerWritten neighbour tickDrive driveTicks isDriveSense sense.driveSense senseShown acceptedDrive tickStrobe strobeTicks heldStill unspoilt strobeAfter registerOf
     longEnough strobeWrites acceptedStrobe drivesTicks drivesDiskMoved placeRefused drivesPowered drivesAfter drivesShown acceptedDrives
     acceptedOf itemWait iwmRead actedOf stepOf refusesOf answerOf cut piecesFrom turnOf onto onPiece runPieces runOf values

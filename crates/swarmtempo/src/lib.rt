@@ -5,6 +5,7 @@ ghost use mathlib.Core.Bool.{true};
 ghost use Rattle.image_spec.specs.Image.{imageLength, machineOf, validImage};
 ghost use Rattle.demand3.specs.Runs.{Run3};
 ghost use Rattle.units.specs.Units.{ticksOf};
+ghost use Rattle.capture_spec.specs.Convert.{convertedOf, outputOf};
 ghost use Rattle.entry_spec.specs.Call.{callOf, callImage, callAnswers, freshStop, freshImage};
 ghost use Rattle.sheet_spec.specs.Lookup.{sourceOf, placeOf, refusalOf, sheetNumber};
 ghost use Rattle.sheet_spec.specs.Compaction.{compactedOf, memoryOf, stopOf, writtenOf};
@@ -102,4 +103,24 @@ pub extern "C" fn swarmtempo_sheet_compact(sheet: &[u8], out: &mut [u8], written
     ensures { λ _. ⌜ now (out .exit) ≡ memoryOf (now (sheet .entry)) (now (out .entry)) ⌝ }
 {
     sheet_entry::compact(sheet, out, written)
+}
+
+// Turns an old capture over into `out`. 0; 1 where a record refused with 1 ended the work, what comes before it being written; 6 where the room is too
+// small, and then nothing is written and both numbers are 0. `count` is the number of retired SN items replaced with no DI after them.
+#[no_mangle]
+pub extern "C" fn swarmtempo_convert(
+    list: &[u8],
+    out: &mut [u8],
+    written: &mut u64,
+    count: &mut u64,
+) -> u8
+    ensures { λ r. ⌜ r ≡ convertedOf (now (list .entry)) (length (now (out .entry))) .refusal ⌝ }
+    ensures { λ _. ⌜ now (written .exit) ≡ convertedOf (now (list .entry)) (length (now (out .entry))) .written ⌝ }
+    ensures { λ _. ⌜ now (count .exit) ≡ convertedOf (now (list .entry)) (length (now (out .entry))) .count ⌝ }
+    ensures { λ _. ⌜ now (out .exit) ≡ outputOf (now (list .entry)) (now (out .entry)) ⌝ }
+{
+    let r = capture::convert(list, out);
+    *written = r.written as u64;
+    *count = r.count as u64;
+    r.refusal
 }

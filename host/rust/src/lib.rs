@@ -29,6 +29,7 @@
 mod answer;
 mod chunks;
 mod command;
+mod convert;
 mod item;
 mod keyboard;
 mod machine;
@@ -41,6 +42,7 @@ pub mod text;
 pub use answer::{answers, Answer, Lines, Refusal, Seen, ANSWER_LEN};
 pub use chunks::{pieces, Chunks, Piece, Pieces, CHUNK_LEN};
 pub use command::{Command, Target};
+pub use convert::{convert, convert_in, Conversion};
 pub use item::{
     Address, DiskLine, Drive, InLine, Item, List, Micros, Register, Seconds, SenseRegister,
     TickCount, ViaTicks, TICKS_PER_SECOND,

@@ -16,6 +16,14 @@ extern "C" {
     fn swarmtempo_image_len() -> u64;
     fn swarmtempo_ticks_of_micros(micros: u32) -> u32;
     fn swarmtempo_fresh(image: *mut c_uchar, image_len: usize) -> u8;
+    fn swarmtempo_convert(
+        list: *const c_uchar,
+        list_len: usize,
+        out: *mut c_uchar,
+        out_len: usize,
+        written: *mut u64,
+        count: *mut u64,
+    ) -> u8;
 }
 
 /// The stop number, the bytes consumed and the bytes written.
@@ -183,4 +191,19 @@ pub fn keyboard_wait(image: &mut [u8], ticks: u32) -> (u8, Option<u8>) {
         swarmtempo_keyboard_wait(image.as_mut_ptr(), image.len(), ticks, &mut answered, &mut answer)
     };
     (refusal, (answered != 0).then_some(answer))
+/// The refusal number, the bytes written and the count.
+pub fn convert(list: &[u8], out: &mut [u8]) -> (u8, usize, usize) {
+    let (mut written, mut count) = (0, 0);
+    // SAFETY: two slices and two numbers that live through the call and do not overlap.
+    let refusal = unsafe {
+        swarmtempo_convert(
+            list.as_ptr(),
+            list.len(),
+            out.as_mut_ptr(),
+            out.len(),
+            &mut written,
+            &mut count,
+        )
+    };
+    (refusal, written as usize, count as usize)
 }

@@ -182,6 +182,8 @@ impl<'a> Run<'a> {
         }
     }
 
+    // A function of its own, so that its instructions can be counted.
+    #[inline(never)]
     fn model(&mut self) {
         let mut image = Machine::fresh().image().to_vec();
         let room = self.answers.len() / (self.list.len() / self.call);
@@ -289,7 +291,7 @@ pub fn instructions(records: usize) -> Result<(), Failure> {
     let mut ratios = Vec::new();
     for (name, _) in lists(1) {
         let library = counted("library", "swarmtempo_run", name, records)?;
-        let model = counted("model", "*run_image*", name, records)?;
+        let model = counted("model", "*Run*model*", name, records)?;
         print(&format!("{name:<18} {library:>9.0} {model:>11.0} {:>7.2}\n", library / model))?;
         ratios.push((name, library / model));
     }

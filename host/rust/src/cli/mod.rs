@@ -1,6 +1,7 @@
 //! Commands, their words, and what they exit with.
 
 mod bench;
+mod convert;
 mod files;
 mod keyboard;
 mod run;
@@ -27,6 +28,8 @@ swarmtempo: lists and state images of the board
       Shows a table of answers, unless --answers takes them as bytes or --quiet is given.
       --save takes the image reached, --vcd the wires and lines over time as a Value Change Dump.
       --room gives the answers so many bytes in all; without it they have all they need.
+  swarmtempo convert OLD -o NEW       a capture made before SN on a drive's own registers retired, turned
+                                      over; at most 268,435,456 bytes
   swarmtempo image FILE               a state image in words
   swarmtempo keyboard [TEXT] [--model BYTE | --image IN] [--save OUT]
       runs events on a keyboard and shows its answers: 0t COMMAND $10, 100t KEY $33, 195840t alone.
@@ -46,10 +49,10 @@ A file named - is standard input or output; asm and disasm take them where no fi
 Time is in VIA ticks, 783,360 a second. In text a wait ends in t (ticks), a time off in s (seconds):
 
   12t WR VIA.ORB $41     0t RD $EFE1FE     0t VB     0t SE     0t RS
-  0t IN 3 1              0t SN internal 1 0          0t DI internal 1 0 1
+  0t IN 3 1              0t SN internal 6 0          0t DI internal 1 0 1
   0t PW 5s               RAW 05 00                   ; comment
 
-Exit status of run: 0 at the end of the list, 1 a record is cut, 6 no room for an answer, 7 the
+Exit status of run and convert: 0 at the end of the list, 1 a record is cut, 6 no room for an answer, 7 the
 image is none of an accepted state. Of all: 64 wrong words, 65 an error in a text, 74 a file
 cannot be read or written.
 ";
@@ -203,6 +206,11 @@ fn command(mut words: Vec<String>) -> Result<u8, Failure> {
             room: words.number("--room")?,
             list: words.file()?.ok_or_else(|| Failure::Usage("a list is missing".into()))?,
         }),
+        "convert" => {
+            let missing = |what: &str| Failure::Usage(format!("{what} is missing"));
+            let new = words.value("-o")?.ok_or_else(|| missing("-o NEW"))?;
+            convert::run(&words.file()?.ok_or_else(|| missing("a capture"))?, &new)
+        }
         "image" => {
             let name = words.file()?.ok_or_else(|| Failure::Usage("a file is missing".into()))?;
             let machine = source::image(&name)?;
