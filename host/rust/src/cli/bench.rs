@@ -1,13 +1,18 @@
 //! How fast runs are, beside a plain model of the same board.
 
+use super::failure::Failure;
 use super::files::print;
-use super::Failure;
 use std::time::{Duration, Instant};
 use swarmtempo::{
     Address, DiskLine, Drive, InLine, Item, List, Machine, Register, Seconds, SenseRegister,
     ViaTicks, ANSWER_LEN,
 };
 use swarmtempo_model::run_image;
+
+const HEAD: &str = "\
+                                 library: records  library: nanoseconds  model: nanoseconds         
+list                                     a second              a record             a record   ratio
+";
 
 /// Each list is run so many times, and the quickest counts.
 const ROUNDS: usize = 9;
@@ -67,11 +72,11 @@ fn lists(records: usize) -> Vec<(&'static str, List)> {
         refused.push_raw(&[5, 0, b'S', b'E', 0, 0, 0]);
     });
     vec![
-        ("VIA reads, wait 1t", list(records, 1, &reads)),
-        ("clock writes, wait 0t", list(records, 0, &clock)),
-        ("timers, wait 65535t", list(records, 65_535, &timers)),
-        ("disk lines, wait 2t", list(records, 2, &disk)),
-        ("all kinds, wait 10t", list(records, 10, &mixed)),
+        ("VIA reads, wait 1 VIA tick", list(records, 1, &reads)),
+        ("clock writes, wait 0 VIA ticks", list(records, 0, &clock)),
+        ("timers, wait 65535 VIA ticks", list(records, 65_535, &timers)),
+        ("disk lines, wait 2 VIA ticks", list(records, 2, &disk)),
+        ("all kinds, wait 10 VIA ticks", list(records, 10, &mixed)),
         ("refused records", refused),
     ]
 }
@@ -89,7 +94,7 @@ fn best(mut run: impl FnMut()) -> Duration {
 /// Prints a row for each kind of list.
 pub fn bench(records: usize) -> Result<(), Failure> {
     print(&format!("{records} records a list, one run each, the best of {ROUNDS} rounds\n"))?;
-    print("list                     library: records/s   ns/record   model: ns/record   ratio\n")?;
+    print(HEAD)?;
     let mut answers = vec![0; ANSWER_LEN * records];
     let mut other = vec![0; ANSWER_LEN * records];
     for (name, list) in lists(records) {
@@ -105,7 +110,7 @@ pub fn bench(records: usize) -> Result<(), Failure> {
         assert_eq!(answers, other, "library and model differ on {name}");
         let ns = |time: Duration| time.as_secs_f64() * 1e9 / records as f64;
         print(&format!(
-            "{name:<24} {:>19.0} {:>11.1} {:>18.1} {:>7.2}\n",
+            "{name:<32} {:>17.0} {:>21.1} {:>21.1} {:>7.2}\n",
             1e9 / ns(library),
             ns(library),
             ns(model),

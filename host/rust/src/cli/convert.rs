@@ -1,0 +1,93 @@
+//! `swarmtempo asm` and `disasm`: text to records, and back.
+
+use super::conflicts::Uses;
+use super::contents;
+use super::failure::Failure;
+use super::files::{self, say, Out};
+use super::lines::{list_failure, Lines};
+use super::place::{Input, Output};
+use super::source;
+use super::summary::converted;
+use super::words::Given;
+use std::io::Read;
+use swarmtempo::{pieces, text, Chunks, Piece};
+
+/// What is read and what is written.
+fn ends(command: &'static str, word: &str, given: &Given) -> Result<(Input, Output), Failure> {
+    let input = given.operand()?.map_or(Input::standard(), Input::of);
+    let output = given.value("-o").map_or(Output::standard(), Output::of);
+    Uses::of(command).reads(word, &input).writes("-o", &output).check()?;
+    Ok((input, output))
+}
+
+/// Text to records. Nothing is written where a line is wrong.
+pub fn asm(given: &Given) -> Result<u8, Failure> {
+    let (from, to) = ends("asm", "TEXT", given)?;
+    let file = source::open(&from)?;
+    let mut out = Out::bytes(&to)?;
+    let mut lines = Lines::new(&from, file)?;
+    if out.can_take_back() {
+        pour(&mut lines, &from, |bytes| out.put(bytes))?;
+    } else if source::length(&from).is_some() {
+        // Looked through first, then written.
+        pour(&mut lines, &from, |_| Ok(()))?;
+        lines = Lines::new(&from, source::open(&from)?)?;
+        pour(&mut lines, &from, |bytes| out.put(bytes))?;
+    } else {
+        let mut all = Vec::new();
+        pour(&mut lines, &from, |bytes| {
+            all.extend_from_slice(bytes);
+            Ok(())
+        })?;
+        out.put(&all)?;
+    }
+    files::keep([out])?;
+    if let Some((line, first)) = lines.converted().first {
+        say(&format!("{from}: {}", converted(lines.converted().count, line, first)));
+    }
+    Ok(0)
+}
+
+/// All records of a text.
+fn pour(
+    lines: &mut Lines,
+    from: &Input,
+    mut take: impl FnMut(&[u8]) -> Result<(), Failure>,
+) -> Result<(), Failure> {
+    let mut buffer = vec![0; 1 << 16];
+    loop {
+        match lines.read(&mut buffer).map_err(|error| list_failure(from, error))? {
+            0 => return Ok(()),
+            count => take(&buffer[..count])?,
+        }
+    }
+}
+
+/// Records to text.
+pub fn disasm(given: &Given) -> Result<u8, Failure> {
+    let (from, to) = ends("disasm", "LIST", given)?;
+    let file = source::open(&from)?;
+    let mut out = Out::text(&to)?;
+    let list = if given.flag("--records") {
+        contents::sample(&from, file)?.1
+    } else {
+        contents::records(&from, file, "; asm makes records of a text")?
+    };
+    let mut chunks = Chunks::new(list);
+    let mut lines = String::new();
+    loop {
+        let was_broken = chunks.broken();
+        let Some(chunk) = chunks.next().map_err(|error| list_failure(&from, error))? else {
+            break;
+        };
+        lines.clear();
+        if was_broken {
+            text::raw(chunk, "", &mut lines);
+        } else {
+            pieces(chunk).for_each(|part: Piece| text::piece(part, &mut lines));
+        }
+        out.put(lines.as_bytes())?;
+    }
+    files::keep([out])?;
+    Ok(0)
+}
