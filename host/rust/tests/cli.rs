@@ -4,7 +4,8 @@ mod common;
 
 use common::{feed, program, status, stderr, stdout, Folder, PROGRAM};
 use std::collections::HashMap;
-use std::process::Command;
+use std::io::Write;
+use std::process::{Command, Stdio};
 use swarmtempo::{
     answers, pieces, Address, Answer, Item, List, Machine, Piece, Refusal, Register, State,
     ViaTicks,
@@ -150,17 +151,27 @@ fn long_lists_equal_one_run() {
     assert!(short.stdout[..] == expected[..expected.len() - 24]);
 }
 
+/// 100 MB, as records and as text, in 32 MB of address space.
 #[test]
 fn runs_in_fixed_memory() {
-    let record = [4, 0, b'S', b'E', 1, 0];
-    let input = record.repeat(8_000_000);
-    let script = "ulimit -v 32768; exec \"$0\" run - --answers /dev/null --save \"$1\"";
     let folder = Folder::new("memory");
-    let image = folder.path("image");
-    let output = feed(Command::new("sh").args(["-c", script, PROGRAM, &image]), &input);
-    assert_eq!(status(&output), 0, "{}", stderr(&output));
-    let machine = Machine::from_image(&folder.get("image")).expect("accepted");
-    assert_eq!(machine.state().seconds.0, 8_000_000);
+    let script = "ulimit -v 32768; exec \"$0\" run - $1 --answers /dev/null --save image";
+    let (record, line) = ([4, 0, b'S', b'E', 1, 0], b"1t SE ; a one-second tick, 1 VIA tick on\n");
+    for (option, part) in [("", &record[..]), ("--text", line)] {
+        let rounds = 100_000_000 / (part.len() * 10_000);
+        let mut command = Command::new("sh");
+        command.args(["-c", script, PROGRAM, option]).current_dir(&folder.0);
+        let command = command.stdin(Stdio::piped()).stderr(Stdio::piped());
+        let mut child = command.spawn().expect("started");
+        let mut list = child.stdin.take().expect("piped");
+        let many = part.repeat(10_000);
+        (0..rounds).for_each(|_| list.write_all(&many).expect("taken"));
+        drop(list);
+        let output = child.wait_with_output().expect("ended");
+        assert_eq!(status(&output), 0, "{option}: {}", stderr(&output));
+        let machine = Machine::from_image(&folder.get("image")).expect("accepted");
+        assert_eq!(machine.state().seconds.0, 10_000 * rounds as u32);
+    }
 }
 
 #[test]

@@ -4,6 +4,7 @@ use super::draft::{folder_of, Target};
 use super::failure::Failure;
 use super::place::{Input, Output};
 use std::ffi::OsString;
+use std::fmt;
 use std::fs::{self, File, Metadata};
 use std::io;
 use std::os::fd::AsFd;
@@ -76,16 +77,15 @@ impl Uses {
         });
         let inputs = pairs(&self.inputs).find(|(a, b)| a.standard && b.standard);
         let what = if let Some((a, b)) = over {
-            let why = "what is read is not written over";
-            format!("{} and {} are one file, {}: {why}", a.word, b.word, a.shown)
+            format!("{a} and {b} are one file: what is read is not written over")
         } else if let Some((a, b)) = outputs {
             if a.standard && b.standard {
-                format!("{} and {} both go to standard output: name a file for one", a.word, b.word)
+                format!("{a} and {b} both go to standard output: name a file for one")
             } else {
-                format!("{} and {} are one file, {}: name two", a.word, b.word, b.shown)
+                format!("{a} and {b} are one file: name two")
             }
         } else if let Some((a, b)) = inputs {
-            format!("{} and {} both come from standard input: name a file for one", a.word, b.word)
+            format!("{a} and {b} both come from standard input: name a file for one")
         } else {
             return Ok(());
         };
@@ -96,6 +96,17 @@ impl Uses {
 /// Every two of them, the earlier one first.
 fn pairs(all: &[Named]) -> impl Iterator<Item = (&Named, &Named)> {
     all.iter().enumerate().flat_map(|(i, b)| all[..i].iter().map(move |a| (a, b)))
+}
+
+/// The word, and what it names where that says more.
+impl fmt::Display for Named {
+    fn fmt(&self, f: &mut fmt::Formatter<'_>) -> fmt::Result {
+        f.write_str(&self.word)?;
+        if self.standard {
+            return Ok(());
+        }
+        write!(f, " {}", self.shown)
+    }
 }
 
 impl Named {

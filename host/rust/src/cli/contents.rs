@@ -47,14 +47,14 @@ pub fn sample(input: &Input, mut file: Box<dyn Read>) -> Result<(Looks, Sampled)
     Ok((looks(&first), Cursor::new(first).chain(file)))
 }
 
-/// Records, or why these bytes are none.
+/// Records, or why these bytes are none; `advice` is what to do with a text.
 pub fn records(input: &Input, file: Box<dyn Read>, advice: &str) -> Result<Sampled, Failure> {
     let (looks, file) = sample(input, file)?;
     let what = match looks {
         Looks::Bytes => return Ok(file),
-        Looks::Text => "a text, not records",
-        Looks::Utf16 => "a text in UTF-16, not records; save it as UTF-8",
-        Looks::Image => "a state image, not records",
+        Looks::Text => format!("a text, not records; {advice}"),
+        Looks::Utf16 => format!("a text in UTF-16, not records; save it as UTF-8, and {advice}"),
+        Looks::Image => "a state image, not records; run takes it by --image".to_string(),
     };
-    Err(Failure::Content(input.to_string(), format!("{what}{advice}")))
+    Err(Failure::Content(input.to_string(), what))
 }

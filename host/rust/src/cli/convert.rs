@@ -71,7 +71,7 @@ pub fn disasm(given: &Given) -> Result<u8, Failure> {
     let list = if given.flag("--records") {
         contents::sample(&from, file)?.1
     } else {
-        contents::records(&from, file, "; asm makes records of a text")?
+        contents::records(&from, file, "asm makes records of it")?
     };
     let mut chunks = Chunks::new(list);
     let mut lines = String::new();

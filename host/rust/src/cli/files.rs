@@ -35,6 +35,7 @@ impl Out {
     pub fn text(output: &Output) -> Result<Out, Failure> {
         let opened = match output.path() {
             None => io::stdout().as_fd().try_clone_to_owned().map(|fd| stream(File::from(fd))),
+            Some(path) if path.is_dir() => Err(io::Error::other("a folder, not a file")),
             Some(path) if fs::metadata(path).is_ok_and(|data| !data.is_file()) => {
                 File::options().write(true).open(path).map(stream)
             }

@@ -129,7 +129,7 @@ impl List {
         Ok(List::Records(if options.records {
             contents::sample(input, file)?.1
         } else {
-            contents::records(input, file, "; a text is run with --text")?
+            contents::records(input, file, "run it with --text")?
         }))
     }
 }

@@ -168,7 +168,7 @@ impl Summary {
             format!("{} ({})", counted(seconds.into(), "second"), date(seconds))
         };
         out.push_str(&format!(
-            "  clock chip    {} before, {} after\n",
+            "  clock seconds {} before, {} after\n",
             seconds(before),
             seconds(after)
         ));
@@ -193,8 +193,8 @@ impl Summary {
 /// Waits in microseconds, in words.
 pub fn converted(count: u64, line: u64, first: swarmtempo::text::Converted) -> String {
     format!(
-        "{} turned into VIA ticks, rounded up; the first, line {}: {} are {}",
-        if count == 1 { "1 wait".into() } else { format!("{} waits", grouped(count)) },
+        "{} in microseconds turned into VIA ticks, rounded up; the first, line {}: {} are {}",
+        counted(count, "wait"),
         grouped(line),
         counted(first.micros.0.into(), "microsecond"),
         counted(first.wait.0.into(), "VIA tick")

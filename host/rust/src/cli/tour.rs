@@ -3,7 +3,7 @@
 use super::describe::date;
 use super::failure::{called, Failure};
 use super::files;
-use super::numbers::ticks_and_seconds;
+use super::numbers::{counted, ticks_and_seconds};
 use super::style::{Style, When};
 use swarmtempo::{answers, pieces, text, Answer, Item, Machine, Piece};
 
@@ -12,9 +12,11 @@ use swarmtempo::{answers, pieces, text, Answer, Item, Machine, Piece};
 pub const LIST: &str = include_str!("../../../captures/first.txt");
 
 const INTRODUCTION: &str = "\
-swarmtempo runs lists of timed bus accesses and input events on the board (VIA, clock chip, disk
-lines) and gives an answer to each. This small list was run just now, on a fresh machine. Time is in
-VIA ticks, 783,360 a second. Level is the interrupt level that the processor sees.
+swarmtempo runs lists of timed bus accesses and input events on the board (VIA, clock chip,
+disk lines) and gives an answer to each. This small list was run just now, on a fresh machine.
+Time is in VIA ticks, 783,360 a second: a wait of 4t is 4 VIA ticks, and the second column is
+the time since the start. Level is the interrupt level that the processor sees.
+
 ";
 const HEAD: &str = "   items  VIA ticks  record                  value  level  what happens\n";
 
@@ -23,6 +25,7 @@ pub fn tour() -> Result<u8, Failure> {
     let style = Style::of_output(When::Auto);
     let mut tour = Tour::new(style);
     tour.out.push_str(INTRODUCTION);
+    tour.out.push_str(HEAD);
     for line in LIST.lines() {
         tour.line(line);
     }
@@ -69,7 +72,6 @@ impl<'a> Tour<'a> {
         if let Some(heading) = comment.strip_prefix(';') {
             self.out.push('\n');
             self.out.push_str(&self.style.heading(&format!("{}\n", heading.trim())));
-            self.out.push_str(HEAD);
         } else if let Some(words) = comment.strip_prefix('-') {
             self.words = words.trim();
         } else if !comment.is_empty() {
@@ -106,19 +108,14 @@ impl<'a> Tour<'a> {
             _ => (format!("{first} to {}", self.items), format!("{} items", items.len())),
         };
         let (value, words) = shown(&values, self.words);
-        let ticks = self.ticks;
-        let row = match refusal {
-            None => {
-                format!("{number:>8} {ticks:>10}  {record:<22} {value:>6}  {level:>5}  {words}\n")
-            }
-            Some(why) => {
-                let row = format!(
-                    "{number:>8} {ticks:>10}  {record:<22}  NO {}: {why}: {words}\n",
-                    why.number()
-                );
-                self.style.refused(&row)
-            }
+        let (value, level) = match refusal {
+            None => (value, level.to_string()),
+            Some(why) => (format!("NO {}", why.number()), "-".to_string()),
         };
+        let ticks = self.ticks;
+        let row =
+            format!("{number:>8} {ticks:>10}  {record:<22} {value:>6}  {level:>5}  {words}\n");
+        let row = if refusal.is_some() { self.style.refused(&row) } else { row };
         self.out.push_str(&row);
     }
 
@@ -126,10 +123,10 @@ impl<'a> Tour<'a> {
         self.row();
         let state = self.machine.state();
         self.out.push_str(&format!(
-            "\nIn the end: {}; cell 0 of the clock chip holds ${:02X}, and its seconds, {}, are {}.\n",
+            "\nIn all {}. Cell 0 of the clock chip holds ${:02X}; its clock shows\n{} ({}).\n",
             ticks_and_seconds(self.ticks),
             state.cells[0],
-            state.seconds.0,
+            counted(state.seconds.0.into(), "second"),
             date(state.seconds.0)
         ));
     }
@@ -160,14 +157,14 @@ fn next() -> String {
     let mut out = String::from("\nNext:\n");
     for (words, what) in [
         ("sample -o first.txt", "writes this list as text, to be changed"),
-        ("run --text first.txt", "runs it: a row for each item, then a summary"),
+        ("run --text first.txt", "runs it: a row for each item, a summary"),
         ("run --text first.txt --save end.st", "and keeps the state reached"),
         ("image end.st", "shows that state in words"),
-        ("run --text first.txt --quiet --vcd first.vcd", "draws the wires over time, for GTKWave"),
-        ("help", "all commands; COMMAND --help has one command's options"),
+        ("run --text first.txt --quiet --vcd first.vcd", "draws the wires, for GTKWave"),
+        ("help", "all commands and the text form"),
     ] {
         let command = format!("{} {words}", called());
-        out.push_str(&format!("  {command:<58} {what}\n"));
+        out.push_str(&format!("  {command:<56} {what}\n"));
     }
     out
 }

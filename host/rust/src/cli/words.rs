@@ -147,10 +147,10 @@ fn unknown(name: &OsStr, flags: &[Flag]) -> String {
     }
 }
 
-/// The word that differs by two letters at most.
+/// The word that differs by one letter, or by two where it is longer than four.
 pub fn nearest<'a>(word: &str, from: impl Iterator<Item = &'a str>) -> Option<&'a str> {
     let near = from.map(|name| (distance(word, name), name)).min()?;
-    (near.0 <= 2 && near.0 < near.1.len() / 2).then_some(near.1)
+    (near.0 == 1 || near.0 == 2 && near.1.len() > 4).then_some(near.1)
 }
 
 /// Letters put in, left out or changed.

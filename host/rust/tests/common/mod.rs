@@ -68,3 +68,19 @@ pub fn stdout(output: &Output) -> String {
 pub fn stderr(output: &Output) -> String {
     String::from_utf8(output.stderr.clone()).expect("UTF-8")
 }
+
+/// A script for `sh`, with the program as $0 and more words as $1 and on, in a folder.
+pub fn shell(folder: &Folder, script: &str, words: &[&str], input: &[u8]) -> Output {
+    let mut command = Command::new("sh");
+    command.args(["-c", script, PROGRAM]).args(words).current_dir(&folder.0);
+    feed(&mut command, input)
+}
+
+/// True where a program can be run here.
+pub fn has(program: &str) -> bool {
+    let found = Command::new("sh").args(["-c", "command -v \"$0\"", program]).output();
+    found.is_ok_and(|found| found.status.success())
+}
+
+/// A record of a one-second tick after one VIA tick.
+pub const SECOND: [u8; 6] = [4, 0, b'S', b'E', 1, 0];
