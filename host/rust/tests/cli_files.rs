@@ -2,7 +2,7 @@
 
 mod common;
 
-use common::{feed, has, program, shell, status, stderr, Folder, PROGRAM, SECOND};
+use common::{feed, has, program, shell, status, stderr, stdout, Folder, PROGRAM, SECOND};
 use std::ffi::OsStr;
 use std::fs;
 use std::io::Write;
@@ -92,7 +92,7 @@ fn a_closed_pipe_drops_no_file() {
             "{{ \"$0\" run {list} --save end.st --vcd end.vcd {errors}; echo $? >status; }} | head -n 1"
         );
         let output = shell(&folder, &script, &[], b"");
-        assert_eq!(output.stdout.iter().filter(|&&byte| byte == b'\n').count(), 1);
+        assert_eq!(stdout(&output).lines().count(), 1);
         assert_eq!(folder.get("status"), format!("{expected}\n").as_bytes(), "{script}");
         assert_eq!(seconds_of(&folder.get("end.st")), 30_000);
         assert!(folder.get("end.vcd").ends_with(b"\n"));

@@ -153,7 +153,7 @@ fn quiet_and_strict() {
         let output = program(&["run", "-", "--quiet", "--strict"], list);
         assert_eq!(status(&output), strict, "{}", stderr(&output));
         let output = program(&["run", "-", "--quiet"], list);
-        assert_eq!(status(&output), if strict == 1 { 1 } else { 0 });
+        assert_eq!(status(&output), i32::from(strict == 1));
         assert_eq!(stderr(&output).contains("  refused "), told, "{}", stderr(&output));
         assert!(output.stdout.is_empty());
         let output = program(&["run", "-"], list);
@@ -164,7 +164,7 @@ fn quiet_and_strict() {
     );
 }
 
-/// Every wrong line of a file, as FILE:LINE:COLUMN: MESSAGE.
+/// Every wrong line of a file, with file, line, column and message.
 #[test]
 fn all_errors_of_a_text() {
     let folder = Folder::new("errors");

@@ -26,24 +26,28 @@ impl Random {
     }
 
     fn below(&mut self, limit: usize) -> usize {
-        (self.next() % limit.max(1) as u64) as usize
+        usize::try_from(self.next() % limit.max(1) as u64).expect("below a limit")
+    }
+
+    fn byte(&mut self) -> u8 {
+        self.next().to_le_bytes()[0]
     }
 
     fn bytes(&mut self, most: usize) -> Vec<u8> {
         let length = self.below(most + 1);
-        (0..length).map(|_| self.next() as u8).collect()
+        (0..length).map(|_| self.byte()).collect()
     }
 
     /// Some bytes put in, left out, changed or doubled.
     fn broken(&mut self, whole: &[u8]) -> Vec<u8> {
         let mut bytes = whole.to_vec();
-        for _ in 0..1 + self.below(6) {
+        for _ in 0..=self.below(6) {
             let at = self.below(bytes.len() + 1);
             match self.below(6) {
                 0 => bytes.truncate(at),
                 1 => drop(bytes.splice(at..at, self.bytes(9))),
                 2 => drop(bytes.splice(at..at, *b" \t;$0x99999999999us")),
-                3 if at < bytes.len() => bytes[at] = self.next() as u8,
+                3 if at < bytes.len() => bytes[at] = self.byte(),
                 4 if at < bytes.len() => bytes[at] ^= 1 << self.below(8),
                 _ => {
                     let end = at + self.below(bytes.len() - at + 1);
@@ -97,7 +101,7 @@ fn contents(random: &mut Random) -> Vec<u8> {
             let list = records(random);
             random.broken(&list)
         }
-        3 => vec![random.next() as u8; random.below(200_000)],
+        3 => vec![random.byte(); random.below(200_000)],
         _ => broken_text(random),
     }
 }

@@ -9,11 +9,6 @@ use swarmtempo::{
 };
 use swarmtempo_model::run_image;
 
-const HEAD: &str = "\
-                                 library: records  library: nanoseconds  model: nanoseconds         
-list                                     a second              a record             a record   ratio
-";
-
 /// Each list is run so many times, and the quickest counts.
 const ROUNDS: usize = 9;
 
@@ -94,7 +89,10 @@ fn best(mut run: impl FnMut()) -> Duration {
 /// Prints a row for each kind of list.
 pub fn bench(records: usize) -> Result<(), Failure> {
     print(&format!("{records} records a list, one run each, the best of {ROUNDS} rounds\n"))?;
-    print(HEAD)?;
+    let (library, model) = ("library: nanoseconds", "model: nanoseconds");
+    print(&format!("{:<32} {:>17} {library:>21} {model:>21}\n", "", "library: records"))?;
+    let each = "a record";
+    print(&format!("{:<32} {:>17} {each:>21} {each:>21} {:>7}\n", "list", "a second", "ratio"))?;
     let mut answers = vec![0; ANSWER_LEN * records];
     let mut other = vec![0; ANSWER_LEN * records];
     for (name, list) in lists(records) {
@@ -108,7 +106,8 @@ pub fn bench(records: usize) -> Result<(), Failure> {
             assert_eq!(run_image(&mut image, list.as_bytes(), &mut other).stop, 0);
         });
         assert_eq!(answers, other, "library and model differ on {name}");
-        let ns = |time: Duration| time.as_secs_f64() * 1e9 / records as f64;
+        let each = u32::try_from(records).map_or(f64::MAX, f64::from);
+        let ns = |time: Duration| time.as_secs_f64() * 1e9 / each;
         print(&format!(
             "{name:<32} {:>17.0} {:>21.1} {:>21.1} {:>7.2}\n",
             1e9 / ns(library),

@@ -45,7 +45,7 @@ impl Uses {
     /// Something that is read, under the word that asks for it.
     pub fn reads(&mut self, word: &str, input: &Input) -> &mut Uses {
         let identity = match input.path() {
-            Some(path) => fs::metadata(path).ok().and_then(there),
+            Some(path) => fs::metadata(path).ok().and_then(|data| there(&data)),
             None => of_standard(io::stdin().as_fd()),
         };
         let standard = input.path().is_none();
@@ -58,8 +58,8 @@ impl Uses {
     pub fn writes(&mut self, word: &str, output: &Output) -> &mut Uses {
         let identity = match output.path() {
             Some(path) => match fs::metadata(path) {
-                Ok(data) => there(data),
-                Err(_) => Target::of(path).ok().and_then(new),
+                Ok(data) => there(&data),
+                Err(_) => Target::of(path).ok().and_then(|target| new(&target)),
             },
             None => of_standard(io::stdout().as_fd()),
         };
@@ -115,18 +115,18 @@ impl Named {
     }
 }
 
-fn there(data: Metadata) -> Option<Identity> {
+fn there(data: &Metadata) -> Option<Identity> {
     // A terminal or a connection is often both standard input and output, and that is well.
     let kind = data.file_type();
     let shared = kind.is_char_device() || kind.is_socket();
     (!shared).then(|| Identity::There(data.dev(), data.ino()))
 }
 
-fn new(target: Target) -> Option<Identity> {
+fn new(target: &Target) -> Option<Identity> {
     let folder = fs::canonicalize(folder_of(&target.path)).ok()?;
     Some(Identity::New(folder, target.path.file_name()?.to_os_string()))
 }
 
 fn of_standard(file: std::os::fd::BorrowedFd<'_>) -> Option<Identity> {
-    there(File::from(file.try_clone_to_owned().ok()?).metadata().ok()?)
+    there(&File::from(file.try_clone_to_owned().ok()?).metadata().ok()?)
 }

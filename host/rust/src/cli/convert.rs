@@ -2,14 +2,15 @@
 
 use super::conflicts::Uses;
 use super::contents;
-use super::failure::Failure;
+use super::draft;
+use super::failure::{failure, Failure};
 use super::files::{self, say, Out};
 use super::lines::{list_failure, Lines};
 use super::place::{Input, Output};
 use super::source;
 use super::summary::converted;
 use super::words::Given;
-use std::io::Read;
+use std::io::{self, Cursor, Read, Seek, Write};
 use swarmtempo::{pieces, text, Chunks, Piece};
 
 /// What is read and what is written.
@@ -34,12 +35,11 @@ pub fn asm(given: &Given) -> Result<u8, Failure> {
         lines = Lines::new(&from, source::open(&from)?)?;
         pour(&mut lines, &from, |bytes| out.put(bytes))?;
     } else {
-        let mut all = Vec::new();
-        pour(&mut lines, &from, |bytes| {
-            all.extend_from_slice(bytes);
-            Ok(())
-        })?;
-        out.put(&all)?;
+        let mut aside = aside();
+        let wrong = |error| failure("a temporary file", error);
+        pour(&mut lines, &from, |bytes| aside.write_all(bytes).map_err(wrong))?;
+        aside.rewind().map_err(wrong)?;
+        each(&mut aside, wrong, |bytes| out.put(bytes))?;
     }
     files::keep([out])?;
     if let Some((line, first)) = lines.converted().first {
@@ -52,14 +52,36 @@ pub fn asm(given: &Given) -> Result<u8, Failure> {
 fn pour(
     lines: &mut Lines,
     from: &Input,
+    take: impl FnMut(&[u8]) -> Result<(), Failure>,
+) -> Result<(), Failure> {
+    each(lines, |error| list_failure(from, error), take)
+}
+
+/// All bytes of a reader.
+fn each(
+    reader: &mut impl Read,
+    wrong: impl Fn(io::Error) -> Failure,
     mut take: impl FnMut(&[u8]) -> Result<(), Failure>,
 ) -> Result<(), Failure> {
     let mut buffer = vec![0; 1 << 16];
     loop {
-        match lines.read(&mut buffer).map_err(|error| list_failure(from, error))? {
+        match reader.read(&mut buffer).map_err(&wrong)? {
             0 => return Ok(()),
             count => take(&buffer[..count])?,
         }
+    }
+}
+
+/// Where bytes are kept until it is known that they may be written.
+trait Aside: Read + Write + Seek {}
+
+impl<T: Read + Write + Seek> Aside for T {}
+
+/// A file without a name, or memory where there is none.
+fn aside() -> Box<dyn Aside> {
+    match draft::unnamed(&std::env::temp_dir()) {
+        Some(file) => Box::new(file),
+        None => Box::new(Cursor::new(Vec::new())),
     }
 }
 

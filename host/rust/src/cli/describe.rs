@@ -81,7 +81,7 @@ fn clock(state: &State, out: &mut String) {
         u8::from(wires.data_clock),
         u8::from(wires.data)
     ));
-    out.push_str(&format!("  command   {}\n", phase(&state.phase)));
+    out.push_str(&format!("  command   {}\n", phase(state.phase)));
     out.push_str(&format!("  protect   {}\n", if state.protect { "set" } else { "clear" }));
     let stopped = if state.seconds_stopped() { " (seconds stopped)" } else { "" };
     out.push_str(&format!("  test      ${:02X}{stopped}\n", state.test));
@@ -93,13 +93,13 @@ fn clock(state: &State, out: &mut String) {
     }
 }
 
-fn phase(phase: &Phase) -> String {
+fn phase(phase: Phase) -> String {
     let bits = |count: u8, value: u8| match count {
         0 => "no bits".to_string(),
         1 => format!("1 bit, {value}"),
         _ => format!("{count} bits, {value:0width$b}", width = usize::from(count)),
     };
-    match *phase {
+    match phase {
         Phase::Idle => "none, enable is up".into(),
         Phase::Listening { bits: count, value } => {
             format!("half-made: {} of the command taken", bits(count, value))

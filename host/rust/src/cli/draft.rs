@@ -41,13 +41,11 @@ impl Target {
         }
         let mut path = name.to_path_buf();
         for _ in 0..LINKS_MOST {
-            match fs::read_link(&path) {
-                Ok(link) => path = folder_of(&path).join(link),
-                Err(_) => {
-                    let existing = fs::metadata(&path).ok();
-                    return Ok(Target { path, existing });
-                }
-            }
+            let Ok(link) = fs::read_link(&path) else {
+                let existing = fs::metadata(&path).ok();
+                return Ok(Target { path, existing });
+            };
+            path = folder_of(&path).join(link);
         }
         Err(io::Error::other("too many links, one to the other"))
     }
@@ -96,9 +94,15 @@ impl Draft {
             let words = format!("its folder {} is not there", folder.display());
             return Err(io::Error::other(words));
         }
-        let (file, name) = match unnamed(&folder) {
+        let file = unnamed(&folder);
+        Draft::begin(target, file)
+    }
+
+    /// In a file without a name, or else in one with a name of its own.
+    fn begin(target: Target, file: Option<File>) -> io::Result<Draft> {
+        let (file, name) = match file {
             Some(file) => (file, None),
-            None => named(&folder)?,
+            None => named(&folder_of(&target.path))?,
         };
         Ok(Draft { file: BufWriter::with_capacity(1 << 16, file), target, name })
     }
@@ -162,8 +166,9 @@ impl Drop for Name {
 }
 
 /// A file without a name, where it could get one later.
-fn unnamed(folder: &Path) -> Option<File> {
-    let file = OpenOptions::new().write(true).custom_flags(O_TMPFILE).open(folder).ok()?;
+pub fn unnamed(folder: &Path) -> Option<File> {
+    let mut options = OpenOptions::new();
+    let file = options.read(true).write(true).custom_flags(O_TMPFILE).open(folder).ok()?;
     let seen = Path::new("/proc/self/fd").join(file.as_raw_fd().to_string());
     fs::symlink_metadata(seen).is_ok().then_some(file)
 }
@@ -184,9 +189,87 @@ fn fresh_name<T>(folder: &Path, make: impl Fn(&Path) -> io::Result<T>) -> io::Re
         let watched = sys::Doomed::watch(&path);
         tries += 1;
         match make(&path) {
-            Ok(made) => return Ok((made, Name { path, placed: false, _watched: watched })),
+            Ok(it) => return Ok((it, Name { path, placed: false, _watched: watched })),
             Err(error) if error.kind() == io::ErrorKind::AlreadyExists && tries < TRIES => {}
             Err(error) => return Err(error),
+        }
+    }
+}
+
+#[cfg(test)]
+mod tests {
+    use super::*;
+    use std::process::{Command, Stdio};
+    use std::time::{Duration, Instant};
+
+    /// Names the folder to the test that is run in a process of its own.
+    const FOLDER: &str = "SWARMTEMPO_TEST_FOLDER";
+
+    fn folder(name: &str) -> PathBuf {
+        let folder = std::env::temp_dir().join(format!("swarmtempo-{}-{name}", std::process::id()));
+        fs::create_dir_all(&folder).expect("a folder");
+        folder
+    }
+
+    fn names(folder: &Path) -> Vec<String> {
+        let entries = fs::read_dir(folder).expect("a folder");
+        entries.map(|it| it.expect("entry").file_name().into_string().expect("UTF-8")).collect()
+    }
+
+    /// As on a file system that has no files without a name.
+    fn named_draft(folder: &Path) -> Draft {
+        let target = Target::of(&folder.join("end.st")).expect("a place");
+        let mut draft = Draft::begin(target, None).expect("begun");
+        draft.write_all(b"image").expect("written");
+        draft
+    }
+
+    #[test]
+    fn under_a_name_it_is_whole_or_gone() {
+        let folder = folder("named");
+        let mut draft = named_draft(&folder);
+        assert!(names(&folder)[0].starts_with(".swarmtempo-"));
+        let other = named_draft(&folder);
+        assert_eq!(names(&folder).len(), 2, "a name for each");
+        drop(other);
+        assert_eq!(names(&folder).len(), 1);
+        draft.settle().expect("on the disk");
+        draft.give_name().expect("has one");
+        draft.place().expect("in its place");
+        drop(draft);
+        assert_eq!(names(&folder), ["end.st"]);
+        assert_eq!(fs::read(folder.join("end.st")).expect("there"), b"image");
+        fs::remove_dir_all(folder).expect("removed");
+    }
+
+    #[test]
+    fn under_a_name_a_signal_takes_it_away() {
+        let folder = folder("signal");
+        for signal in ["TERM", "INT", "HUP"] {
+            let mut command = Command::new(std::env::current_exe().expect("this program"));
+            command.args(["--ignored", "--exact", "cli::draft::tests::a_draft_that_waits"]);
+            let command = command.env(FOLDER, &folder).stdout(Stdio::null());
+            let mut child = command.spawn().expect("started");
+            let start = Instant::now();
+            while names(&folder).is_empty() && start.elapsed() < Duration::from_secs(20) {
+                std::thread::sleep(Duration::from_millis(5));
+            }
+            assert_eq!(names(&folder).len(), 1, "begun");
+            let number = child.id().to_string();
+            let sent = Command::new("sh").args(["-c", "kill -s $0 $1", signal, &number]).status();
+            assert!(sent.expect("sent").success());
+            assert!(!child.wait().expect("ended").success());
+            assert!(names(&folder).is_empty(), "{signal}");
+        }
+        fs::remove_dir_all(folder).expect("removed");
+    }
+
+    #[test]
+    #[ignore = "the other test runs it, and ends it"]
+    fn a_draft_that_waits() {
+        if let Some(folder) = std::env::var_os(FOLDER) {
+            let _draft = named_draft(Path::new(&folder));
+            std::thread::sleep(Duration::from_secs(30));
         }
     }
 }

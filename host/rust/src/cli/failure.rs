@@ -64,7 +64,7 @@ fn reason(error: &io::Error) -> String {
 }
 
 /// How the program was called, for the commands that it names: a script that stands before it says so
-/// in SWARMTEMPO_CALLED.
+/// in `SWARMTEMPO_CALLED`.
 pub fn called() -> String {
     let name = std::env::var("SWARMTEMPO_CALLED").unwrap_or_default();
     if name.is_empty() || name.chars().any(char::is_control) {

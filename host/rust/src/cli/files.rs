@@ -122,7 +122,9 @@ pub fn keep(outs: impl IntoIterator<Item = Out>) -> Result<(), Failure> {
         }
         Ok(())
     })?;
-    drafts.iter().for_each(|(_, draft)| draft.sync_folder());
+    for (_, draft) in &drafts {
+        draft.sync_folder();
+    }
     Ok(())
 }
 

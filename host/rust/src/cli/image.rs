@@ -103,7 +103,7 @@ impl Fields<'_> {
     }
 
     fn head(&mut self) {
-        let rest = self.image.len() as u32 - 2;
+        let rest = u32::try_from(self.image.len() - 2).unwrap_or(u32::MAX);
         self.field("the length of what follows", 2, &rest.to_string(), |value| value == rest);
         let kind = u32::from(u16::from_le_bytes(*b"ST"));
         self.field("the kind", 2, "ST (83, 84)", |value| value == kind);
@@ -131,7 +131,10 @@ impl Fields<'_> {
                 (1..=4).contains(&value)
             })
         };
-        let legal = |value: u32| Command::of(value as u8).is_some_and(|command| !command.read);
+        let legal = |value: u32| {
+            let command = u8::try_from(value).ok().and_then(Command::of);
+            command.is_some_and(|command| !command.read)
+        };
         match phase {
             2 => self.field("the clock's command", 1, "a legal write command", legal),
             _ => self.zero("the clock's command", phase),
@@ -261,9 +264,9 @@ mod tests {
 
     #[test]
     fn older_layouts_are_named() {
-        for old in [98usize, 121] {
-            let mut image = vec![0; old];
-            image[..4].copy_from_slice(&[old as u8 - 2, 0, b'S', b'T']);
+        for old in [98u8, 121] {
+            let mut image = vec![0; old.into()];
+            image[..4].copy_from_slice(&[old - 2, 0, b'S', b'T']);
             assert!(wrong(&image)
                 .starts_with(&format!("it is an image of an older layout, {old} bytes")));
             image[0] = 1;

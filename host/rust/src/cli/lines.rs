@@ -15,7 +15,7 @@ const LINE_MAX: u64 = 1 << 20;
 /// The records of a text.
 pub struct Lines {
     name: String,
-    lines: BufReader<Sampled>,
+    source: BufReader<Sampled>,
     line: Vec<u8>,
     /// Lines read.
     number: u64,
@@ -63,8 +63,8 @@ impl Lines {
     /// Begins to read a text.
     pub fn new(input: &Input, file: Box<dyn Read>) -> Result<Lines, Failure> {
         let (looks, file) = contents::sample(input, file)?;
-        let mut lines = BufReader::with_capacity(1 << 16, file);
-        let start = lines.fill_buf().map_err(|error| failure(input, error))?;
+        let mut source = BufReader::with_capacity(1 << 16, file);
+        let start = source.fill_buf().map_err(|error| failure(input, error))?;
         let what = match looks {
             Looks::Utf16 => "a text in UTF-16; save it as UTF-8",
             Looks::Image => "a state image, not a text",
@@ -75,11 +75,11 @@ impl Lines {
             return Err(Failure::Content(input.to_string(), what.into()));
         }
         if start.starts_with(BYTE_ORDER_MARK) {
-            lines.consume(BYTE_ORDER_MARK.len());
+            source.consume(BYTE_ORDER_MARK.len());
         }
         Ok(Lines {
             name: input.to_string(),
-            lines,
+            source,
             line: Vec::new(),
             number: 0,
             ready: Vec::new(),
@@ -114,7 +114,7 @@ impl Lines {
         self.line.clear();
         self.ready.clear();
         self.given = 0;
-        let read = (&mut self.lines).take(LINE_MAX).read_until(b'\n', &mut self.line)?;
+        let read = (&mut self.source).take(LINE_MAX).read_until(b'\n', &mut self.line)?;
         if read == 0 {
             return Ok(false);
         }
@@ -142,7 +142,7 @@ impl Lines {
     /// The bytes of the line, or what is wrong in it.
     fn assemble(&mut self) -> io::Result<Result<Option<Converted>, LineError>> {
         if self.line.len() as u64 == LINE_MAX && self.line.last() != Some(&b'\n') {
-            self.lines.skip_until(b'\n')?;
+            self.source.skip_until(b'\n')?;
             let message = format!("a line is longer than {LINE_MAX} bytes");
             return Ok(Err(LineError { column: 1, message }));
         }

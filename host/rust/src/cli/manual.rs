@@ -22,11 +22,15 @@ pub fn page() -> String {
          A file named - is standard input or output; after -- there are no options.",
         &mut out,
     );
-    COMMANDS.iter().for_each(|command| section(command, &mut out));
+    for command in &COMMANDS {
+        section(command, &mut out);
+    }
     out.push_str(".SH TEXT FORM\n");
     paragraph(UNITS, &mut out);
     out.push_str(".PP\n.nf\n");
-    TEXT_FORM.lines().for_each(|line| out.push_str(&format!("{}\n", escaped(line))));
+    for line in TEXT_FORM.lines() {
+        out.push_str(&format!("{}\n", escaped(line)));
+    }
     out.push_str(".fi\n.SH EXIT STATUS\n");
     paragraph(STATUSES, &mut out);
     out.push_str(".SH ENVIRONMENT\n");

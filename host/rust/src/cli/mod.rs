@@ -17,6 +17,7 @@ mod manual;
 mod numbers;
 mod place;
 mod progress;
+mod request;
 mod run;
 mod source;
 mod style;
@@ -76,7 +77,7 @@ fn command(mut words: Vec<OsString>) -> Result<u8, Failure> {
 
 fn act(command: &str, given: &Given) -> Result<u8, Failure> {
     match command {
-        "run" => run::run(&run::Options::of(given)?),
+        "run" => run::run(&request::Options::of(given)?),
         "asm" => convert::asm(given),
         "disasm" => convert::disasm(given),
         "image" => {

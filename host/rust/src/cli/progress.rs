@@ -57,17 +57,21 @@ impl Progress {
 
 /// The longest of some forms that fits.
 fn bar(consumed: u64, total: Option<u64>, records: u64, elapsed: Duration, width: usize) -> String {
-    let speed = records as f64 / elapsed.as_secs_f64() / 1e6;
+    // Records a microsecond are millions a second.
+    let tenths = u128::from(records) * 10 / elapsed.as_micros().max(1);
+    let speed = format!("{}.{} million records a second", tenths / 10, tenths % 10);
     let done = format!("{} MB", consumed / 1_000_000);
-    let tail = format!("{done}, {records} records, {speed:.1} million records a second");
+    let tail = format!("{done}, {records} records, {speed}");
     let forms = match total.filter(|&total| total > 0) {
         None => vec![tail, format!("{done}, {records} records"), done],
         Some(total) => {
-            let part = (consumed as f64 / total as f64).min(1.0);
-            let filled = "#".repeat((part * 30.0) as usize);
-            let percent = format!("{:.0} %", part * 100.0);
-            let left = elapsed.as_secs_f64() * (1.0 - part) / part.max(1e-9);
-            let left = match left.round() as u64 {
+            let consumed = consumed.min(total);
+            let part = |whole: u64| u128::from(consumed) * u128::from(whole) / u128::from(total);
+            let percent = format!("{} %", part(100));
+            let filled = "#".repeat(usize::try_from(part(30)).unwrap_or(0));
+            let left =
+                elapsed.as_millis() * u128::from(total - consumed) / u128::from(consumed.max(1));
+            let left = match (left + 500) / 1000 {
                 1 => "1 second left".to_string(),
                 left => format!("{left} seconds left"),
             };

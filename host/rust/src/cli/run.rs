@@ -1,97 +1,22 @@
 //! `swarmtempo run`: a list streamed through the machine in fixed memory.
 
-use super::conflicts::Uses;
 use super::contents::{self, Sampled};
 use super::failure::{failure, Failure};
 use super::files::{self, say, Out};
 use super::lines::{list_failure, Lines};
-use super::place::{Input, Output};
+use super::place::Output;
 use super::progress::Progress;
-use super::style::{Style, When};
+use super::request::{Form, Options};
+use super::style::Style;
 use super::summary::{End, Summary};
 use super::table::{Table, HEAD};
 use super::vcd::Vcd;
-use super::words::Given;
 use super::{image, source};
 use std::io::{self, Read};
 use swarmtempo::{pieces, Chunks, Item, Machine, Piece, Refusal, ANSWER_LEN};
 
 /// Bytes of rows gathered before they are written.
 const ROWS_LEN: usize = 1 << 15;
-
-/// The words of the command.
-pub struct Options {
-    /// The list is in the text form.
-    text: bool,
-    /// The list is records, whatever it looks like.
-    records: bool,
-    /// No table, and no summary where nothing is refused.
-    quiet: bool,
-    /// A refusal is a status.
-    strict: bool,
-    colour: When,
-    /// The image to begin with.
-    image: Option<Input>,
-    /// Where the image reached goes.
-    save: Option<Output>,
-    /// Where the answers go, as bytes.
-    answers: Option<Output>,
-    /// Where the dump goes.
-    vcd: Option<Output>,
-    /// Answer bytes in all.
-    room: Option<u64>,
-    list: Input,
-}
-
-impl Options {
-    /// From the command's words; words that name one file twice are refused.
-    pub fn of(given: &Given) -> Result<Options, Failure> {
-        let output = |name: &str| given.value(name).map(Output::of);
-        let colour = given.value("--color").map_or(Some(When::Auto), |word| When::of(&word));
-        let options = Options {
-            text: given.flag("--text"),
-            records: given.flag("--records"),
-            quiet: given.flag("--quiet"),
-            strict: given.flag("--strict"),
-            colour: colour
-                .ok_or_else(|| Failure::usage("run", "--color needs always, never or auto"))?,
-            image: given.value("--image").map(Input::of),
-            save: output("--save"),
-            answers: output("--answers"),
-            vcd: output("--vcd"),
-            room: given.number("--room")?,
-            list: Input::of(given.need()?),
-        };
-        if options.text && options.records {
-            return Err(Failure::usage("run", "--text and --records: the list is one of them"));
-        }
-        options.uses().check()?;
-        Ok(options)
-    }
-
-    fn table(&self) -> bool {
-        self.answers.is_none() && !self.quiet
-    }
-
-    fn uses(&self) -> Uses {
-        let mut uses = Uses::of("run");
-        uses.reads("LIST", &self.list);
-        if let Some(image) = &self.image {
-            uses.reads("--image", image);
-        }
-        if self.table() {
-            uses.writes("the table of answers (which --quiet leaves out)", &Output::standard());
-        }
-        for (word, output) in
-            [("--answers", &self.answers), ("--vcd", &self.vcd), ("--save", &self.save)]
-        {
-            if let Some(output) = output {
-                uses.writes(word, output);
-            }
-        }
-        uses
-    }
-}
 
 /// Runs, and gives the exit status.
 pub fn run(options: &Options) -> Result<u8, Failure> {
@@ -103,7 +28,7 @@ pub fn run(options: &Options) -> Result<u8, Failure> {
         Some((input, file)) => image::read(input, file)?,
         None => Machine::fresh(),
     };
-    if options.text && source::length(&options.list).is_some() {
+    if options.form == Form::Text && source::length(&options.list).is_some() {
         // The whole text first, so that nothing is run where a line is wrong.
         let mut text = Lines::new(&options.list, source::open(&options.list)?)?;
         io::copy(&mut text, &mut io::sink()).map_err(|error| list_failure(&options.list, error))?;
@@ -123,14 +48,11 @@ enum List {
 impl List {
     fn of(options: &Options, file: Box<dyn Read>) -> Result<List, Failure> {
         let input = &options.list;
-        if options.text {
-            return Ok(List::Text(Box::new(Lines::new(input, file)?)));
-        }
-        Ok(List::Records(if options.records {
-            contents::sample(input, file)?.1
-        } else {
-            contents::records(input, file, "run it with --text")?
-        }))
+        Ok(match options.form {
+            Form::Text => List::Text(Box::new(Lines::new(input, file)?)),
+            Form::Records => List::Records(contents::sample(input, file)?.1),
+            Form::Unsaid => List::Records(contents::records(input, file, "run it with --text")?),
+        })
     }
 }
 
@@ -201,7 +123,8 @@ impl Runner {
     }
 
     fn stream(&mut self, list: List, options: &Options) -> Result<(), Failure> {
-        let total = if options.text { None } else { source::length(&options.list) };
+        let text = options.form == Form::Text;
+        let total = if text { None } else { source::length(&options.list) };
         let mut progress = Progress::new(options.table(), total);
         let mut chunks = Chunks::new(list);
         let mut buffer = Vec::new();

@@ -6,7 +6,7 @@ use std::io::{self, IsTerminal};
 /// When colours are used.
 #[derive(Clone, Copy, Debug, PartialEq, Eq)]
 pub enum When {
-    /// On a terminal that is not dumb, unless NO_COLOR is set.
+    /// On a terminal that is not dumb, unless `NO_COLOR` is set.
     Auto,
     /// Always.
     Always,

@@ -46,7 +46,7 @@ fn item_of(kind: &Word<'_>, words: &mut Words<'_>) -> Result<Item, LineError> {
         "RD" => Item::Read(words.need("an address")?.address()?),
         "WR" => {
             let address = words.need("an address")?.address()?;
-            Item::Write(address, words.need("a value")?.number("a value", 255)? as u8)
+            Item::Write(address, words.need("a value")?.number("a value", 255)?)
         }
         "VB" => Item::Blank,
         "SE" => Item::Second,
@@ -70,15 +70,14 @@ fn item_of(kind: &Word<'_>, words: &mut Words<'_>) -> Result<Item, LineError> {
 }
 
 fn input(words: &mut Words<'_>) -> Result<Item, LineError> {
-    let most = u32::from(InLine::COUNT) - 1;
-    let line = words.need("a line")?.number("a line", most)? as u8;
+    let line = words.need("a line")?.number("a line", InLine::COUNT - 1)?;
     let line = InLine::new(line).expect("in range");
     Ok(Item::In(line, words.need("a level")?.level()?))
 }
 
 fn sense(words: &mut Words<'_>) -> Result<Item, LineError> {
     let drive = words.need("a drive (internal or external)")?.drive()?;
-    let register = words.need("a register")?.number("a register", 15)? as u8;
+    let register = words.need("a register")?.number("a register", 15)?;
     let register = SenseRegister::new(register).expect("in range");
     Ok(Item::Sense(drive, register, words.need("a level")?.level()?))
 }

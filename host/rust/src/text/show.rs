@@ -7,8 +7,8 @@ const RAW_WIDTH: usize = 32;
 
 /// An item in the text form, without a line end.
 pub fn item(wait: ViaTicks, item: &Item) -> String {
-    let kind = std::str::from_utf8(item.kind()).expect("ASCII");
-    let head = format!("{}t {kind}", wait.0);
+    let kind = item.kind().map(char::from);
+    let head = format!("{}t {}{}", wait.0, kind[0], kind[1]);
     match *item {
         Item::Read(address) => format!("{head} {}", address.name()),
         Item::Write(address, value) => format!("{head} {} ${value:02X}", address.name()),
@@ -29,7 +29,9 @@ pub fn item(wait: ViaTicks, item: &Item) -> String {
 pub fn raw(bytes: &[u8], remark: &str, out: &mut String) {
     for (i, row) in bytes.chunks(RAW_WIDTH).enumerate() {
         out.push_str("RAW");
-        row.iter().for_each(|byte| out.push_str(&format!(" {byte:02X}")));
+        for byte in row {
+            out.push_str(&format!(" {byte:02X}"));
+        }
         if i == 0 && !remark.is_empty() {
             out.push_str(" ; ");
             out.push_str(remark);

@@ -73,9 +73,9 @@ impl Word<'_> {
     }
 
     /// A number from 0 to `most`.
-    pub fn number(&self, what: &str, most: u32) -> Result<u32, LineError> {
-        match digits(self.text) {
-            Some(number) if number <= u64::from(most) => Ok(number as u32),
+    pub fn number(&self, what: &str, most: u8) -> Result<u8, LineError> {
+        match digits(self.text).map(u8::try_from) {
+            Some(Ok(number)) if number <= most => Ok(number),
             Some(_) => self.wrong(format!("{what} is 0 to {most}, not {}", self.shown())),
             None => self
                 .wrong(format!("{what} is a number, as 65, $41 or 0x41, not `{}`", self.shown())),
