@@ -10,6 +10,7 @@ use std::os::unix::ffi::OsStrExt;
 use std::os::unix::fs::{symlink, MetadataExt, PermissionsExt};
 use std::os::unix::process::ExitStatusExt;
 use std::process::{Command, Stdio};
+use std::time::{Duration, Instant};
 use swarmtempo::Machine;
 
 /// The image after so many seconds.
@@ -145,6 +146,9 @@ fn a_full_disk_leaves_nothing() {
             "\"$0\" asm -o new >/dev/full; \"$0\" run big --answers /dev/full --save new",
             "/dev/full",
         ),
+        // Short outputs: the failure comes when all is flushed, after the others are whole.
+        ("printf '\\4\\0SE\\0\\0' | \"$0\" run - --answers new --vcd /dev/full", "/dev/full"),
+        ("printf '\\4\\0SE\\0\\0' | \"$0\" run - --vcd new --save /dev/full --quiet", "/dev/full"),
         // A file may have 64 KiB: the dump comes to an end.
         (
             "trap '' XFSZ; ulimit -f 128; \"$0\" run big --save end.st --vcd new.vcd --quiet",
@@ -275,4 +279,38 @@ fn synced_before_it_takes_its_place() {
     let at = |part: &str| calls.lines().position(|line| line.contains(part)).expect(part);
     let syncs = calls.lines().take(at("rename")).filter(|line| line.contains("sync(")).count();
     assert_eq!(syncs, 2, "{calls}");
+}
+
+/// A signal while finished files take their places: all of them do, and then it acts. The system's
+/// calls are slowed down for that, where they can be.
+#[test]
+fn a_signal_while_files_take_their_places() {
+    let folder = Folder::new("placing");
+    folder.put("x", &SECOND);
+    if !has("strace") || status(&shell(&folder, "strace -o /dev/null true", &[], b"")) != 0 {
+        println!("no strace here");
+        return;
+    }
+    let calls = "rename,renameat,renameat2";
+    let mut command = Command::new("strace");
+    command.args(["-f", "-o", "/dev/null", "-e", &format!("trace={calls}")]);
+    command.args(["-e", &format!("inject={calls}:delay_enter=400000")]);
+    command.args([PROGRAM, "run", "x", "--quiet", "--save", "a.st", "--vcd", "b.vcd"]);
+    let mut child = command.current_dir(&folder.0).spawn().expect("started");
+    let hidden = || {
+        folder.names().into_iter().filter_map(|name| {
+            let number = name.strip_prefix(".swarmtempo-")?.split('-').next()?.to_string();
+            Some(number)
+        })
+    };
+    let start = Instant::now();
+    while hidden().count() < 2 && start.elapsed() < Duration::from_secs(20) {
+        std::thread::sleep(Duration::from_millis(5));
+    }
+    let number = hidden().next().expect("its process");
+    let sent = Command::new("sh").args(["-c", "kill -s TERM $0", &number]).status();
+    assert!(sent.expect("sent").success());
+    let ended = child.wait().expect("ended");
+    assert!(!ended.success(), "the signal acts in the end: {ended}");
+    assert_eq!(folder.names(), ["a.st", "b.vcd", "x"]);
 }
