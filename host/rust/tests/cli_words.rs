@@ -6,7 +6,7 @@ use common::{feed, has, program, shell, status, stderr, stdout, Folder, PROGRAM,
 use std::fs;
 use std::process::Command;
 use swarmtempo::text::assemble;
-use swarmtempo::Machine;
+use swarmtempo::{Machine, CHUNK_LEN};
 
 const COMMANDS: [&str; 10] =
     ["run", "asm", "disasm", "image", "sample", "bench", "man", "completions", "help", "version"];
@@ -125,19 +125,24 @@ fn a_summary_after_every_run() {
     assert!(said.contains("offset 1,208 bytes, item 112, line 114\n"), "{said}");
 }
 
-/// Far into a long text the line is still right, and in the file as in a pipe.
+/// Far into a long text the line is still right, and across the end of a chunk; in a file as in a
+/// pipe.
 #[test]
 fn the_line_of_a_late_refusal() {
     let folder = Folder::new("late");
-    let mut text = "0t VB\n; nothing\n".repeat(100_000);
-    text.push_str("0t DI internal 0 0 0\n0t VB\n");
-    let file = folder.put("text", text.as_bytes());
-    for output in [
-        program(&["run", "--text", &file, "--quiet"], b""),
-        program(&["run", "--text", "-", "--quiet"], text.as_bytes()),
-    ] {
-        let said = stderr(&output);
-        assert!(said.contains("offset 600,000 bytes, item 100,001, line 200,001\n"), "{said}");
+    for count in [100_000, CHUNK_LEN / SECOND.len()] {
+        let mut text = "0t VB\n; nothing\n".repeat(count);
+        text.push_str("0t DI internal 0 0 0\n0t VB\n");
+        let file = folder.put("text", text.as_bytes());
+        let place =
+            format!("offset {} bytes, item {}, line {}\n", 6 * count, count + 1, 2 * count + 1);
+        for output in [
+            program(&["run", "--text", &file, "--quiet"], b""),
+            program(&["run", "--text", "-", "--quiet"], text.as_bytes()),
+        ] {
+            let said = stderr(&output).replace(',', "");
+            assert!(said.contains(&place.replace(',', "")), "{said}");
+        }
     }
 }
 
