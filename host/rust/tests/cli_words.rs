@@ -33,6 +33,37 @@ fn every_command_has_help_and_version() {
     }
     assert_eq!(stdout(&program(&["-V"], b"")), version);
     assert_eq!(stdout(&program(&["--version"], b"")), version);
+    // Help comes first, whatever else is wrong.
+    let wrong = program(&["run", "--fly", "a", "b", "--help"], b"");
+    assert_eq!(wrong.stdout, program(&["run", "--help"], b"").stdout);
+}
+
+/// No time without its unit in full: VIA ticks, nanoseconds, microseconds, seconds.
+#[test]
+fn units_in_full() {
+    let folder = Folder::new("units");
+    let image = folder.put("image", Machine::fresh().image());
+    let mut said: Vec<String> =
+        COMMANDS.map(|name| stdout(&program(&[name, "--help"], b""))).into();
+    for words in [&[][..], &["help"], &["man"], &["image", &image], &["bench", "--records=10"]] {
+        said.push(stdout(&program(words, b"")));
+    }
+    let refused = program(&["run", "--text", "-"], b"9us SE\n7t PW 8s\n0t DI internal 0 0 0\n");
+    let wrong = program(&["asm"], b"5 SE\n90000us SE\n70000t SE\nx SE\n0t PW 5\n0t PW x\n");
+    said.extend([stdout(&refused), stderr(&refused), stderr(&wrong)]);
+    for text in said {
+        // The text form has its units at the numbers, as 12t.
+        let text = text.replace("one-second tick", "");
+        let words: Vec<&str> = text.split_whitespace().collect();
+        for pair in words.windows(2) {
+            let word = pair[1].trim_matches(|c: char| !c.is_alphanumeric());
+            let short = ["s", "sec", "ms", "us", "ns", "\u{B5}s"].contains(&word);
+            let number = pair[0].ends_with(|c: char| c.is_ascii_digit());
+            assert!(!(short && number), "{pair:?} in {text}");
+            let bare = ["tick", "ticks"].contains(&word) && !pair[0].ends_with("VIA");
+            assert!(!bare, "{pair:?} in {text}");
+        }
+    }
 }
 
 #[test]

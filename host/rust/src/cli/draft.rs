@@ -4,6 +4,7 @@
 //! even a program that is killed leaves something behind. Elsewhere (FAT, NFS) it is written under a
 //! hidden name that nobody else has, which is removed where the program fails or a signal ends it.
 
+use super::failure::reason;
 use super::sys;
 use std::collections::hash_map::RandomState;
 use std::fs::{self, File, Metadata, OpenOptions};
@@ -102,7 +103,13 @@ impl Draft {
     fn begin(target: Target, file: Option<File>) -> io::Result<Draft> {
         let (file, name) = match file {
             Some(file) => (file, None),
-            None => named(&folder_of(&target.path))?,
+            None => {
+                let folder = folder_of(&target.path);
+                named(&folder).map_err(|error| {
+                    let (folder, error) = (folder.display(), reason(&error));
+                    io::Error::other(format!("no file can be made in its folder {folder}: {error}"))
+                })?
+            }
         };
         Ok(Draft { file: BufWriter::with_capacity(1 << 16, file), target, name })
     }

@@ -58,7 +58,7 @@ pub fn failure(name: impl fmt::Display, error: io::Error) -> Failure {
 }
 
 /// An error in words, without its number.
-fn reason(error: &io::Error) -> String {
+pub fn reason(error: &io::Error) -> String {
     let words = error.to_string();
     words.split(" (os error").next().unwrap_or(&words).to_string()
 }

@@ -65,14 +65,13 @@ fn command(mut words: Vec<OsString>) -> Result<u8, Failure> {
     let Some(command) = command else {
         return Err(unknown(&name));
     };
-    let given = Given::parse(command, words)?;
-    if given.help {
+    if words::asks(&words, &["-h", "--help"]) {
         return print(&help::of(command)).map(|()| 0);
     }
-    if given.version {
+    if words::asks(&words, &["-V", "--version"]) {
         return print(VERSION).map(|()| 0);
     }
-    act(command.name, &given)
+    act(command.name, &Given::parse(command, words)?)
 }
 
 fn act(command: &str, given: &Given) -> Result<u8, Failure> {

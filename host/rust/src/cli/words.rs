@@ -11,24 +11,23 @@ pub struct Given {
     command: &'static Command,
     flags: Vec<(&'static str, OsString)>,
     operands: Vec<OsString>,
-    /// `--help` or `-h` is among them.
-    pub help: bool,
-    /// `--version` or `-V` is among them.
-    pub version: bool,
+}
+
+/// True where one of some words comes before `--`, whatever else is there.
+pub fn asks(words: &[OsString], names: &[&str]) -> bool {
+    let options = words.iter().take_while(|word| *word != OsStr::new("--"));
+    options.into_iter().any(|word| names.iter().any(|name| *word == *OsStr::new(name)))
 }
 
 impl Given {
     /// Takes the words apart: `--option value`, `--option=value`, `-o value`, `-ovalue`; after `--`
     /// there are no options.
     pub fn parse(command: &'static Command, words: Vec<OsString>) -> Result<Given, Failure> {
-        let mut given =
-            Given { command, flags: Vec::new(), operands: Vec::new(), help: false, version: false };
+        let mut given = Given { command, flags: Vec::new(), operands: Vec::new() };
         let mut words = words.into_iter();
         while let Some(word) = words.next() {
             match word.as_bytes() {
                 b"--" => given.operands.extend(words.by_ref()),
-                b"-h" | b"--help" => given.help = true,
-                b"-V" | b"--version" => given.version = true,
                 [b'-', _, ..] => given.option(&word, &mut words)?,
                 _ => given.operands.push(word),
             }
