@@ -352,6 +352,7 @@ fn the_man_page() {
     for word in COMMANDS.iter().chain(&["\\-\\-strict", "\\-\\-vcd", "microseconds", "VIA ticks"]) {
         assert!(text.contains(word), "{word}");
     }
+    assert!(!text.contains("\n\n"), "an empty line would be a break");
     if has("groff") {
         let output = shell(&folder, "groff -ww -b -man -Tutf8 -z swarmtempo.1", &[], b"");
         assert_eq!((status(&output), stderr(&output)), (0, String::new()));

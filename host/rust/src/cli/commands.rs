@@ -140,8 +140,8 @@ pub const COMMANDS: [Command; 10] = [
         name: "completions",
         operand: "SHELL",
         brief: "completions for a shell: bash, zsh or fish",
-        about: "Writes completions. In bash: source <(swarmtempo completions bash)\n\
-                In zsh, to a file named _swarmtempo in a folder of $fpath; in fish, to\n\
+        about: "Writes completions. For bash, in ~/.bashrc: source <(swarmtempo completions bash). For zsh, to\n\
+                a file named _swarmtempo in a folder of $fpath. For fish, to\n\
                 ~/.config/fish/completions/swarmtempo.fish",
         flags: &[OUT],
     },

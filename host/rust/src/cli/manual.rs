@@ -9,11 +9,9 @@ pub fn page() -> String {
     out.push_str(".SH NAME\nswarmtempo \\- lists and state images of the board\n");
     out.push_str(".SH SYNOPSIS\n.B swarmtempo\n");
     for command in &COMMANDS {
-        let operand = escaped(command.operand);
-        out.push_str(&format!(".br\n.B swarmtempo {}\n{operand}\n", command.name));
-        if !command.flags.is_empty() {
-            out.push_str("[OPTIONS]\n");
-        }
+        let options = if command.flags.is_empty() { "" } else { "[OPTIONS]" };
+        let rest = escaped(format!("{} {options}", command.operand).trim());
+        out.push_str(&format!(".br\n\\fBswarmtempo {}\\fR {rest}\n", command.name));
     }
     out.push_str(".SH DESCRIPTION\n");
     paragraph(
@@ -40,8 +38,6 @@ pub fn page() -> String {
 
 fn section(command: &Command, out: &mut String) {
     out.push_str(&format!(".SS {} {}\n", command.name, escaped(command.operand)));
-    paragraph(&format!("{}.", command.brief), out);
-    out.push_str(".PP\n");
     paragraph(command.about, out);
     for flag in command.flags {
         let name = escaped(flag.name);
