@@ -440,6 +440,15 @@ fn a_dump_from_an_image() {
     assert_eq!(dump.tracks["internal_motor"], [(0, 1)]);
 }
 
+/// Text to records between two pipes, more than the memory, and back.
+#[test]
+fn converts_in_fixed_memory() {
+    let script = "yes '1t SE' | head -n 6000000 | (ulimit -v 32768; \"$0\" asm) | \
+                  (ulimit -v 32768; \"$0\" disasm) | uniq -c";
+    let output = feed(Command::new("sh").args(["-c", script, PROGRAM]), b"");
+    assert_eq!(stdout(&output).trim(), "6000000 1t SE", "{}", stderr(&output));
+}
+
 /// A dump longer than the memory, with drives that change at every item.
 #[test]
 fn dumps_in_fixed_memory() {

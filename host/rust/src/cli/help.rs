@@ -20,7 +20,7 @@ pub fn all() -> String {
 
 /// One command.
 pub fn of(command: &Command) -> String {
-    let mut out = format!("{}: {}\n\n{}\n", usage(command), command.brief, command.about);
+    let mut out = format!("{}\n\n{}\n", usage(command), command.about);
     if !command.flags.is_empty() {
         out.push('\n');
     }

@@ -13,7 +13,7 @@ use super::table::{Table, HEAD};
 use super::vcd::Vcd;
 use super::{image, source};
 use std::io::{self, Read};
-use swarmtempo::{pieces, Chunks, Item, Machine, Piece, Refusal, ANSWER_LEN};
+use swarmtempo::{pieces, Chunks, Item, Machine, Piece, Refusal, ViaTicks, ANSWER_LEN};
 
 /// Bytes of rows gathered before they are written.
 const ROWS_LEN: usize = 1 << 15;
@@ -221,13 +221,13 @@ impl Runner {
             return Ok(());
         };
         let refused = if answer[2..4] == *b"OK" { 0 } else { answer[4] };
-        let ticks = match piece {
+        let wait = match piece {
             Piece::Record(record) if refused == 0 => {
-                Item::read(&record[2..]).map_or(0, |(wait, _)| wait.0)
+                Item::read(&record[2..]).map_or(ViaTicks(0), |(wait, _)| wait)
             }
-            _ => 0,
+            _ => ViaTicks(0),
         };
-        vcd.item(ticks, refused, self.machine.state())
+        vcd.item(wait, refused, self.machine.state())
     }
 
     /// Files take their places; the summary.

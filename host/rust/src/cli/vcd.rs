@@ -5,7 +5,7 @@
 //! is taken after each item: what ends within a wait (a step of a drive, a timer) shows at its end.
 
 use std::io::{self, Write};
-use swarmtempo::{Command, DiskLine, Phase, State, TICKS_PER_SECOND};
+use swarmtempo::{Command, DiskLine, Phase, State, ViaTicks, TICKS_PER_SECOND};
 
 /// Nanoseconds between two items at least.
 const GAP: u64 = 10;
@@ -111,10 +111,10 @@ impl<W: Write> Vcd<W> {
         Ok(vcd)
     }
 
-    /// After an item: its wait in VIA ticks (0 where it was refused), the refusal's number or 0.
-    pub fn item(&mut self, ticks: u16, refused: u8, after: State) -> io::Result<()> {
+    /// After an item: its wait (0 where it was refused), the refusal's number or 0.
+    pub fn item(&mut self, wait: ViaTicks, refused: u8, after: State) -> io::Result<()> {
         self.items += 1;
-        self.ticks += u64::from(ticks);
+        self.ticks += u64::from(wait.0);
         let exact = u128::from(self.ticks) * 1_000_000_000 / u128::from(TICKS_PER_SECOND);
         self.time = (exact as u64).max(self.time + GAP);
         self.out.write_all(format!("#{}\n", self.time).as_bytes())?;
