@@ -10,7 +10,7 @@ use super::place::{Input, Output};
 use super::source;
 use super::summary::converted;
 use super::words::Given;
-use std::io::{self, Cursor, Read, Seek, Write};
+use std::io::{Cursor, Read, Seek, Write};
 use swarmtempo::{pieces, text, Chunks, Piece};
 
 /// What is read and what is written.
@@ -28,48 +28,30 @@ pub fn asm(given: &Given) -> Result<u8, Failure> {
     let mut out = Out::bytes(&to)?;
     let mut lines = Lines::new(&from, file)?;
     if out.can_take_back() {
-        pour(&mut lines, &from, |bytes| out.put(bytes))?;
+        lines.pour(&from, |bytes| out.put(bytes))?;
     } else if source::length(&from).is_some() {
         // Looked through first, then written.
-        pour(&mut lines, &from, |_| Ok(()))?;
+        lines.pour(&from, |_| Ok(()))?;
         lines = Lines::new(&from, source::open(&from)?)?;
-        pour(&mut lines, &from, |bytes| out.put(bytes))?;
+        lines.pour(&from, |bytes| out.put(bytes))?;
     } else {
         let mut aside = aside();
         let wrong = |error| failure("a temporary file", error);
-        pour(&mut lines, &from, |bytes| aside.write_all(bytes).map_err(wrong))?;
+        lines.pour(&from, |bytes| aside.write_all(bytes).map_err(wrong))?;
         aside.rewind().map_err(wrong)?;
-        each(&mut aside, wrong, |bytes| out.put(bytes))?;
+        let mut buffer = vec![0; 1 << 16];
+        loop {
+            match aside.read(&mut buffer).map_err(wrong)? {
+                0 => break,
+                count => out.put(&buffer[..count])?,
+            }
+        }
     }
     files::keep([out])?;
     if let Some((line, first)) = lines.converted().first {
         say(&format!("{from}: {}", converted(lines.converted().count, line, first)));
     }
     Ok(0)
-}
-
-/// All records of a text.
-fn pour(
-    lines: &mut Lines,
-    from: &Input,
-    take: impl FnMut(&[u8]) -> Result<(), Failure>,
-) -> Result<(), Failure> {
-    each(lines, |error| list_failure(from, error), take)
-}
-
-/// All bytes of a reader.
-fn each(
-    reader: &mut impl Read,
-    wrong: impl Fn(io::Error) -> Failure,
-    mut take: impl FnMut(&[u8]) -> Result<(), Failure>,
-) -> Result<(), Failure> {
-    let mut buffer = vec![0; 1 << 16];
-    loop {
-        match reader.read(&mut buffer).map_err(&wrong)? {
-            0 => return Ok(()),
-            count => take(&buffer[..count])?,
-        }
-    }
 }
 
 /// Where bytes are kept until it is known that they may be written.

@@ -109,6 +109,22 @@ impl Lines {
         }
     }
 
+    /// All records, part by part; no line is remembered.
+    pub fn pour(
+        &mut self,
+        input: &Input,
+        mut take: impl FnMut(&[u8]) -> Result<(), Failure>,
+    ) -> Result<(), Failure> {
+        let mut buffer = vec![0; 1 << 16];
+        loop {
+            match self.read(&mut buffer).map_err(|error| list_failure(input, error))? {
+                0 => return Ok(()),
+                count => take(&buffer[..count])?,
+            }
+            self.forget(u64::MAX);
+        }
+    }
+
     /// The next line's bytes into `ready`; false at the end.
     fn take_line(&mut self) -> io::Result<bool> {
         self.line.clear();

@@ -31,7 +31,7 @@ pub fn run(options: &Options) -> Result<u8, Failure> {
     if options.form == Form::Text && source::length(&options.list).is_some() {
         // The whole text first, so that nothing is run where a line is wrong.
         let mut text = Lines::new(&options.list, source::open(&options.list)?)?;
-        io::copy(&mut text, &mut io::sink()).map_err(|error| list_failure(&options.list, error))?;
+        text.pour(&options.list, |_| Ok(()))?;
     }
     let list = List::of(options, list)?;
     let mut runner = Runner::new(options, machine, outs)?;
