@@ -443,16 +443,16 @@ fn a_dump_from_an_image() {
 /// Text to records between two pipes, more than the memory, and back.
 #[test]
 fn converts_in_fixed_memory() {
-    let script = "yes '1t SE' | head -n 6000000 | (ulimit -v 32768; \"$0\" asm) | \
+    let script = "yes '1t SE' | head -n 3000000 | (ulimit -v 32768; \"$0\" asm) | \
                   (ulimit -v 32768; \"$0\" disasm) | uniq -c";
     let output = feed(Command::new("sh").args(["-c", script, PROGRAM]), b"");
-    assert_eq!(stdout(&output).trim(), "6000000 1t SE", "{}", stderr(&output));
+    assert_eq!(stdout(&output).trim(), "3000000 1t SE", "{}", stderr(&output));
     let folder = Folder::new("memory-text");
-    let list = folder.put("list.txt", &b"1t SE\n".repeat(4_000_000));
+    let list = folder.put("list.txt", &b"1t SE\n".repeat(2_500_000));
     let script = "ulimit -v 32768; \"$0\" asm \"$1\" | wc -c; \
                   exec \"$0\" run --text \"$1\" --quiet --strict --save /dev/null";
     let output = feed(Command::new("sh").args(["-c", script, PROGRAM, &list]), b"");
-    assert_eq!((status(&output), stdout(&output).trim()), (0, "24000000"), "{}", stderr(&output));
+    assert_eq!((status(&output), stdout(&output).trim()), (0, "15000000"), "{}", stderr(&output));
 }
 
 /// A dump longer than the memory, with drives that change at every item.

@@ -173,22 +173,25 @@ impl Lines {
     }
 }
 
-/// From a wrong line on no more bytes are given: the rest is looked at for its errors, and then all of
-/// them are one error.
+/// As many records as there is room for. From a wrong line on no more bytes are given: the rest is
+/// looked at for its errors, and then all of them are one error.
 impl Read for Lines {
     fn read(&mut self, buffer: &mut [u8]) -> io::Result<usize> {
-        while self.errors > 0 || self.given == self.ready.len() {
-            if !self.take_line()? {
-                return if self.errors == 0 {
-                    Ok(0)
-                } else {
-                    Err(io::Error::other(Wrong(self.errors)))
-                };
+        let mut filled = 0;
+        while filled < buffer.len() {
+            let left = &self.ready[self.given..];
+            if !left.is_empty() && self.errors == 0 {
+                let count = left.len().min(buffer.len() - filled);
+                buffer[filled..filled + count].copy_from_slice(&left[..count]);
+                filled += count;
+                self.given += count;
+            } else if !self.take_line()? {
+                break;
             }
         }
-        let count = buffer.len().min(self.ready.len() - self.given);
-        buffer[..count].copy_from_slice(&self.ready[self.given..self.given + count]);
-        self.given += count;
-        Ok(count)
+        match self.errors {
+            0 => Ok(filled),
+            errors => Err(io::Error::other(Wrong(errors))),
+        }
     }
 }
