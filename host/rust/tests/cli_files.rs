@@ -294,7 +294,7 @@ fn a_signal_while_files_take_their_places() {
     let calls = "rename,renameat,renameat2";
     let mut command = Command::new("strace");
     command.args(["-f", "-o", "/dev/null", "-e", &format!("trace={calls}")]);
-    command.args(["-e", &format!("inject={calls}:delay_enter=400000")]);
+    command.args(["-e", &format!("inject={calls}:delay_enter=1500000:when=1")]);
     command.args([PROGRAM, "run", "x", "--quiet", "--save", "a.st", "--vcd", "b.vcd"]);
     let mut child = command.current_dir(&folder.0).spawn().expect("started");
     let hidden = || {

@@ -280,7 +280,7 @@ fn files_of_another_kind_are_named() {
         (["run", &image], "image: a state image, not records; run takes it by --image"),
         (["run", &wide], "wide: a text in UTF-16, not records"),
         (["asm", &wide], "wide: a text in UTF-16; save it as UTF-8"),
-        (["asm", &list], "list: bytes, not a text"),
+        (["asm", &list], "list: bytes, not a text; disasm makes a text of records"),
         (["asm", &image], "image: a state image, not a text"),
     ] {
         let output = program(&words, b"");

@@ -68,12 +68,11 @@ fn for_a_while(salt: u64, mut act: impl FnMut(&mut Random)) {
     let seed = number("SWARMTEMPO_SEED", 30);
     let length = Duration::from_secs(number("SWARMTEMPO_WHILE", 2));
     let (mut random, start, mut rounds) = (Random(seed ^ salt << 32), Instant::now(), 0u64);
-    while start.elapsed() < length {
+    while start.elapsed() < length || rounds < 20 {
         act(&mut random);
         rounds += 1;
     }
     println!("seed {seed}: {rounds} rounds");
-    assert!(rounds > 10, "{rounds} rounds alone");
 }
 
 const TEXTS: [&str; 3] = [

@@ -13,6 +13,9 @@ use super::words::Given;
 use std::io::{Cursor, Read, Seek, Write};
 use swarmtempo::{pieces, text, Chunks, Piece};
 
+/// What to do with records that come as a text.
+const RECORDS: &str = "disasm makes a text of records";
+
 /// What is read and what is written.
 fn ends(command: &'static str, word: &str, given: &Given) -> Result<(Input, Output), Failure> {
     let input = given.operand()?.map_or(Input::standard(), Input::of);
@@ -26,13 +29,13 @@ pub fn asm(given: &Given) -> Result<u8, Failure> {
     let (from, to) = ends("asm", "TEXT", given)?;
     let file = source::open(&from)?;
     let mut out = Out::bytes(&to)?;
-    let mut lines = Lines::new(&from, file)?;
+    let mut lines = Lines::new(&from, file, RECORDS)?;
     if out.can_take_back() {
         lines.pour(&from, |bytes| out.put(bytes))?;
     } else if source::length(&from).is_some() {
         // Looked through first, then written.
         lines.pour(&from, |_| Ok(()))?;
-        lines = Lines::new(&from, source::open(&from)?)?;
+        lines = Lines::new(&from, source::open(&from)?, RECORDS)?;
         lines.pour(&from, |bytes| out.put(bytes))?;
     } else {
         let mut aside = aside();

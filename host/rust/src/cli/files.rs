@@ -116,6 +116,9 @@ pub fn keep(outs: impl IntoIterator<Item = Out>) -> Result<(), Failure> {
     for (name, draft) in &mut drafts {
         draft.give_name().map_err(|error| failure(name, error))?;
     }
+    if drafts.is_empty() {
+        return Ok(());
+    }
     sys::uncut(|| {
         for (name, draft) in &mut drafts {
             draft.place().map_err(|error| failure(name, error))?;

@@ -60,19 +60,18 @@ pub fn list_failure(input: &Input, error: io::Error) -> Failure {
 }
 
 impl Lines {
-    /// Begins to read a text.
-    pub fn new(input: &Input, file: Box<dyn Read>) -> Result<Lines, Failure> {
+    /// Begins to read a text; `advice` is what to do with records.
+    pub fn new(input: &Input, file: Box<dyn Read>, advice: &str) -> Result<Lines, Failure> {
         let (looks, file) = contents::sample(input, file)?;
         let mut source = BufReader::with_capacity(1 << 16, file);
         let start = source.fill_buf().map_err(|error| failure(input, error))?;
         let what = match looks {
-            Looks::Utf16 => "a text in UTF-16; save it as UTF-8",
-            Looks::Image => "a state image, not a text",
-            _ if start.contains(&0) => "bytes, not a text; records are run without --text",
-            _ => "",
+            Looks::Utf16 => Some("a text in UTF-16; save it as UTF-8".to_string()),
+            Looks::Image => Some("a state image, not a text".to_string()),
+            _ => start.contains(&0).then(|| format!("bytes, not a text; {advice}")),
         };
-        if !what.is_empty() {
-            return Err(Failure::Content(input.to_string(), what.into()));
+        if let Some(what) = what {
+            return Err(Failure::Content(input.to_string(), what));
         }
         if start.starts_with(BYTE_ORDER_MARK) {
             source.consume(BYTE_ORDER_MARK.len());

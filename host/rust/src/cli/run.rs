@@ -15,6 +15,8 @@ use super::{image, source};
 use std::io::{self, Read};
 use swarmtempo::{pieces, Chunks, Item, Machine, Piece, Refusal, ViaTicks, ANSWER_LEN};
 
+/// What to do with records that come as a text.
+const RECORDS: &str = "records are run without --text";
 /// Bytes of rows gathered before they are written.
 const ROWS_LEN: usize = 1 << 15;
 
@@ -30,7 +32,7 @@ pub fn run(options: &Options) -> Result<u8, Failure> {
     };
     if options.form == Form::Text && source::length(&options.list).is_some() {
         // The whole text first, so that nothing is run where a line is wrong.
-        let mut text = Lines::new(&options.list, source::open(&options.list)?)?;
+        let mut text = Lines::new(&options.list, source::open(&options.list)?, RECORDS)?;
         text.pour(&options.list, |_| Ok(()))?;
     }
     let list = List::of(options, list)?;
@@ -49,7 +51,7 @@ impl List {
     fn of(options: &Options, file: Box<dyn Read>) -> Result<List, Failure> {
         let input = &options.list;
         Ok(match options.form {
-            Form::Text => List::Text(Box::new(Lines::new(input, file)?)),
+            Form::Text => List::Text(Box::new(Lines::new(input, file, RECORDS)?)),
             Form::Records => List::Records(contents::sample(input, file)?.1),
             Form::Unsaid => List::Records(contents::records(input, file, "run it with --text")?),
         })
