@@ -158,7 +158,7 @@ fn runs_in_fixed_memory() {
     let script = "ulimit -v 32768; exec \"$0\" run - $1 --answers /dev/null --save image";
     let (record, line) = ([4, 0, b'S', b'E', 1, 0], b"1t SE ; a one-second tick, 1 VIA tick on\n");
     for (option, part) in [("", &record[..]), ("--text", line)] {
-        let rounds = 100_000_000 / (part.len() as u32 * 10_000);
+        let rounds = u32::try_from(100_000_000 / (part.len() * 10_000)).expect("some thousands");
         let mut command = Command::new("sh");
         command.args(["-c", script, PROGRAM, option]).current_dir(&folder.0);
         let command = command.stdin(Stdio::piped()).stderr(Stdio::piped());

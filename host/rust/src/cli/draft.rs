@@ -101,15 +101,14 @@ impl Draft {
 
     /// In a file without a name, or else in one with a name of its own.
     fn begin(target: Target, file: Option<File>) -> io::Result<Draft> {
-        let (file, name) = match file {
-            Some(file) => (file, None),
-            None => {
-                let folder = folder_of(&target.path);
-                named(&folder).map_err(|error| {
-                    let (folder, error) = (folder.display(), reason(&error));
-                    io::Error::other(format!("no file can be made in its folder {folder}: {error}"))
-                })?
-            }
+        let (file, name) = if let Some(file) = file {
+            (file, None)
+        } else {
+            let folder = folder_of(&target.path);
+            named(&folder).map_err(|error| {
+                let (folder, error) = (folder.display(), reason(&error));
+                io::Error::other(format!("no file can be made in its folder {folder}: {error}"))
+            })?
         };
         Ok(Draft { file: BufWriter::with_capacity(1 << 16, file), target, name })
     }
