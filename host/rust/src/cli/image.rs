@@ -1,4 +1,4 @@
-//! Images read, and what is wrong with one that is refused.
+//! Images read, and what is wrong with one that is refused. The layout is that of docs/FORMATS.md.
 
 use super::contents::{looks, Looks};
 use super::failure::{failure, Failure};
@@ -49,13 +49,13 @@ fn wrong(image: &[u8]) -> String {
 pub fn first_wrong(image: &[u8]) -> Option<String> {
     let mut fields = Fields { image, offset: 0, wrong: None };
     fields.head();
-    fields.via();
-    fields.clock();
-    fields.levels();
+    let enable = fields.via();
+    fields.clock(enable);
+    let strobing = fields.levels();
     for drive in ["internal", "external"] {
         fields.drive(drive);
     }
-    fields.strobe();
+    fields.strobe(strobing);
     fields.wrong
 }
 
@@ -109,7 +109,9 @@ impl Fields<'_> {
         self.field("the kind", 2, "ST (83, 84)", |value| value == kind);
     }
 
-    fn via(&mut self) {
+    /// Gives the level of the clock's enable: bit 2 of port B, 1 where it is not driven.
+    fn via(&mut self) -> bool {
+        let (out, directions) = (self.image[self.offset], self.image[self.offset + 2]);
         self.any(8);
         self.flag("T1 armed");
         self.flag("T1's load due");
@@ -118,12 +120,10 @@ impl Fields<'_> {
         self.any(3);
         self.field("the VIA's flags", 1, "0 to 127", |value| value < 128);
         self.field("the VIA's enables", 1, "0 to 127", |value| value < 128);
+        out & 4 != 0 || directions & 4 == 0
     }
 
-    fn clock(&mut self) {
-        // Port B's output bits and directions: enable is bit 2, and undriven it is 1.
-        let (out, directions) = (self.image[4], self.image[6]);
-        let enable = out & 4 != 0 || directions & 4 == 0;
+    fn clock(&mut self, enable: bool) {
         let phase = if enable {
             self.field("the clock's phase", 1, "0 while enable is 1", |value| value == 0)
         } else {
@@ -163,10 +163,9 @@ impl Fields<'_> {
         self.field(name, 1, &format!("0 in phase {phase}"), |value| value == 0)
     }
 
-    fn levels(&mut self) {
-        for line in DiskLine::ALL {
-            self.flag(&format!("disk line {}", line.name()));
-        }
+    /// Gives whether LSTRB and ENABLE are on.
+    fn levels(&mut self) -> bool {
+        let on = DiskLine::ALL.map(|line| self.flag(&format!("disk line {}", line.name())));
         for line in 0..7 {
             self.flag(&format!("IN line {line}"));
         }
@@ -175,6 +174,7 @@ impl Fields<'_> {
                 self.flag(&format!("sense register {register} of the {drive} drive"));
             }
         }
+        on[DiskLine::LSTRB.index()] && on[DiskLine::ENABLE.index()]
     }
 
     fn drive(&mut self, drive: &str) {
@@ -191,14 +191,12 @@ impl Fields<'_> {
         self.flag_if(&of("the direction of the step"), left > 0, "while a step is pending");
     }
 
-    fn strobe(&mut self) {
+    fn strobe(&mut self, strobing: bool) {
         let steady = self.image[self.offset + 4] != 0;
         let most = if steady { STROBE_TICKS } else { 0 };
         let accepted = format!("0 to {STROBE_TICKS} VIA ticks, and 0 unless it is steady");
         self.field("the time of the strobe", 4, &accepted, |value| value <= most);
-        // LSTRB and ENABLE.
-        let on = self.image[56] == 1 && self.image[57] == 1;
-        self.flag_if("the strobe's steadiness", on, "while LSTRB and ENABLE are on");
+        self.flag_if("the strobe's steadiness", strobing, "while LSTRB and ENABLE are on");
     }
 }
 
