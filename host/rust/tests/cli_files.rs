@@ -2,7 +2,9 @@
 
 mod common;
 
-use common::{feed, has, program, shell, status, stderr, stdout, Folder, PROGRAM, SECOND};
+use common::{
+    feed, program, shell, skipped, status, stderr, stdout, watches_calls, Folder, PROGRAM, SECOND,
+};
 use std::ffi::OsStr;
 use std::fs;
 use std::io::Write;
@@ -174,8 +176,7 @@ fn a_small_file_system_that_is_full() {
     let mount = "mount -t tmpfs -o size=256k none disk";
     let tried = shell(&folder, &format!("unshare -rm sh -c '{mount}'"), &[], b"");
     if !tried.status.success() {
-        println!("no file system can be mounted here: {}", stderr(&tried));
-        return;
+        return skipped("a small file system that is full", &stderr(&tried));
     }
     let run = "\"$0\" run big --save disk/end.st --vcd disk/new.vcd --quiet";
     let script = format!(
@@ -270,8 +271,7 @@ fn synced_before_it_takes_its_place() {
     folder.put("x", &SECOND);
     let script = "strace -f -o calls -e trace=fsync,fdatasync,rename,renameat,renameat2 \
                   \"$0\" run x --quiet --save a.st --vcd b.vcd";
-    if !has("strace") || status(&shell(&folder, "strace -o /dev/null true", &[], b"")) != 0 {
-        println!("no strace here");
+    if !watches_calls(&folder, "files synced before they take their places") {
         return;
     }
     assert_eq!(status(&shell(&folder, script, &[], b"")), 0);
@@ -287,8 +287,7 @@ fn synced_before_it_takes_its_place() {
 fn a_signal_while_files_take_their_places() {
     let folder = Folder::new("placing");
     folder.put("x", &SECOND);
-    if !has("strace") || status(&shell(&folder, "strace -o /dev/null true", &[], b"")) != 0 {
-        println!("no strace here");
+    if !watches_calls(&folder, "a signal while files take their places") {
         return;
     }
     let calls = "rename,renameat,renameat2";

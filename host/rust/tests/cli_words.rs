@@ -353,7 +353,7 @@ fn the_man_page() {
         assert!(text.contains(word), "{word}");
     }
     assert!(!text.contains("\n\n"), "an empty line would be a break");
-    if has("groff") {
+    if has("groff", "the man page through groff") {
         let output = shell(&folder, "groff -ww -b -man -Tutf8 -z swarmtempo.1", &[], b"");
         assert_eq!((status(&output), stderr(&output)), (0, String::new()));
     }
@@ -366,12 +366,12 @@ fn completions_complete() {
         for word in COMMANDS.iter().chain(&["strict", "vcd"]) {
             assert!(text.contains(word), "{shell}: {word}");
         }
-        if has(shell) {
+        if has(shell, "completions read by their shell") {
             let output = feed(Command::new(shell).args(["-n", "/dev/stdin"]), text.as_bytes());
             assert_eq!((status(&output), stderr(&output)), (0, String::new()), "{shell}");
         }
     }
-    if !has("bash") {
+    if !has("bash", "completions asked") {
         return;
     }
     let folder = Folder::new("completions");
@@ -402,7 +402,7 @@ fn colours_where_they_are_wanted() {
     let coloured = program(&["run", "-", "--color=always"], &refused);
     assert!(stdout(&coloured).contains("\x1b[31m       1 "), "{}", stdout(&coloured));
     assert!(stderr(&coloured).contains("\x1b[31m    NO 3 "), "{}", stderr(&coloured));
-    if !has("script") {
+    if !has("script", "colours on a terminal") {
         return;
     }
     // On a terminal, which `script` stands in for.
@@ -425,7 +425,8 @@ fn colours_where_they_are_wanted() {
 /// The bar of a long run fits a narrow terminal, and stays away from a dumb one.
 #[test]
 fn the_bar_fits() {
-    if !has("script") || !has("stty") {
+    let what = "the bar on a terminal";
+    if !has("script", what) || !has("stty", what) {
         return;
     }
     let folder = Folder::new("bar");

@@ -93,7 +93,10 @@ fn zsh() -> String {
         ));
         for flag in command.flags {
             let help = plain(flag.help);
-            out.push_str(&format!(" \\\n        '{}[{help}]", flag.name));
+            // A value follows a long option as a word, or after `=`.
+            let long = flag.name.starts_with("--") && !flag.value.is_empty();
+            let equals = if long { "=" } else { "" };
+            out.push_str(&format!(" \\\n        '{}{equals}[{help}]", flag.name));
             if !flag.value.is_empty() {
                 out.push_str(&format!(":{}:{}", flag.value, action(flag.value)));
             }

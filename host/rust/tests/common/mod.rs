@@ -76,10 +76,31 @@ pub fn shell(folder: &Folder, script: &str, words: &[&str], input: &[u8]) -> Out
     feed(&mut command, input)
 }
 
-/// True where a program can be run here.
-pub fn has(program: &str) -> bool {
+/// True where a program can be run here; else a line says what is left out, which host/check shows.
+pub fn has(program: &str, what: &str) -> bool {
     let found = Command::new("sh").args(["-c", "command -v \"$0\"", program]).output();
-    found.is_ok_and(|found| found.status.success())
+    let has = found.is_ok_and(|found| found.status.success());
+    if !has {
+        skipped(what, &format!("no {program} here"));
+    }
+    has
+}
+
+/// Says what is left out, and why.
+pub fn skipped(what: &str, why: &str) {
+    println!("skipped: {what}: {}", why.trim());
+}
+
+/// True where the system's calls can be watched; else a line says what is left out.
+pub fn watches_calls(folder: &Folder, what: &str) -> bool {
+    if !has("strace", what) {
+        return false;
+    }
+    let tried = shell(folder, "strace -o /dev/null true", &[], b"");
+    if !tried.status.success() {
+        skipped(what, &stderr(&tried));
+    }
+    tried.status.success()
 }
 
 /// A record of a one-second tick after one VIA tick.
