@@ -1,77 +1,15 @@
 //! The command line, run as a program.
 
+mod common;
+
+use common::{feed, program, status, stderr, stdout, Folder, PROGRAM};
 use std::collections::HashMap;
-use std::fs;
 use std::io::Write;
-use std::path::{Path, PathBuf};
-use std::process::{Command, Output, Stdio};
+use std::process::{Command, Stdio};
 use swarmtempo::{
     answers, pieces, Address, Answer, Item, List, Machine, Piece, Refusal, Register, State,
     ViaTicks,
 };
-
-const PROGRAM: &str = env!("CARGO_BIN_EXE_swarmtempo");
-
-/// A folder of its own for each test.
-struct Folder(PathBuf);
-
-impl Folder {
-    fn new(name: &str) -> Folder {
-        let path = Path::new(env!("CARGO_TARGET_TMPDIR")).join(name);
-        let _ = fs::remove_dir_all(&path);
-        fs::create_dir_all(&path).expect("a folder");
-        Folder(path)
-    }
-
-    fn path(&self, name: &str) -> String {
-        self.0.join(name).to_str().expect("UTF-8").to_string()
-    }
-
-    fn put(&self, name: &str, bytes: &[u8]) -> String {
-        fs::write(self.path(name), bytes).expect("written");
-        self.path(name)
-    }
-
-    fn get(&self, name: &str) -> Vec<u8> {
-        fs::read(self.path(name)).expect("there")
-    }
-
-    /// Names of all files.
-    fn names(&self) -> Vec<String> {
-        let entries = fs::read_dir(&self.0).expect("a folder");
-        let mut names: Vec<String> =
-            entries.map(|e| e.expect("entry").file_name().into_string().expect("UTF-8")).collect();
-        names.sort();
-        names
-    }
-}
-
-fn program(words: &[&str], input: &[u8]) -> Output {
-    feed(Command::new(PROGRAM).args(words), input)
-}
-
-fn feed(command: &mut Command, input: &[u8]) -> Output {
-    let command = command.stdin(Stdio::piped()).stdout(Stdio::piped()).stderr(Stdio::piped());
-    let mut child = command.spawn().expect("started");
-    let mut stdin = child.stdin.take().expect("piped");
-    let input = input.to_vec();
-    let writer = std::thread::spawn(move || drop(stdin.write_all(&input)));
-    let output = child.wait_with_output().expect("ended");
-    writer.join().expect("written");
-    output
-}
-
-fn status(output: &Output) -> i32 {
-    output.status.code().expect("a status")
-}
-
-fn stdout(output: &Output) -> String {
-    String::from_utf8(output.stdout.clone()).expect("UTF-8")
-}
-
-fn stderr(output: &Output) -> String {
-    String::from_utf8(output.stderr.clone()).expect("UTF-8")
-}
 
 fn port_b(value: u8) -> Item {
     Item::Write(Address::Via(Register::ORB), value)
@@ -126,14 +64,14 @@ fn a_wrong_line_leaves_nothing() {
     for output in runs {
         assert_eq!(status(&output), 65);
         assert!(output.stdout.is_empty());
-        assert!(stderr(&output).contains("line 3, column 7"), "{}", stderr(&output));
+        assert!(stderr(&output).contains("text:3:7: "), "{}", stderr(&output));
     }
     let piped = program(
         &["run", "--text", "-", "--answers", &folder.path("answers")],
         b"0t SE\nRAW \xFF\n",
     );
     assert_eq!(status(&piped), 65);
-    assert!(stderr(&piped).contains("line 2, column 5"), "{}", stderr(&piped));
+    assert!(stderr(&piped).contains("standard input:2:5: "), "{}", stderr(&piped));
     assert_eq!(folder.names(), ["text"]);
 }
 
@@ -155,7 +93,7 @@ fn exit_statuses() {
         (&["run", &list, "--room", "x"], 64),
         (&["run", &list, "--save"], 64),
         (&["fly"], 64),
-        (&[], 64),
+        (&[], 0),
         (&["run", &folder.path("missing")], 74),
         (&["run", &list, "--save", &folder.path("no/folder")], 74),
         (&["help"], 0),
@@ -196,7 +134,11 @@ fn long_lists_equal_one_run() {
     assert!(folder.get("answers") == expected);
     assert_eq!(folder.get("image"), machine.image());
     let counts = format!("{} bytes consumed, {} bytes written", run.consumed, run.written);
-    assert!(stderr(&output).contains(&counts), "{}", stderr(&output));
+    assert!(
+        stderr(&output).replace(',', "").contains(&counts.replace(',', "")),
+        "{}",
+        stderr(&output)
+    );
     let piped = program(&["run", "-", "--answers", "-", "--quiet"], list.as_bytes());
     assert!(piped.stdout == expected);
     let text = program(&["disasm"], list.as_bytes()).stdout;
@@ -209,17 +151,27 @@ fn long_lists_equal_one_run() {
     assert!(short.stdout[..] == expected[..expected.len() - 24]);
 }
 
+/// 100 MB, as records and as text, in 32 MB of address space.
 #[test]
 fn runs_in_fixed_memory() {
-    let record = [4, 0, b'S', b'E', 1, 0];
-    let input = record.repeat(8_000_000);
-    let script = "ulimit -v 32768; exec \"$0\" run - --answers /dev/null --save \"$1\"";
     let folder = Folder::new("memory");
-    let image = folder.path("image");
-    let output = feed(Command::new("sh").args(["-c", script, PROGRAM, &image]), &input);
-    assert_eq!(status(&output), 0, "{}", stderr(&output));
-    let machine = Machine::from_image(&folder.get("image")).expect("accepted");
-    assert_eq!(machine.state().seconds.0, 8_000_000);
+    let script = "ulimit -v 32768; exec \"$0\" run - $1 --answers /dev/null --save image";
+    let (record, line) = ([4, 0, b'S', b'E', 1, 0], b"1t SE ; a one-second tick, 1 VIA tick on\n");
+    for (option, part) in [("", &record[..]), ("--text", line)] {
+        let rounds = u32::try_from(100_000_000 / (part.len() * 10_000)).expect("some thousands");
+        let mut command = Command::new("sh");
+        command.args(["-c", script, PROGRAM, option]).current_dir(&folder.0);
+        let command = command.stdin(Stdio::piped()).stderr(Stdio::piped());
+        let mut child = command.spawn().expect("started");
+        let mut list = child.stdin.take().expect("piped");
+        let many = part.repeat(10_000);
+        (0..rounds).for_each(|_| list.write_all(&many).expect("taken"));
+        drop(list);
+        let output = child.wait_with_output().expect("ended");
+        assert_eq!(status(&output), 0, "{option}: {}", stderr(&output));
+        let machine = Machine::from_image(&folder.get("image")).expect("accepted");
+        assert_eq!(machine.state().seconds.0, 10_000 * rounds);
+    }
 }
 
 #[test]
@@ -271,7 +223,7 @@ fn drives_lines_and_test_in_words() {
     };
     let words = words_after("stepping", until("9400t").as_bytes(), true);
     let stepping = "internal  track 0, towards track 79, disk, double-sided, motor on, \
-                    stepping towards track 79 with 9401 ticks left\n";
+                    stepping towards track 79 with 9401 VIA ticks left\n";
     assert!(words.contains(stepping), "{words}");
     let external = "external  track 0, towards track 79, no disk, single-sided, motor off\n";
     assert!(words.contains(external), "{words}");
@@ -285,7 +237,7 @@ fn drives_lines_and_test_in_words() {
     assert!(words.contains("internal  track 2, "), "{words}");
     assert!(words.contains("external  track 1, "), "{words}");
     let words = words_after("strobe", (until("65280t") + "\n500t VB\n").as_bytes(), true);
-    assert!(words.contains("strobe    steady for 500 ticks\n"), "{words}");
+    assert!(words.contains("strobe    steady for 500 VIA ticks\n"), "{words}");
     // Test bit 7 or 6 stops the seconds, and no other bit.
     for test in [0x00, 0x3F, 0x40, 0x80, 0xC1] {
         let mut list = clock_write(0x31, test);
@@ -293,7 +245,7 @@ fn drives_lines_and_test_in_words() {
         let words = words_after("test", list.as_bytes(), false);
         let (stopped, seconds) = if test < 64 { ("", 1) } else { (" (seconds stopped)", 0) };
         assert!(words.contains(&format!("test      ${test:02X}{stopped}\n")), "{words}");
-        assert!(words.contains(&format!("seconds   {seconds} s: ")), "{words}");
+        assert!(words.contains(&format!("seconds   {seconds} seconds: ")), "{words}");
     }
 }
 
@@ -486,6 +438,21 @@ fn a_dump_from_an_image() {
     assert_eq!(dump.tracks["internal_step"], [(0, 1), (nanoseconds(9_401), 0)]);
     assert_eq!(dump.tracks["internal_track"], [(0, 0), (nanoseconds(9_401), 1)]);
     assert_eq!(dump.tracks["internal_motor"], [(0, 1)]);
+}
+
+/// Text to records between two pipes, more than the memory, and back.
+#[test]
+fn converts_in_fixed_memory() {
+    let script = "yes '1t SE' | head -n 3000000 | (ulimit -v 32768; \"$0\" asm) | \
+                  (ulimit -v 32768; \"$0\" disasm) | uniq -c";
+    let output = feed(Command::new("sh").args(["-c", script, PROGRAM]), b"");
+    assert_eq!(stdout(&output).trim(), "3000000 1t SE", "{}", stderr(&output));
+    let folder = Folder::new("memory-text");
+    let list = folder.put("list.txt", &b"1t SE\n".repeat(2_500_000));
+    let script = "ulimit -v 32768; \"$0\" asm \"$1\" | wc -c; \
+                  exec \"$0\" run --text \"$1\" --quiet --strict --save /dev/null";
+    let output = feed(Command::new("sh").args(["-c", script, PROGRAM, &list]), b"");
+    assert_eq!((status(&output), stdout(&output).trim()), (0, "15000000"), "{}", stderr(&output));
 }
 
 /// A dump longer than the memory, with drives that change at every item.

@@ -1,7 +1,7 @@
 //! How fast runs are, beside a plain model of the same board.
 
+use super::failure::Failure;
 use super::files::print;
-use super::Failure;
 use std::time::{Duration, Instant};
 use swarmtempo::{
     Address, DiskLine, Drive, InLine, Item, List, Machine, Register, Seconds, SenseRegister,
@@ -67,11 +67,11 @@ fn lists(records: usize) -> Vec<(&'static str, List)> {
         refused.push_raw(&[5, 0, b'S', b'E', 0, 0, 0]);
     });
     vec![
-        ("VIA reads, wait 1t", list(records, 1, &reads)),
-        ("clock writes, wait 0t", list(records, 0, &clock)),
-        ("timers, wait 65535t", list(records, 65_535, &timers)),
-        ("disk lines, wait 2t", list(records, 2, &disk)),
-        ("all kinds, wait 10t", list(records, 10, &mixed)),
+        ("VIA reads, wait 1 VIA tick", list(records, 1, &reads)),
+        ("clock writes, wait 0 VIA ticks", list(records, 0, &clock)),
+        ("timers, wait 65535 VIA ticks", list(records, 65_535, &timers)),
+        ("disk lines, wait 2 VIA ticks", list(records, 2, &disk)),
+        ("all kinds, wait 10 VIA ticks", list(records, 10, &mixed)),
         ("refused records", refused),
     ]
 }
@@ -89,7 +89,10 @@ fn best(mut run: impl FnMut()) -> Duration {
 /// Prints a row for each kind of list.
 pub fn bench(records: usize) -> Result<(), Failure> {
     print(&format!("{records} records a list, one run each, the best of {ROUNDS} rounds\n"))?;
-    print("list                     library: records/s   ns/record   model: ns/record   ratio\n")?;
+    let (library, model) = ("library: nanoseconds", "model: nanoseconds");
+    print(&format!("{:<32} {:>17} {library:>21} {model:>21}\n", "", "library: records"))?;
+    let each = "a record";
+    print(&format!("{:<32} {:>17} {each:>21} {each:>21} {:>7}\n", "list", "a second", "ratio"))?;
     let mut answers = vec![0; ANSWER_LEN * records];
     let mut other = vec![0; ANSWER_LEN * records];
     for (name, list) in lists(records) {
@@ -103,9 +106,10 @@ pub fn bench(records: usize) -> Result<(), Failure> {
             assert_eq!(run_image(&mut image, list.as_bytes(), &mut other).stop, 0);
         });
         assert_eq!(answers, other, "library and model differ on {name}");
-        let ns = |time: Duration| time.as_secs_f64() * 1e9 / records as f64;
+        let each = u32::try_from(records).map_or(f64::MAX, f64::from);
+        let ns = |time: Duration| time.as_secs_f64() * 1e9 / each;
         print(&format!(
-            "{name:<24} {:>19.0} {:>11.1} {:>18.1} {:>7.2}\n",
+            "{name:<32} {:>17.0} {:>21.1} {:>21.1} {:>7.2}\n",
             1e9 / ns(library),
             ns(library),
             ns(model),

@@ -1,65 +1,89 @@
 //! `swarmtempo run`: a list streamed through the machine in fixed memory.
 
-use super::files::Out;
+use super::contents::{self, Sampled};
+use super::failure::{failure, Failure};
+use super::files::{self, say, Out};
+use super::lines::{list_failure, Lines};
+use super::place::Output;
+use super::progress::Progress;
+use super::request::{Form, Options};
+use super::style::Style;
+use super::summary::{End, Summary};
 use super::table::{Table, HEAD};
 use super::vcd::Vcd;
-use super::{failure, source, Failure};
-use std::io::{self, IsTerminal, Read, Write};
-use std::time::{Duration, Instant};
-use swarmtempo::{pieces, Chunks, Item, Machine, Piece, Refusal, ANSWER_LEN};
+use super::{image, source};
+use std::io::{self, Read};
+use swarmtempo::{pieces, Chunks, Item, Machine, Piece, Refusal, ViaTicks, ANSWER_LEN};
 
-/// The words of the command.
-pub struct Options {
-    /// The list is in the text form.
-    pub text: bool,
-    /// No table and no closing line.
-    pub quiet: bool,
-    /// The image to begin with.
-    pub image: Option<String>,
-    /// Where the image reached goes.
-    pub save: Option<String>,
-    /// Where the answers go, as bytes.
-    pub answers: Option<String>,
-    /// Where the dump goes.
-    pub vcd: Option<String>,
-    /// Answer bytes in all.
-    pub room: Option<u64>,
-    /// The list.
-    pub list: String,
-}
+/// What to do with records that come as a text.
+const RECORDS: &str = "records are run without --text";
+/// Bytes of rows gathered before they are written.
+const ROWS_LEN: usize = 1 << 15;
 
 /// Runs, and gives the exit status.
-pub fn run(options: Options) -> Result<u8, Failure> {
-    let machine = match &options.image {
-        Some(name) => source::image(name)?,
+pub fn run(options: &Options) -> Result<u8, Failure> {
+    let list = source::open(&options.list)?;
+    let image = options.image.as_ref().map(|input| Ok((input, source::open(input)?)));
+    let image = image.transpose()?;
+    let outs = Outs::open(options)?;
+    let machine = match image {
+        Some((input, file)) => image::read(input, file)?,
         None => Machine::fresh(),
     };
-    if options.text && source::length(&options.list).is_some() {
-        // The whole text first, so that a wrong line leaves nothing behind.
-        io::copy(&mut source::text(&options.list)?, &mut io::sink())
-            .map_err(|error| failure(&options.list, error))?;
+    if options.form == Form::Text && source::length(&options.list).is_some() {
+        // The whole text first, so that nothing is run where a line is wrong.
+        let mut text = Lines::new(&options.list, source::open(&options.list)?, RECORDS)?;
+        text.pour(&options.list, |_| Ok(()))?;
     }
-    let list =
-        if options.text { source::text(&options.list)? } else { source::bytes(&options.list)? };
-    let answers = options.answers.as_deref().map(Out::bytes).transpose()?;
-    let table = if answers.is_none() && !options.quiet { Some(Out::text("-")?) } else { None };
-    let vcd = match &options.vcd {
-        Some(name) => Some(Vcd::new(name, machine.state())?),
-        None => None,
-    };
-    let mut runner = Runner {
-        machine,
-        answers,
-        table,
-        rows: Table::default(),
-        vcd,
-        room: options.room.unwrap_or(u64::MAX),
-        stop: None,
-        consumed: 0,
-        written: 0,
-    };
-    runner.stream(list, &options)?;
-    runner.close(&options)
+    let list = List::of(options, list)?;
+    let mut runner = Runner::new(options, machine, outs)?;
+    runner.stream(list, options)?;
+    runner.close(options)
+}
+
+/// A list, as its records.
+enum List {
+    Records(Sampled),
+    Text(Box<Lines>),
+}
+
+impl List {
+    fn of(options: &Options, file: Box<dyn Read>) -> Result<List, Failure> {
+        let input = &options.list;
+        Ok(match options.form {
+            Form::Text => List::Text(Box::new(Lines::new(input, file, RECORDS)?)),
+            Form::Records => List::Records(contents::sample(input, file)?.1),
+            Form::Unsaid => List::Records(contents::records(input, file, "run it with --text")?),
+        })
+    }
+}
+
+impl Read for List {
+    fn read(&mut self, buffer: &mut [u8]) -> io::Result<usize> {
+        match self {
+            List::Records(records) => records.read(buffer),
+            List::Text(lines) => lines.read(buffer),
+        }
+    }
+}
+
+/// Where everything goes.
+struct Outs {
+    table: Option<Out>,
+    answers: Option<Out>,
+    vcd: Option<Out>,
+    save: Option<Out>,
+}
+
+impl Outs {
+    fn open(options: &Options) -> Result<Outs, Failure> {
+        Ok(Outs {
+            table: options.table().then(|| Out::text(&Output::standard())).transpose()?,
+            answers: options.answers.as_ref().map(Out::bytes).transpose()?,
+            vcd: options.vcd.as_ref().map(Out::text).transpose()?,
+            save: options.save.as_ref().map(Out::bytes).transpose()?,
+        })
+    }
 }
 
 struct Runner {
@@ -67,7 +91,10 @@ struct Runner {
     answers: Option<Out>,
     table: Option<Out>,
     rows: Table,
-    vcd: Option<Vcd>,
+    style: Style,
+    vcd: Option<Vcd<Out>>,
+    save: Option<Out>,
+    summary: Summary,
     /// Answer bytes left.
     room: u64,
     stop: Option<Refusal>,
@@ -76,34 +103,74 @@ struct Runner {
 }
 
 impl Runner {
-    fn stream(&mut self, list: Box<dyn Read>, options: &Options) -> Result<(), Failure> {
-        let mut progress = Progress::new(options);
+    fn new(options: &Options, machine: Machine, outs: Outs) -> Result<Runner, Failure> {
+        let vcd = match outs.vcd {
+            Some(out) => Some(Vcd::new(out, machine.state()).map_err(|e| of_dump(options, e))?),
+            None => None,
+        };
+        Ok(Runner {
+            summary: Summary::new(machine.state()),
+            machine,
+            answers: outs.answers,
+            table: outs.table,
+            rows: Table::default(),
+            style: Style::of_output(options.colour),
+            vcd,
+            save: outs.save,
+            room: options.room.unwrap_or(u64::MAX),
+            stop: None,
+            consumed: 0,
+            written: 0,
+        })
+    }
+
+    fn stream(&mut self, list: List, options: &Options) -> Result<(), Failure> {
+        let text = options.form == Form::Text;
+        let total = if text { None } else { source::length(&options.list) };
+        let mut progress = Progress::new(options.table(), total);
         let mut chunks = Chunks::new(list);
         let mut buffer = Vec::new();
         if let Some(table) = &mut self.table {
-            table.put(HEAD.as_bytes())?;
+            table.put(self.style.heading(HEAD).as_bytes())?;
         }
         while self.stop.is_none() {
-            let chunk = chunks.next().map_err(|error| failure(&options.list, error))?;
+            let chunk = chunks.next().map_err(|error| {
+                progress.clear();
+                list_failure(&options.list, error)
+            })?;
             let Some(chunk) = chunk else {
                 break;
             };
-            if self.vcd.is_none() {
-                self.step(chunk, &mut buffer)?;
-            } else {
-                // One record at a time, to see the wires after each.
-                for piece in pieces(chunk) {
-                    let (Piece::Record(bytes) | Piece::Rest(bytes)) = piece;
-                    self.step(bytes, &mut buffer)?;
-                    self.watch(piece, &buffer)?;
-                    if self.stop.is_some() {
-                        break;
-                    }
-                }
+            self.chunk(chunk, &mut buffer, options)?;
+            if let List::Text(lines) = chunks.source_mut() {
+                self.summary.find_lines(|offset| lines.line_at(offset));
+                self.summary.converted = lines.converted();
+                lines.forget(self.consumed);
             }
             progress.show(self.consumed, self.written / ANSWER_LEN as u64);
         }
         progress.clear();
+        Ok(())
+    }
+
+    /// A chunk of the list; with a dump one record at a time, to see the wires after each.
+    fn chunk(
+        &mut self,
+        chunk: &[u8],
+        buffer: &mut Vec<u8>,
+        options: &Options,
+    ) -> Result<(), Failure> {
+        if self.vcd.is_none() {
+            return self.step(chunk, buffer);
+        }
+        for piece in pieces(chunk) {
+            let (Piece::Record(bytes) | Piece::Rest(bytes)) = piece;
+            self.step(bytes, buffer)?;
+            self.watch(piece, buffer).map_err(|error| of_dump(options, error))?;
+            if self.stop.is_some() {
+                break;
+            }
+        }
         Ok(())
     }
 
@@ -114,6 +181,7 @@ impl Runner {
         buffer.resize(wanted.min(usize::try_from(self.room).unwrap_or(usize::MAX)), 0);
         let run = self.machine.run_in(part, buffer);
         buffer.truncate(run.written);
+        self.show(part, buffer)?;
         self.stop = run.stop;
         self.consumed += run.consumed as u64;
         self.written += run.written as u64;
@@ -121,128 +189,69 @@ impl Runner {
         if let Some(answers) = &mut self.answers {
             answers.put(buffer)?;
         }
-        if let Some(table) = &mut self.table {
-            let mut text = String::new();
-            for (piece, answer) in pieces(part).zip(buffer.as_chunks::<ANSWER_LEN>().0) {
-                self.rows.row(piece, answer, &mut text);
-                if text.len() > 1 << 15 {
-                    table.put(text.as_bytes())?;
-                    text.clear();
-                }
-            }
-            table.put(text.as_bytes())?;
-        }
         Ok(())
     }
 
+    /// The answers to a part of the list, counted, and as rows of the table.
+    fn show(&mut self, part: &[u8], answers: &[u8]) -> Result<(), Failure> {
+        let mut offset = self.consumed;
+        let mut rows = String::new();
+        for (piece, answer) in pieces(part).zip(answers.as_chunks::<ANSWER_LEN>().0) {
+            self.summary.note(piece, *answer, offset);
+            let (Piece::Record(bytes) | Piece::Rest(bytes)) = piece;
+            offset += bytes.len() as u64;
+            let Some(table) = &mut self.table else {
+                continue;
+            };
+            let start = rows.len();
+            self.rows.row(piece, answer, &mut rows);
+            if answer[2..4] != *b"OK" {
+                let row = self.style.refused(&rows[start..]);
+                rows.replace_range(start.., &row);
+            }
+            if rows.len() > ROWS_LEN {
+                table.put(rows.as_bytes())?;
+                rows.clear();
+            }
+        }
+        self.table.iter_mut().try_for_each(|table| table.put(rows.as_bytes()))
+    }
+
     /// A record and its answer, for the dump.
-    fn watch(&mut self, piece: Piece<'_>, answer: &[u8]) -> Result<(), Failure> {
+    fn watch(&mut self, piece: Piece<'_>, answer: &[u8]) -> io::Result<()> {
         let (Some(vcd), Some(answer)) = (&mut self.vcd, answer.first_chunk::<ANSWER_LEN>()) else {
             return Ok(());
         };
         let refused = if answer[2..4] == *b"OK" { 0 } else { answer[4] };
-        let ticks = match piece {
+        let wait = match piece {
             Piece::Record(record) if refused == 0 => {
-                Item::read(&record[2..]).map_or(0, |(wait, _)| wait.0)
+                Item::read(&record[2..]).map_or(ViaTicks(0), |(wait, _)| wait)
             }
-            _ => 0,
+            _ => ViaTicks(0),
         };
-        vcd.item(ticks, refused, self.machine.state())
+        vcd.item(wait, refused, self.machine.state())
     }
 
-    /// Files get their names; the closing line.
-    fn close(self, options: &Options) -> Result<u8, Failure> {
-        for out in [self.table, self.answers].into_iter().flatten() {
-            out.keep()?;
+    /// Files take their places; the summary.
+    fn close(mut self, options: &Options) -> Result<u8, Failure> {
+        if let Some(save) = &mut self.save {
+            save.put(self.machine.image())?;
         }
-        if let Some(vcd) = self.vcd {
-            vcd.keep()?;
-        }
-        if let Some(name) = &options.save {
-            let mut out = Out::bytes(name)?;
-            out.put(self.machine.image())?;
-            out.keep()?;
-        }
+        let vcd = self.vcd.map(Vcd::finish).transpose().map_err(|error| of_dump(options, error))?;
+        files::keep([self.table, self.answers, vcd, self.save].into_iter().flatten())?;
         let number = self.stop.map_or(0, Refusal::number);
-        if !options.quiet {
-            let why = self.stop.map_or("end of the list".to_string(), |stop| stop.to_string());
-            eprintln!(
-                "stop {number} ({why}): {} answers, {} bytes consumed, {} bytes written",
-                self.written / ANSWER_LEN as u64,
-                self.consumed,
-                self.written
-            );
-            if number == 1 && self.consumed == 0 && !options.text {
-                eprintln!("if the list is a text, give --text");
-            }
+        let refusal = self.summary.first_refusal();
+        if !options.quiet || number != 0 || refusal != 0 {
+            let (consumed, written) = (self.consumed, self.written);
+            let end = End { stop: self.stop, consumed, written, state: &self.machine.state() };
+            say(self.summary.text(&end, Style::of_errors(options.colour)).trim_end());
         }
-        Ok(number)
+        Ok(if number == 0 && options.strict { refusal } else { number })
     }
 }
 
-/// A bar on a terminal, once a run takes longer than half a second.
-struct Progress {
-    shown: bool,
-    wanted: bool,
-    /// Bytes of the list, where known.
-    total: Option<u64>,
-    start: Instant,
-    next: Duration,
-}
-
-impl Progress {
-    fn new(options: &Options) -> Progress {
-        let table_on_terminal =
-            options.answers.is_none() && !options.quiet && io::stdout().is_terminal();
-        Progress {
-            shown: false,
-            wanted: io::stderr().is_terminal() && !table_on_terminal,
-            total: if options.text { None } else { source::length(&options.list) },
-            start: Instant::now(),
-            next: Duration::from_millis(500),
-        }
-    }
-
-    fn show(&mut self, consumed: u64, records: u64) {
-        let elapsed = self.start.elapsed();
-        if !self.wanted || elapsed < self.next {
-            return;
-        }
-        self.next = elapsed + Duration::from_millis(100);
-        self.shown = true;
-        eprint!("\r{}\x1b[K", bar(consumed, self.total, records, elapsed));
-        let _ = io::stderr().flush();
-    }
-
-    fn clear(&self) {
-        if self.shown {
-            eprint!("\r\x1b[K");
-        }
-    }
-}
-
-fn bar(consumed: u64, total: Option<u64>, records: u64, elapsed: Duration) -> String {
-    let speed = records as f64 / elapsed.as_secs_f64() / 1e6;
-    let tail =
-        format!("{} MB, {records} records, {speed:.1} million a second", consumed / 1_000_000);
-    let Some(total) = total.filter(|&total| total > 0) else {
-        return tail;
-    };
-    let done = (consumed as f64 / total as f64).min(1.0);
-    let filled = (done * 30.0) as usize;
-    let left = elapsed.as_secs_f64() * (1.0 - done) / done.max(1e-9);
-    format!("[{:<30}] {:>3.0} %, {left:.0} s left, {tail}", "#".repeat(filled), done * 100.0)
-}
-
-#[cfg(test)]
-mod tests {
-    use super::*;
-
-    #[test]
-    fn bars() {
-        let second = Duration::from_secs(1);
-        let text = bar(50_000_000, Some(100_000_000), 5_000_000, second);
-        assert!(text.starts_with("[###############               ]  50 %, 1 s left"), "{text}");
-        assert!(bar(1, None, 1, second).starts_with("0 MB, 1 records"));
-    }
+/// An error of writing the dump.
+fn of_dump(options: &Options, error: io::Error) -> Failure {
+    let name = options.vcd.as_ref().map_or(String::new(), ToString::to_string);
+    failure(name, error)
 }

@@ -4,7 +4,7 @@ use swarmtempo::{text, Answer, Item, Piece, Refusal};
 
 /// The heading.
 pub const HEAD: &str =
-    "    item           tick  record                         value  level  SEL  lines on\n";
+    "    item      VIA ticks  record                         value  level  SEL  lines on\n";
 
 /// Counts items and VIA ticks, and writes rows.
 #[derive(Default)]

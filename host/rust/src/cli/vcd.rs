@@ -4,9 +4,8 @@
 //! order shows; where more than 127 come in one tick, what follows is late by that much. The state
 //! is taken after each item: what ends within a wait (a step of a drive, a timer) shows at its end.
 
-use super::files::Out;
-use super::Failure;
-use swarmtempo::{Command, DiskLine, Phase, State, TICKS_PER_SECOND};
+use std::io::{self, Write};
+use swarmtempo::{Command, DiskLine, Phase, State, ViaTicks, TICKS_PER_SECOND};
 
 /// Nanoseconds between two items at least.
 const GAP: u64 = 10;
@@ -50,8 +49,8 @@ const TRACKS: [(&str, &str, u32); COUNT] = [
 ];
 
 /// Writes a dump.
-pub struct Vcd {
-    out: Out,
+pub struct Vcd<W> {
+    out: W,
     /// What each track shows; none before the first sample.
     shown: [Option<u64>; COUNT],
     /// What the track of words shows.
@@ -71,13 +70,12 @@ struct Decoded {
     byte: u8,
 }
 
-impl Vcd {
+impl<W: Write> Vcd<W> {
     /// Begins a dump with the state before the first item.
-    pub fn new(name: &str, start: State) -> Result<Vcd, Failure> {
-        let mut out = Out::text(name)?;
+    pub fn new(mut out: W, start: State) -> io::Result<Vcd<W>> {
         let mut head = String::from("$version Swarmtempo $end\n");
         head.push_str(
-            "$comment A VIA tick is 1276.55 ns; items without a wait are 10 ns apart. $end\n",
+            "$comment A VIA tick is 1276.55 nanoseconds; items without a wait are 10 nanoseconds apart. $end\n",
         );
         head.push_str("$timescale 1 ns $end\n$scope module swarmtempo $end\n");
         let mut scope = "";
@@ -93,7 +91,7 @@ impl Vcd {
             head.push_str(&format!("$var {kind} {bits} {} {name} $end\n", code(i)));
         }
         head.push_str("$upscope $end\n$upscope $end\n$enddefinitions $end\n");
-        out.put(head.as_bytes())?;
+        out.write_all(head.as_bytes())?;
         let words = open_command(&start.phase);
         let command = if let Phase::Taking { command, .. } = start.phase { command } else { 0 };
         let decoded = Decoded { words, command, byte: 0 };
@@ -107,34 +105,34 @@ impl Vcd {
             ticks: 0,
             time: 0,
         };
-        vcd.out.put(b"#0\n$dumpvars\n")?;
+        vcd.out.write_all(b"#0\n$dumpvars\n")?;
         vcd.changes(&start, 0)?;
-        vcd.out.put(b"$end\n")?;
+        vcd.out.write_all(b"$end\n")?;
         Ok(vcd)
     }
 
-    /// After an item: its wait in VIA ticks (0 where it was refused), the refusal's number or 0.
-    pub fn item(&mut self, ticks: u16, refused: u8, after: State) -> Result<(), Failure> {
+    /// After an item: its wait (0 where it was refused), the refusal's number or 0.
+    pub fn item(&mut self, wait: ViaTicks, refused: u8, after: State) -> io::Result<()> {
         self.items += 1;
-        self.ticks += u64::from(ticks);
+        self.ticks += u64::from(wait.0);
         let exact = u128::from(self.ticks) * 1_000_000_000 / u128::from(TICKS_PER_SECOND);
         self.time = (exact as u64).max(self.time + GAP);
-        self.out.put(format!("#{}\n", self.time).as_bytes())?;
+        self.out.write_all(format!("#{}\n", self.time).as_bytes())?;
         self.decoded.follow(&self.before, &after);
         self.changes(&after, refused)?;
         self.before = after;
         Ok(())
     }
 
-    /// The end of the list.
-    pub fn keep(mut self) -> Result<(), Failure> {
+    /// The end of the list: what the dump was written to.
+    pub fn finish(mut self) -> io::Result<W> {
         let end = format!("#{}\n", self.time + GAP);
-        self.out.put(end.as_bytes())?;
-        self.out.keep()
+        self.out.write_all(end.as_bytes())?;
+        Ok(self.out)
     }
 
     /// Writes the tracks that changed.
-    fn changes(&mut self, state: &State, refused: u8) -> Result<(), Failure> {
+    fn changes(&mut self, state: &State, refused: u8) -> io::Result<()> {
         let values = self.values(state, refused);
         for (i, (value, (_, _, bits))) in values.into_iter().zip(TRACKS).enumerate() {
             let text = if bits == 0 {
@@ -152,7 +150,7 @@ impl Vcd {
                     _ => format!("b{value:b} {}\n", code(i)),
                 }
             };
-            self.out.put(text.as_bytes())?;
+            self.out.write_all(text.as_bytes())?;
         }
         Ok(())
     }

@@ -1,193 +1,169 @@
-//! A state image in words.
+//! The words after a command: options, their values, and what else is named.
 
-use swarmtempo::{Command, DriveState, Machine, Phase, State};
+use super::commands::{Command, Flag};
+use super::failure::Failure;
+use super::place::shown;
+use std::ffi::{OsStr, OsString};
+use std::os::unix::ffi::{OsStrExt, OsStringExt};
 
-const FLAGS: [&str; 7] =
-    ["0 one second", "1 vertical blanking", "2 shift register", "3 CB2", "4 CB1", "5 T2", "6 T1"];
-const INPUTS: [&str; 7] =
-    ["mouse switch", "X2", "Y2", "H4", "PA7", "serial chip asks", "programmer's switch"];
-
-/// All of a state.
-pub fn image(machine: &Machine) -> String {
-    let state = machine.state();
-    let mut out = format!("State image of kind ST, {} bytes\n", machine.image().len());
-    via(&state, &mut out);
-    clock(&state, &mut out);
-    disk(&state, &mut out);
-    out
+/// What the words of a command say.
+pub struct Given {
+    command: &'static Command,
+    flags: Vec<(&'static str, OsString)>,
+    operands: Vec<OsString>,
 }
 
-fn via(state: &State, out: &mut String) {
-    out.push_str("\nVIA\n");
-    for (name, output, dir, levels) in [
-        ("port B", state.out_b, state.dir_b, state.port_b()),
-        ("port A", state.out_a, state.dir_a, state.port_a()),
-    ] {
-        out.push_str(&format!(
-            "  {name}    output bits ${output:02X}, directions ${dir:02X} (1 is output), levels ${levels:02X} (%{levels:08b})\n"
-        ));
-    }
-    for (line, (name, &level)) in INPUTS.iter().zip(&state.inputs).enumerate() {
-        out.push_str(&format!("  IN {line}      {} ({name})\n", u8::from(level)));
-    }
-    let (t1, t2) = (state.t1, state.t2);
-    out.push_str(&format!(
-        "  T1        counter {} ticks (${0:04X}), latch {} ticks (${1:04X}), {}, {}{}\n",
-        t1.counter,
-        t1.latch,
-        if state.acr & 0x40 != 0 { "free run" } else { "one shot" },
-        armed(t1.armed),
-        if t1.due { ", load due at the next tick" } else { "" },
-    ));
-    out.push_str(&format!(
-        "  T2        counter {} ticks (${0:04X}), low latch ${:02X}, {}, {}\n",
-        t2.counter,
-        t2.low,
-        if state.acr & 0x20 != 0 { "standing still" } else { "running" },
-        armed(t2.armed),
-    ));
-    out.push_str(&format!(
-        "  SR ${:02X}, ACR ${:02X}, PCR ${:02X}\n",
-        state.sr, state.acr, state.pcr
-    ));
-    out.push_str(&format!("  flags     ${:02X}: {}\n", state.flags, flags(state.flags)));
-    out.push_str(&format!("  enables   ${:02X}: {}\n", state.enables, flags(state.enables)));
-    out.push_str(&format!("  level     {}\n", state.level()));
+/// True where one of some words comes before `--`, whatever else is there.
+pub fn asks(words: &[OsString], names: &[&str]) -> bool {
+    let options = words.iter().take_while(|word| *word != OsStr::new("--"));
+    options.into_iter().any(|word| names.iter().any(|name| *word == *OsStr::new(name)))
 }
 
-fn armed(armed: bool) -> &'static str {
-    if armed {
-        "armed"
+impl Given {
+    /// Takes the words apart: `--option value`, `--option=value`, `-o value`, `-ovalue`; after `--`
+    /// there are no options.
+    pub fn parse(command: &'static Command, words: Vec<OsString>) -> Result<Given, Failure> {
+        let mut given = Given { command, flags: Vec::new(), operands: Vec::new() };
+        let mut words = words.into_iter();
+        while let Some(word) = words.next() {
+            match word.as_bytes() {
+                b"--" => given.operands.extend(words.by_ref()),
+                [b'-', _, ..] => given.option(&word, &mut words)?,
+                _ => given.operands.push(word),
+            }
+        }
+        Ok(given)
+    }
+
+    fn wrong<T>(&self, what: &str) -> Result<T, Failure> {
+        Err(Failure::usage(self.command.name, what))
+    }
+
+    /// An option, and its value where it has one.
+    fn option(
+        &mut self,
+        word: &OsStr,
+        words: &mut impl Iterator<Item = OsString>,
+    ) -> Result<(), Failure> {
+        let (name, attached) = split(word);
+        let Some(flag) = self.command.flags.iter().find(|flag| *flag.name == *name) else {
+            return self.wrong(&unknown(&name, self.command.flags));
+        };
+        if self.flags.iter().any(|(name, _)| *name == flag.name) {
+            return self.wrong(&format!("{} is given twice", flag.name));
+        }
+        let value = match (flag.value.is_empty(), attached) {
+            (true, None) => OsString::new(),
+            (true, Some(_)) => return self.wrong(&format!("{} takes no value", flag.name)),
+            (false, Some(value)) => value,
+            (false, None) => self.next_value(flag, words)?,
+        };
+        if !flag.value.is_empty() && value.is_empty() {
+            return self.wrong(&format!("{} needs a value: {}", flag.name, flag.value));
+        }
+        self.flags.push((flag.name, value));
+        Ok(())
+    }
+
+    fn next_value(
+        &self,
+        flag: &Flag,
+        words: &mut impl Iterator<Item = OsString>,
+    ) -> Result<OsString, Failure> {
+        let Some(value) = words.next() else {
+            return self.wrong(&format!("{} needs a value: {}", flag.name, flag.value));
+        };
+        let known = |it: &Flag| value == *OsStr::new(it.name);
+        if value == *OsStr::new("--") || self.command.flags.iter().any(known) {
+            let (name, value) = (flag.name, shown(&value));
+            return self.wrong(&format!("{name} needs a value before {value}: {}", flag.value));
+        }
+        Ok(value)
+    }
+
+    /// True where an option without a value is given.
+    pub fn flag(&self, name: &str) -> bool {
+        self.flags.iter().any(|(flag, _)| *flag == name)
+    }
+
+    /// The value of an option.
+    pub fn value(&self, name: &str) -> Option<OsString> {
+        self.flags.iter().find(|(flag, _)| *flag == name).map(|(_, value)| value.clone())
+    }
+
+    /// The number that an option has for its value.
+    pub fn number(&self, name: &str) -> Result<Option<u64>, Failure> {
+        let Some(word) = self.value(name) else {
+            return Ok(None);
+        };
+        match word.to_str().and_then(|word| word.parse().ok()) {
+            Some(number) => Ok(Some(number)),
+            None => self.wrong(&format!("{name} needs a number, not `{}`", shown(&word))),
+        }
+    }
+
+    /// The one operand, where there is one.
+    pub fn operand(&self) -> Result<Option<OsString>, Failure> {
+        let most = usize::from(!self.command.operand.is_empty());
+        match self.operands.get(most) {
+            Some(extra) => self.wrong(&format!("`{}` is too much", shown(extra))),
+            None => Ok(self.operands.first().cloned()),
+        }
+    }
+
+    /// The one operand.
+    pub fn need(&self) -> Result<OsString, Failure> {
+        match self.operand()? {
+            Some(operand) => Ok(operand),
+            None => self.wrong(&format!("{} is missing", self.command.operand)),
+        }
+    }
+}
+
+/// An option's name, and a value that stands in the same word.
+fn split(word: &OsStr) -> (OsString, Option<OsString>) {
+    let bytes = word.as_bytes();
+    let at = if bytes.starts_with(b"--") {
+        bytes.iter().position(|&byte| byte == b'=')
     } else {
-        "not armed"
-    }
-}
-
-fn flags(byte: u8) -> String {
-    let set: Vec<&str> = (0..7).filter(|i| byte >> i & 1 != 0).map(|i| FLAGS[i]).collect();
-    if set.is_empty() {
-        "none".into()
-    } else {
-        set.join(", ")
-    }
-}
-
-fn clock(state: &State, out: &mut String) {
-    let wires = state.wires();
-    out.push_str("\nClock chip\n");
-    out.push_str(&format!(
-        "  wires     enable {} (low active), data-clock {}, data {}\n",
-        u8::from(wires.enable),
-        u8::from(wires.data_clock),
-        u8::from(wires.data)
-    ));
-    out.push_str(&format!("  command   {}\n", phase(&state.phase)));
-    out.push_str(&format!("  protect   {}\n", if state.protect { "set" } else { "clear" }));
-    let stopped = if state.seconds_stopped() { " (seconds stopped)" } else { "" };
-    out.push_str(&format!("  test      ${:02X}{stopped}\n", state.test));
-    out.push_str(&format!("  seconds   {} s: {}\n", state.seconds.0, date(state.seconds.0)));
-    for (row, cells) in state.cells.chunks(16).enumerate() {
-        let shown: Vec<String> = cells.iter().map(|cell| format!("{cell:02X}")).collect();
-        let name = if row == 0 { "cells" } else { "" };
-        out.push_str(&format!("  {name:<9} ${:02X}: {}\n", 16 * row, shown.join(" ")));
-    }
-}
-
-fn phase(phase: &Phase) -> String {
-    let bits = |count: u8, value: u8| match count {
-        0 => "no bits".to_string(),
-        1 => format!("1 bit, {value}"),
-        _ => format!("{count} bits, {value:0width$b}", width = usize::from(count)),
+        (bytes.len() > 2).then_some(2)
     };
-    match *phase {
-        Phase::Idle => "none, enable is up".into(),
-        Phase::Listening { bits: count, value } => {
-            format!("half-made: {} of the command taken", bits(count, value))
+    let name = |bytes: &[u8]| OsString::from_vec(bytes.to_vec());
+    match at {
+        None => (word.to_os_string(), None),
+        Some(at) => {
+            let skipped = at + usize::from(bytes[at] == b'=');
+            (name(&bytes[..at]), Some(name(&bytes[skipped..])))
         }
-        Phase::Taking { command, bits: count, value } => {
-            let name = Command::of(command).map_or(String::new(), |it| it.to_string());
-            format!("${command:02X} ({name}): {} of the data taken", bits(count, value))
-        }
-        Phase::Sending { byte, falls } => {
-            format!("sending ${byte:02X}, {falls} falls of data-clock seen")
-        }
-        Phase::Ignoring => "ignored until enable goes up".into(),
     }
 }
 
-fn disk(state: &State, out: &mut String) {
-    out.push_str("\nDisk\n");
-    out.push_str(&format!("  lines on  {}\n", state.lines));
-    out.push_str(&format!("  SEL       {}\n", u8::from(state.sel())));
-    out.push_str(
-        "  SN set    0 1 2 3 4 5 6 7 8 9 A B C D E F (0 to 5, C and F are the drive's own)\n",
-    );
-    for (name, levels) in ["internal", "external"].iter().zip(&state.sense) {
-        let shown: Vec<&str> = levels.iter().map(|&on| if on { "1" } else { "0" }).collect();
-        out.push_str(&format!("  {name}  {}\n", shown.join(" ")));
-    }
-    out.push_str("  drives\n");
-    for (name, state) in ["internal", "external"].iter().zip(&state.drives) {
-        out.push_str(&format!("  {name}  {}\n", drive(state)));
-    }
-    if state.strobe.steady {
-        out.push_str(&format!("  strobe    steady for {} ticks\n", state.strobe.ticks));
+fn unknown(name: &OsStr, flags: &[Flag]) -> String {
+    let name = shown(name);
+    match nearest(&name, flags.iter().map(|flag| flag.name)) {
+        Some(near) => format!("unknown option {name}; {near} is meant, perhaps"),
+        None => format!("unknown option {name}"),
     }
 }
 
-fn drive(drive: &DriveState) -> String {
-    let towards = |out: bool| if out { "towards track 0" } else { "towards track 79" };
-    let disk = match (drive.disk, drive.locked) {
-        (false, _) => "no disk",
-        (true, false) => "disk",
-        (true, true) => "locked disk",
-    };
-    let sides = if drive.double_sided { "double-sided" } else { "single-sided" };
-    let motor = if drive.motor { "motor on" } else { "motor off" };
-    let mut words =
-        format!("track {}, {}, {disk}, {sides}, {motor}", drive.track, towards(drive.direction));
-    if drive.step_left > 0 {
-        let way = towards(drive.step_direction);
-        words.push_str(&format!(", stepping {way} with {} ticks left", drive.step_left));
-    }
-    words
+/// The word that differs by one letter, or by two where it is longer than four.
+pub fn nearest<'a>(word: &str, from: impl Iterator<Item = &'a str>) -> Option<&'a str> {
+    let near = from.map(|name| (distance(word, name), name)).min()?;
+    (near.0 == 1 || near.0 == 2 && near.1.len() > 4).then_some(near.1)
 }
 
-/// The date of so many seconds since 1 January 1904, midnight.
-fn date(seconds: u32) -> String {
-    let (mut days, time) = (seconds / 86_400, seconds % 86_400);
-    let mut year = 1904;
-    // 1904 to 2040: 2000, the only century year, is a leap year.
-    let leap = |year: u32| year.is_multiple_of(4);
-    while days >= 365 + u32::from(leap(year)) {
-        days -= 365 + u32::from(leap(year));
-        year += 1;
-    }
-    let lengths = [31, 28 + u32::from(leap(year)), 31, 30, 31, 30, 31, 31, 30, 31, 30, 31];
-    let mut month = 0;
-    while days >= lengths[month] {
-        days -= lengths[month];
-        month += 1;
-    }
-    let (hour, minute, second) = (time / 3600, time / 60 % 60, time % 60);
-    format!("{year}-{:02}-{:02} {hour:02}:{minute:02}:{second:02}", month + 1, days + 1)
-}
-
-#[cfg(test)]
-mod tests {
-    use super::date;
-
-    #[test]
-    fn dates() {
-        for (seconds, text) in [
-            (0, "1904-01-01 00:00:00"),
-            (59 * 86_400 + 86_399, "1904-02-29 23:59:59"),
-            (366 * 86_400, "1905-01-01 00:00:00"),
-            (2_082_844_800, "1970-01-01 00:00:00"),
-            (3_034_799_999, "2000-03-01 23:59:59"),
-            (u32::MAX, "2040-02-06 06:28:15"),
-        ] {
-            assert_eq!(date(seconds), text);
+/// Letters put in, left out or changed.
+fn distance(a: &str, b: &str) -> usize {
+    let b: Vec<char> = b.chars().collect();
+    let mut row: Vec<usize> = (0..=b.len()).collect();
+    for (i, x) in a.chars().enumerate() {
+        let mut corner = row[0];
+        row[0] = i + 1;
+        for (j, &y) in b.iter().enumerate() {
+            let changed = corner + usize::from(x != y);
+            corner = row[j + 1];
+            row[j + 1] = changed.min(corner + 1).min(row[j] + 1);
         }
     }
+    row[b.len()]
 }

@@ -1,0 +1,185 @@
+//! The commands and their words: what is parsed, and what help, the man page and the completions say.
+
+/// An option of a command.
+pub struct Flag {
+    /// As `--save`, or `-o`.
+    pub name: &'static str,
+    /// What its value is, in capitals; empty where it has none.
+    pub value: &'static str,
+    /// What it does.
+    pub help: &'static str,
+}
+
+/// A command.
+pub struct Command {
+    /// Its word.
+    pub name: &'static str,
+    /// What follows it beside the options.
+    pub operand: &'static str,
+    /// What it does, in a line.
+    pub brief: &'static str,
+    /// The rest of what there is to say.
+    pub about: &'static str,
+    /// Its options.
+    pub flags: &'static [Flag],
+}
+
+const OUT: Flag = Flag {
+    name: "-o",
+    value: "FILE",
+    help: "writes to FILE, which appears whole or not at all (without it: standard output)",
+};
+
+const RUN: [Flag; 10] = [
+    Flag { name: "--text", value: "", help: "LIST is in the text form" },
+    Flag { name: "--records", value: "", help: "LIST is records even where it looks like a text" },
+    Flag {
+        name: "--image",
+        value: "FILE",
+        help: "begins with the state of this image, not with the fresh machine",
+    },
+    Flag { name: "--save", value: "FILE", help: "writes the image of the state reached" },
+    Flag {
+        name: "--answers",
+        value: "FILE",
+        help: "writes the answers as bytes, 8 each, and no table",
+    },
+    Flag {
+        name: "--vcd",
+        value: "FILE",
+        help: "writes wires, lines and drives over time as a Value Change Dump, for GTKWave",
+    },
+    Flag {
+        name: "--room",
+        value: "BYTES",
+        help: "gives the answers so many bytes in all (without it: all they need)",
+    },
+    Flag { name: "--quiet", value: "", help: "no table, and no summary where nothing is refused" },
+    Flag {
+        name: "--strict",
+        value: "",
+        help: "exits with the number of the first refusal, where any item is refused",
+    },
+    Flag {
+        name: "--color",
+        value: "WHEN",
+        help: "always, never, or auto: on a terminal, unless NO_COLOR is set or TERM is dumb",
+    },
+];
+
+/// All commands.
+pub const COMMANDS: [Command; 10] = [
+    Command {
+        name: "run",
+        operand: "LIST",
+        brief: "runs a list: a table of answers, and a summary",
+        about: "Runs a list of items (records, or text with --text) on a fresh machine, or on the state of\n\
+                --image. A LIST of - is standard input. The table goes to standard output, the summary to\n\
+                standard error: items carried out, refusals by their numbers, the duration in VIA ticks and\n\
+                seconds, what changed in the clock chip. A list of any length runs in fixed memory. All\n\
+                files asked for are written, or none; a closed pipe (as by head) ends the table alone.\n\
+                \n\
+                Exit status: 0 at the end of the list, 1 a record is cut, 6 no room for an answer, 7 the\n\
+                image is none of an accepted state; with --strict the number of the first refusal.",
+        flags: &RUN,
+    },
+    Command {
+        name: "asm",
+        operand: "[TEXT]",
+        brief: "text to records",
+        about: "Turns a list in the text form into records. Without TEXT it reads standard input. Every\n\
+                wrong line is named, as FILE:LINE:COLUMN: MESSAGE, and then nothing is written.",
+        flags: &[OUT],
+    },
+    Command {
+        name: "disasm",
+        operand: "[LIST]",
+        brief: "records to text",
+        about: "Turns records into the text form. Without LIST it reads standard input. What a run would\n\
+                refuse becomes lines of RAW bytes, so that asm gives the same bytes back for every list.",
+        flags: &[OUT, Flag {
+            name: "--records",
+            value: "",
+            help: "LIST is records even where it looks like a text",
+        }],
+    },
+    Command {
+        name: "image",
+        operand: "FILE",
+        brief: "a state image in words",
+        about: "Shows the state in an image that run --save wrote. An image of no accepted state is refused\n\
+                with the first field that is out of its range: its name, offset and value.",
+        flags: &[],
+    },
+    Command {
+        name: "sample",
+        operand: "",
+        brief: "the small list that swarmtempo alone runs, as text",
+        about: "Writes a small list in the text form, with comments, to be changed and run.",
+        flags: &[OUT],
+    },
+    Command {
+        name: "bench",
+        operand: "",
+        brief: "records a second, beside a plain model of the board",
+        about: "Times lists of several kinds, on the library and on a plain model of the same board.",
+        flags: &[Flag {
+            name: "--records",
+            value: "COUNT",
+            help: "records in each list (without it: 200000)",
+        }],
+    },
+    Command {
+        name: "man",
+        operand: "",
+        brief: "the man page",
+        about: "Writes the man page: swarmtempo man > swarmtempo.1 && man ./swarmtempo.1",
+        flags: &[OUT],
+    },
+    Command {
+        name: "completions",
+        operand: "SHELL",
+        brief: "completions for a shell: bash, zsh or fish",
+        about: "Writes completions. For bash, in ~/.bashrc: source <(swarmtempo completions bash). For zsh, to\n\
+                a file named _swarmtempo in a folder of $fpath. For fish, to\n\
+                ~/.config/fish/completions/swarmtempo.fish",
+        flags: &[OUT],
+    },
+    Command {
+        name: "help",
+        operand: "[COMMAND]",
+        brief: "this help, or a command's own",
+        about: "Shows all commands, or one command with its options, as COMMAND --help does.",
+        flags: &[],
+    },
+    Command {
+        name: "version",
+        operand: "",
+        brief: "the version",
+        about: "Shows the version, as -V and --version do.",
+        flags: &[],
+    },
+];
+
+/// The text form, the units and the statuses, for help and the man page.
+pub const TEXT_FORM: &str = "\
+12t WR VIA.ORB $41     0t RD $EFE1FE     12000us VB    0t SE     0t RS
+0t IN 3 1              0t SN internal 1 0              0t DI internal 1 0 1
+0t PW 5s               RAW 05 00                       ; comment
+";
+
+/// Units, in a sentence.
+pub const UNITS: &str = "\
+Time is in VIA ticks, 783,360 a second. In text a wait ends in t (VIA ticks) or us (microseconds,
+turned into VIA ticks and rounded up), a time off in s (seconds).";
+
+/// Statuses, in a sentence.
+pub const STATUSES: &str = "\
+Exit status of run: 0 at the end of the list, 1 a record is cut, 6 no room for an answer, 7 the image
+is none of an accepted state; with --strict the number of the first refusal. Of all commands: 64 wrong
+words, 65 an error in a text or a file of another kind, 74 a file cannot be read or written.";
+
+/// The command of a word.
+pub fn find(name: &str) -> Option<&'static Command> {
+    COMMANDS.iter().find(|command| command.name == name)
+}
