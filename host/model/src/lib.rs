@@ -3,6 +3,8 @@
 //!
 //! Time is in VIA ticks: 783,360 a second.
 
+#![allow(missing_docs, reason = "fields and functions have the names of the requirements")]
+
 mod clock;
 mod drive;
 mod image;

@@ -26,21 +26,31 @@
 //! List::new().push(Seconds(5), Item::Second);
 //! ```
 
+mod address;
 mod answer;
 mod chunks;
 mod command;
+mod error;
 mod item;
+mod list;
 mod machine;
 mod state;
-mod sys;
+pub mod sys;
+pub mod table;
 pub mod text;
+mod units;
+pub mod vcd;
+pub mod words;
 
-pub use answer::{answers, Answer, Lines, Refusal, Seen, ANSWER_LEN};
+pub use address::{Address, DiskLine, Register};
+pub use answer::{
+    answers, Answer, Answers, Lines, NoAnswer, Refusal, Seen, UnknownRefusal, ANSWER_LEN,
+};
 pub use chunks::{pieces, Chunks, Piece, Pieces, CHUNK_LEN};
 pub use command::{Command, Target};
-pub use item::{
-    Address, DiskLine, Drive, InLine, Item, List, Micros, Register, Seconds, SenseRegister,
-    TickCount, ViaTicks, TICKS_PER_SECOND,
-};
-pub use machine::{Machine, Run};
-pub use state::{DriveState, Phase, State, Strobe, Timer1, Timer2, Wires};
+pub use error::ParseError;
+pub use item::{Drive, InLine, Item, SenseRegister, Timed};
+pub use list::{items, Items, List};
+pub use machine::{Answered, Answereds, Machine, Run, Transcript};
+pub use state::{DriveState, Phase, State, Strobe, Timer1, Timer2, Wires, CELLS, IMAGE_LEN};
+pub use units::{Micros, Seconds, TickCount, TooLong, ViaTicks, TICKS_PER_SECOND};

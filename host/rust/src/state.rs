@@ -1,6 +1,12 @@
-//! An image taken apart, for showing it. The layout is that of kind ST.
+//! An image taken apart, for showing it. The layout is that of kind ST. Its words are in `words`.
 
-use crate::{Lines, Seconds};
+use crate::{DiskLine, InLine, Lines, Seconds, SenseRegister};
+
+/// Bytes of an image of kind ST.
+pub const IMAGE_LEN: usize = 123;
+
+/// Cells of the clock chip.
+pub const CELLS: usize = 20;
 
 /// Timer 1. Counter and latch in VIA ticks.
 #[derive(Clone, Copy, Debug, PartialEq, Eq)]
@@ -60,6 +66,7 @@ pub enum Phase {
 
 /// A drive.
 #[derive(Clone, Copy, Debug, PartialEq, Eq)]
+#[allow(clippy::struct_excessive_bools, reason = "they are the drive's lines")]
 pub struct DriveState {
     /// 0 to 79.
     pub track: u8,
@@ -133,13 +140,13 @@ pub struct State {
     /// The chip's count, from 1 January 1904.
     pub seconds: Seconds,
     /// Parameter memory.
-    pub cells: Vec<u8>,
+    pub cells: [u8; CELLS],
     /// The disk lines.
     pub lines: Lines,
     /// The levels of the IN lines.
-    pub inputs: Vec<bool>,
+    pub inputs: [bool; InLine::COUNT as usize],
     /// The levels of the sense registers, internal drive first.
-    pub sense: [[bool; 16]; 2],
+    pub sense: [[bool; SenseRegister::COUNT as usize]; 2],
     /// The drives, internal first.
     pub drives: [DriveState; 2],
     /// The strobe under way.
@@ -151,7 +158,7 @@ struct Fields<'a>(&'a [u8]);
 
 impl Fields<'_> {
     fn bytes<const N: usize>(&mut self) -> [u8; N] {
-        let (taken, rest) = self.0.split_first_chunk::<N>().expect("an accepted image is whole");
+        let (taken, rest) = self.0.split_first_chunk().expect("an accepted image is whole");
         self.0 = rest;
         *taken
     }
@@ -170,6 +177,11 @@ impl Fields<'_> {
 
     fn flags<const N: usize>(&mut self) -> [bool; N] {
         self.bytes::<N>().map(|byte| byte != 0)
+    }
+
+    fn lines(&mut self) -> Lines {
+        let on = self.flags::<8>();
+        DiskLine::ALL.into_iter().filter(|line| on[line.index()]).collect()
     }
 
     fn drive(&mut self) -> DriveState {
@@ -218,14 +230,9 @@ impl State {
             protect: f.flag(),
             test: f.byte(),
             seconds: Seconds(u32::from_le_bytes(f.bytes())),
-            cells: f.bytes::<20>().to_vec(),
-            lines: Lines(
-                f.flags::<8>()
-                    .iter()
-                    .enumerate()
-                    .fold(0, |byte, (i, &on)| byte | u8::from(on) << i),
-            ),
-            inputs: f.flags::<7>().to_vec(),
+            cells: f.bytes(),
+            lines: f.lines(),
+            inputs: f.flags(),
             sense: [f.flags(), f.flags()],
             drives: [f.drive(), f.drive()],
             strobe: Strobe { ticks: u32::from_le_bytes(f.bytes()), steady: f.flag() },

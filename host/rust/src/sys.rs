@@ -1,56 +1,75 @@
-//! The C entry, and the only unsafe code.
+//! The C entry: its functions, declared here and nowhere else, each behind a safe one that takes
+//! slices. This is the only unsafe code.
+//!
+//! These take any bytes, also an image that no machine has; [`Machine`](crate::Machine) is for daily
+//! use. A new entry of `swarmtempo.h` has its declaration in `c` and a safe function below.
 
-use std::ffi::c_uchar;
+#![allow(unsafe_code)]
 
-extern "C" {
-    fn swarmtempo_run(
-        image: *mut c_uchar,
-        image_len: usize,
-        list: *const c_uchar,
-        list_len: usize,
-        answers: *mut c_uchar,
-        answers_len: usize,
-        consumed: *mut u64,
-        written: *mut u64,
-    ) -> u8;
-    fn swarmtempo_image_len() -> u64;
-    fn swarmtempo_ticks_of_micros(micros: u32) -> u32;
-    fn swarmtempo_fresh(image: *mut c_uchar, image_len: usize) -> u8;
+/// The declarations of `swarmtempo.h`, in its order.
+mod c {
+    extern "C" {
+        pub fn swarmtempo_run(
+            image: *mut u8,
+            image_len: usize,
+            list: *const u8,
+            list_len: usize,
+            answers: *mut u8,
+            answers_len: usize,
+            consumed: *mut u64,
+            written: *mut u64,
+        ) -> u8;
+        pub fn swarmtempo_image_len() -> u64;
+        pub fn swarmtempo_fresh(image: *mut u8, image_len: usize) -> u8;
+        pub fn swarmtempo_ticks_of_micros(micros: u32) -> u32;
+    }
 }
 
-/// The stop number, the bytes consumed and the bytes written.
-pub fn run(image: &mut [u8], list: &[u8], answers: &mut [u8]) -> (u8, usize, usize) {
-    let (mut consumed, mut written) = (0, 0);
+/// What a run reports, as numbers.
+#[derive(Clone, Copy, Debug, PartialEq, Eq)]
+pub struct Report {
+    /// 0 at the end of the list, else 1, 6 or 7.
+    pub stop: u8,
+    /// Bytes of the list consumed.
+    pub consumed: u64,
+    /// Bytes of the answers written.
+    pub written: u64,
+}
+
+/// Runs a list on the state of an image.
+pub fn run(image: &mut [u8], list: &[u8], answers: &mut [u8]) -> Report {
+    // Numbers that no run reports, so that one left unwritten would show.
+    let (mut consumed, mut written) = (u64::MAX, u64::MAX);
     // SAFETY: three slices and two numbers that live through the call and do not overlap.
     let stop = unsafe {
-        swarmtempo_run(
+        c::swarmtempo_run(
             image.as_mut_ptr(),
             image.len(),
             list.as_ptr(),
             list.len(),
             answers.as_mut_ptr(),
             answers.len(),
-            &mut consumed,
-            &mut written,
+            &raw mut consumed,
+            &raw mut written,
         )
     };
-    (stop, consumed as usize, written as usize)
+    Report { stop, consumed, written }
 }
 
 /// Bytes of an image.
-pub fn image_len() -> usize {
+pub fn image_len() -> u64 {
     // SAFETY: takes nothing.
-    unsafe { swarmtempo_image_len() as usize }
+    unsafe { c::swarmtempo_image_len() }
 }
 
-/// VIA ticks, rounded up.
-pub fn ticks_of_micros(micros: u32) -> u32 {
-    // SAFETY: takes and gives a number.
-    unsafe { swarmtempo_ticks_of_micros(micros) }
-}
-
-/// 0, or 6 where the image is too short.
+/// Writes the image of a fresh machine: 0, or 6 where there are too few bytes.
 pub fn fresh(image: &mut [u8]) -> u8 {
     // SAFETY: a slice that lives through the call.
-    unsafe { swarmtempo_fresh(image.as_mut_ptr(), image.len()) }
+    unsafe { c::swarmtempo_fresh(image.as_mut_ptr(), image.len()) }
+}
+
+/// Microseconds as VIA ticks, rounded up.
+pub fn ticks_of_micros(micros: u32) -> u32 {
+    // SAFETY: takes and gives a number.
+    unsafe { c::swarmtempo_ticks_of_micros(micros) }
 }

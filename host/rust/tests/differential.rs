@@ -4,7 +4,7 @@
 //! A difference is made small and printed.
 
 use swarmtempo::text::disassemble;
-use swarmtempo::{Address, DiskLine, Machine, Register};
+use swarmtempo::{sys, Address, DiskLine, Machine, Register};
 use swarmtempo_model as model;
 
 const LISTS: u64 = 250_000;
@@ -65,38 +65,13 @@ fn by_model(case: &Case) -> Left {
     Left { stop: run.stop, consumed: run.consumed, written: run.written, answers, image }
 }
 
-extern "C" {
-    fn swarmtempo_run(
-        image: *mut u8,
-        image_len: usize,
-        list: *const u8,
-        list_len: usize,
-        answers: *mut u8,
-        answers_len: usize,
-        consumed: *mut u64,
-        written: *mut u64,
-    ) -> u8;
-}
-
 /// By the C entry itself, so that images that are not accepted can be given too.
 fn by_library(case: &Case) -> Left {
     let (mut image, mut answers) = (case.image.clone(), vec![UNUSED; case.room]);
-    let list = case.parts.concat();
-    let (mut consumed, mut written) = (!0, !0);
-    // SAFETY: buffers of their own, with their lengths.
-    let stop = unsafe {
-        swarmtempo_run(
-            image.as_mut_ptr(),
-            image.len(),
-            list.as_ptr(),
-            list.len(),
-            answers.as_mut_ptr(),
-            answers.len(),
-            &mut consumed,
-            &mut written,
-        )
-    };
-    Left { stop, consumed: consumed as usize, written: written as usize, answers, image }
+    let run = sys::run(&mut image, &case.parts.concat(), &mut answers);
+    let [consumed, written] =
+        [run.consumed, run.written].map(|n| usize::try_from(n).expect("64 bits"));
+    Left { stop: run.stop, consumed, written, answers, image }
 }
 
 /// Builds a list part by part.

@@ -4,14 +4,13 @@ mod bench;
 mod files;
 mod run;
 mod source;
-mod table;
 mod vcd;
-mod words;
 
 use std::fmt;
 use std::io;
 use std::process::ExitCode;
 use swarmtempo::text::TextError;
+use swarmtempo::{table, words};
 use swarmtempo::{text, Chunks, Piece};
 
 const HELP: &str = "\
