@@ -26,6 +26,8 @@
 //! List::new().push(Seconds(5), Item::Second);
 //! ```
 
+#![warn(clippy::cast_possible_truncation, clippy::cast_sign_loss)]
+
 mod address;
 mod answer;
 mod chunks;
@@ -37,6 +39,11 @@ mod machine;
 mod state;
 pub mod sys;
 pub mod table;
+#[allow(
+    clippy::cast_possible_truncation,
+    clippy::missing_panics_doc,
+    reason = "a number is cut, and a value expected, once its range is checked"
+)]
 pub mod text;
 mod units;
 pub mod vcd;

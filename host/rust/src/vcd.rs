@@ -132,7 +132,7 @@ impl<W: Write> Vcd<W> {
         }
         head.push_str("$upscope $end\n$upscope $end\n$enddefinitions $end\n");
         out.write_all(head.as_bytes())?;
-        let words = open_command(&start.phase);
+        let words = open_command(start.phase);
         let command = if let Phase::Taking { command, .. } = start.phase { command } else { 0 };
         let decoded = Decoded { words, command, byte: 0 };
         let mut vcd = Vcd {
@@ -261,16 +261,18 @@ impl<W: Write> Vcd<W> {
 
 /// A track's short name: one printable character.
 fn code(track: usize) -> char {
-    char::from(b'!' + track as u8)
+    ('!'..='~').nth(track).unwrap_or('~')
 }
+
+const _: () = assert!(COUNT <= ('~' as usize - '!' as usize), "a character for each track");
 
 fn named(command: u8) -> String {
     Command::of(command).map_or(format!("${command:02X}"), |command| command.to_string())
 }
 
 /// A command that was under way before the first item.
-fn open_command(phase: &Phase) -> String {
-    match *phase {
+fn open_command(phase: Phase) -> String {
+    match phase {
         Phase::Idle => "idle".into(),
         Phase::Listening { .. } => "command".into(),
         Phase::Taking { command, .. } => named(command),

@@ -30,7 +30,7 @@ impl fmt::Display for State {
 
 impl fmt::Display for Phase {
     fn fmt(&self, f: &mut fmt::Formatter<'_>) -> fmt::Result {
-        f.write_str(&phase(self))
+        f.write_str(&phase(*self))
     }
 }
 
@@ -106,7 +106,7 @@ fn flags(byte: u8) -> String {
 fn clock(state: &State, out: &mut String) {
     out.push_str("\nClock chip\n");
     out.push_str(&format!("  wires     {}\n", state.wires()));
-    out.push_str(&format!("  command   {}\n", phase(&state.phase)));
+    out.push_str(&format!("  command   {}\n", phase(state.phase)));
     out.push_str(&format!("  protect   {}\n", if state.protect { "set" } else { "clear" }));
     let stopped = if state.seconds_stopped() { " (seconds stopped)" } else { "" };
     out.push_str(&format!("  test      ${:02X}{stopped}\n", state.test));
@@ -118,13 +118,13 @@ fn clock(state: &State, out: &mut String) {
     }
 }
 
-fn phase(phase: &Phase) -> String {
+fn phase(phase: Phase) -> String {
     let bits = |count: u8, value: u8| match count {
         0 => "no bits".to_string(),
         1 => format!("1 bit, {value}"),
         _ => format!("{count} bits, {value:0width$b}", width = usize::from(count)),
     };
-    match *phase {
+    match phase {
         Phase::Idle => "none, enable is up".into(),
         Phase::Listening { bits: count, value } => {
             format!("half-made: {} of the command taken", bits(count, value))

@@ -166,7 +166,7 @@ fn images_of_any_bytes() {
             machine.run(some_list(&mut random), &mut Vec::new());
         }
         let mut image = machine.image().to_vec();
-        for _ in 0..1 + random.below(3) {
+        for _ in 0..=random.below(3) {
             let at = random.below(image.len());
             image[at] = if random.below(2) == 0 { random.byte() } else { random.byte() % 3 };
         }
@@ -294,6 +294,7 @@ fn texts_of_any_characters() {
 
 #[test]
 fn every_command_byte() {
-    let legal = (0..=255).filter_map(Command::of).map(|command| command.to_string()).count();
-    assert_eq!(legal, 50);
+    let legal: Vec<String> = (0..=255).filter_map(Command::of).map(|it| it.to_string()).collect();
+    assert_eq!(legal.len(), 50);
+    assert!(legal.iter().all(|words| !words.is_empty()));
 }
