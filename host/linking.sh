@@ -38,6 +38,19 @@ shared_samples() {
     gcc -std=c11 -I"$clean/usr/include" c/check.c -L"$clean/usr/lib" -lswarmtempo -o "$clean/samples" && LD_LIBRARY_PATH=$clean/usr/lib "$clean/samples"
 }
 
+# What docs/SHELLS.md has in a language.
+shown_in() { sed -n "/^\`\`\`$1\$/,/^\`\`\`\$/p" "$root/docs/SHELLS.md" | sed '/^```/d'; }
+
+manual_in_c() {
+    {
+        printf '#include <stdio.h>\n#include "swarmtempo.h"\nint main(void)\n{\n'
+        shown_in c
+        printf 'return 0;\n}\n'
+    } >"$clean/shown.c"
+    gcc -std=c11 -Wall -Wextra -Werror -I"$clean/usr/include" "$clean/shown.c" "$clean/usr/lib/libswarmtempo.a" -o "$clean/shown" &&
+        "$clean/shown" | grep -qx 'flags $00, interrupt level 0'
+}
+
 # A program and whether it needs the shared library, as it should.
 linked() {
     readelf -d "$1" | grep -qF "[libswarmtempo.so.$abi]"
@@ -75,19 +88,23 @@ cmake_project() (
     ! cmake -B three -DCMAKE_PREFIX_PATH="$clean/usr"
 )
 
-# A crate in an empty folder over a copy of the sources, to which nothing is written; without the
-# archive, a message that says how to get it.
+# A crate in an empty folder, with the Rust of docs/SHELLS.md, over a copy of the sources, to which
+# nothing is written; without the archive, a message that says how to get it.
 rust_project() (
     mkdir -p "$clean/copy/host" "$clean/crate/src" || return 1
     cp -r Cargo.toml Cargo.lock rust cli model include c "$clean/copy/host" || return 1
     printf '[package]\nname = "crate"\nversion = "0.0.0"\nedition = "2021"\n[dependencies]\nswarmtempo = { path = "../copy/host/rust" }\n[workspace]\n' >"$clean/crate/Cargo.toml"
-    cp rust/examples/loader.rs "$clean/crate/src/main.rs" || return 1
+    {
+        echo 'fn main() -> Result<(), Box<dyn std::error::Error>> {'
+        shown_in rust
+        echo 'Ok(()) }'
+    } >"$clean/crate/src/main.rs"
     touch "$clean/before"
     cd "$clean/crate" || return 1
     export CARGO_TARGET_DIR="$clean/target"
     if (unset SWARMTEMPO_LIB_DIR && cargo build -q) 2>"$clean/said"; then return 1; fi
     grep -q 'rt staticlib swarmtempo' "$clean/said" || { cat "$clean/said"; return 1; }
-    SWARMTEMPO_LIB_DIR="$folder" cargo run -q || return 1
+    SWARMTEMPO_LIB_DIR="$folder" cargo run -q >"$clean/said" && grep -x '0t SE: OK: value $00, level 1, SEL 1, lines on -' "$clean/said" || return 1
     ! find "$clean/copy" -newer "$clean/before" | grep . || return 1
     ! cargo tree -e normal,build | grep model
 )
