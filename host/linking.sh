@@ -109,8 +109,10 @@ rust_project() (
     ! cargo tree -e normal,build | grep model
 )
 
-# The compiler denies it; only sys.rs takes that back, and all packages have the lints.
+# The compiler denies it in all packages; only files named sys.rs take that back. The functions of the
+# header are declared once.
 unsafe_code() {
-    [ "$(grep -rlE 'unsafe *\{|unsafe_code|extern "C"' rust cli model --include='*.rs')" = rust/src/sys.rs ] &&
-        grep -qx 'unsafe_code = "deny"' Cargo.toml && [ "$(grep -lx 'workspace = true' ./*/Cargo.toml | wc -l)" -eq 3 ]
+    [ "$(grep -rl 'fn swarmtempo_' rust cli model --include='*.rs')" = rust/src/sys.rs ] || return 1
+    ! grep -rlE 'unsafe *\{|unsafe_code|extern "C"' rust cli model --include='*.rs' | grep -v '/sys\.rs$' || return 1
+    grep -qx 'unsafe_code = "deny"' Cargo.toml && [ "$(grep -lx 'workspace = true' ./*/Cargo.toml | wc -l)" -eq 3 ]
 }

@@ -1,9 +1,9 @@
 //! Items as types, and as records.
 //!
 //! A new kind is a variant of [`Item`], its letters in [`Item::KINDS`] and [`Item::kind`], its body in
-//! [`Item::write`] and [`Item::read`], its words in `Display` and in `text`, and a sample of it in
-//! tests/api.rs. The compiler asks for all of these but `KINDS`, `read` and the reading of text, and
-//! the sample for those.
+//! [`Item::write`] and [`Item::read`], its words in [`crate::text`] (written and read), a writer in
+//! `swarmtempo.h`, and a sample of it in tests/api.rs. The compiler asks for all of these but `KINDS`,
+//! `read`, the reading of text and the writer; the test of the sample asks for those.
 
 use crate::address::named;
 use crate::units::number;

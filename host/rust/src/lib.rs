@@ -32,6 +32,7 @@ mod address;
 mod answer;
 mod chunks;
 mod command;
+pub mod describe;
 mod error;
 mod item;
 mod list;
@@ -47,7 +48,6 @@ pub mod table;
 pub mod text;
 mod units;
 pub mod vcd;
-pub mod words;
 
 pub use address::{Address, DiskLine, Register};
 pub use answer::{

@@ -1,4 +1,4 @@
-//! An image taken apart, for showing it. The layout is that of kind ST. Its words are in `words`.
+//! An image taken apart, for showing it. The layout is that of kind ST. Its words are in [`crate::describe`].
 
 use crate::{DiskLine, InLine, Lines, Seconds, SenseRegister};
 

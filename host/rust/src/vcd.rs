@@ -1,6 +1,6 @@
 //! Wires, lines and drives over time, as a Value Change Dump.
 //!
-//! A VIA tick is 1,276.55 ns. Items with no wait between them are drawn 10 ns apart, so that their
+//! A VIA tick is 1,276.55 nanoseconds. Items with no wait between them are drawn 10 apart, so that their
 //! order shows; where more than 127 come in one tick, what follows is late by that much. The state
 //! is taken after each item: what ends within a wait (a step of a drive, a timer) shows at its end.
 //!
@@ -115,7 +115,7 @@ impl<W: Write> Vcd<W> {
     pub fn new(mut out: W, start: State) -> io::Result<Vcd<W>> {
         let mut head = String::from("$version Swarmtempo $end\n");
         head.push_str(
-            "$comment A VIA tick is 1276.55 ns; items without a wait are 10 ns apart. $end\n",
+            "$comment A VIA tick is 1276.55 nanoseconds; items without a wait are 10 nanoseconds apart. $end\n",
         );
         head.push_str("$timescale 1 ns $end\n$scope module swarmtempo $end\n");
         let mut scope = "";

@@ -10,7 +10,7 @@ use std::fmt;
 use std::io;
 use std::process::ExitCode;
 use swarmtempo::text::TextError;
-use swarmtempo::{table, words};
+use swarmtempo::{describe, table};
 use swarmtempo::{text, Chunks, Piece};
 
 const HELP: &str = "\
@@ -192,7 +192,7 @@ fn command(mut words: Vec<String>) -> Result<u8, Failure> {
         "image" => {
             let name = words.file()?.ok_or_else(|| Failure::Usage("a file is missing".into()))?;
             let machine = source::image(&name)?;
-            files::print(&words::image(&machine))?;
+            files::print(&describe::image(&machine))?;
             Ok(0)
         }
         "bench" => {

@@ -63,7 +63,7 @@ fn via(state: &State, out: &mut String) {
     }
     let (t1, t2) = (state.t1, state.t2);
     out.push_str(&format!(
-        "  T1        counter {} ticks (${0:04X}), latch {} ticks (${1:04X}), {}, {}{}\n",
+        "  T1        counter {} VIA ticks (${0:04X}), latch {} VIA ticks (${1:04X}), {}, {}{}\n",
         t1.counter,
         t1.latch,
         if state.acr & 0x40 != 0 { "free run" } else { "one shot" },
@@ -71,7 +71,7 @@ fn via(state: &State, out: &mut String) {
         if t1.due { ", load due at the next tick" } else { "" },
     ));
     out.push_str(&format!(
-        "  T2        counter {} ticks (${0:04X}), low latch ${:02X}, {}, {}\n",
+        "  T2        counter {} VIA ticks (${0:04X}), low latch ${:02X}, {}, {}\n",
         t2.counter,
         t2.low,
         if state.acr & 0x20 != 0 { "standing still" } else { "running" },
@@ -110,7 +110,7 @@ fn clock(state: &State, out: &mut String) {
     out.push_str(&format!("  protect   {}\n", if state.protect { "set" } else { "clear" }));
     let stopped = if state.seconds_stopped() { " (seconds stopped)" } else { "" };
     out.push_str(&format!("  test      ${:02X}{stopped}\n", state.test));
-    out.push_str(&format!("  seconds   {} s: {}\n", state.seconds.0, date(state.seconds.0)));
+    out.push_str(&format!("  seconds   {} seconds: {}\n", state.seconds.0, date(state.seconds.0)));
     for (row, cells) in state.cells.chunks(16).enumerate() {
         let shown: Vec<String> = cells.iter().map(|cell| format!("{cell:02X}")).collect();
         let name = if row == 0 { "cells" } else { "" };
@@ -156,7 +156,7 @@ fn disk(state: &State, out: &mut String) {
         out.push_str(&format!("  {name}  {}\n", drive(state)));
     }
     if state.strobe.steady {
-        out.push_str(&format!("  strobe    steady for {} ticks\n", state.strobe.ticks));
+        out.push_str(&format!("  strobe    steady for {} VIA ticks\n", state.strobe.ticks));
     }
 }
 
@@ -173,13 +173,13 @@ fn drive(drive: &DriveState) -> String {
         format!("track {}, {}, {disk}, {sides}, {motor}", drive.track, towards(drive.direction));
     if drive.step_left > 0 {
         let way = towards(drive.step_direction);
-        words.push_str(&format!(", stepping {way} with {} ticks left", drive.step_left));
+        words.push_str(&format!(", stepping {way} with {} VIA ticks left", drive.step_left));
     }
     words
 }
 
 /// The date of so many seconds since 1 January 1904, midnight.
-fn date(seconds: u32) -> String {
+pub fn date(seconds: u32) -> String {
     let (mut days, time) = (seconds / 86_400, seconds % 86_400);
     let mut year = 1904;
     // 1904 to 2040: 2000, the only century year, is a leap year.
