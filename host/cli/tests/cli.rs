@@ -271,7 +271,7 @@ fn drives_lines_and_test_in_words() {
     };
     let words = words_after("stepping", until("9400t").as_bytes(), true);
     let stepping = "internal  track 0, towards track 79, disk, double-sided, motor on, \
-                    stepping towards track 79 with 9401 ticks left\n";
+                    stepping towards track 79 with 9401 VIA ticks left\n";
     assert!(words.contains(stepping), "{words}");
     let external = "external  track 0, towards track 79, no disk, single-sided, motor off\n";
     assert!(words.contains(external), "{words}");
@@ -285,7 +285,7 @@ fn drives_lines_and_test_in_words() {
     assert!(words.contains("internal  track 2, "), "{words}");
     assert!(words.contains("external  track 1, "), "{words}");
     let words = words_after("strobe", (until("65280t") + "\n500t VB\n").as_bytes(), true);
-    assert!(words.contains("strobe    steady for 500 ticks\n"), "{words}");
+    assert!(words.contains("strobe    steady for 500 VIA ticks\n"), "{words}");
     // Test bit 7 or 6 stops the seconds, and no other bit.
     for test in [0x00, 0x3F, 0x40, 0x80, 0xC1] {
         let mut list = clock_write(0x31, test);
