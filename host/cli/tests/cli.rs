@@ -293,7 +293,7 @@ fn drives_lines_and_test_in_words() {
         let words = words_after("test", list.as_bytes(), false);
         let (stopped, seconds) = if test < 64 { ("", 1) } else { (" (seconds stopped)", 0) };
         assert!(words.contains(&format!("test      ${test:02X}{stopped}\n")), "{words}");
-        assert!(words.contains(&format!("seconds   {seconds} s: ")), "{words}");
+        assert!(words.contains(&format!("seconds   {seconds} seconds: ")), "{words}");
     }
 }
 
