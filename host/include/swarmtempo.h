@@ -115,7 +115,7 @@ uint32_t swarmtempo_ticks_of_micros(uint32_t micros);
  */
 const char *swarmtempo_version(void);
 
-/* What a refusal number or a stop says, in English words; "unknown number" for a number that is none. Never NULL. */
+/* What the number of a refusal or of a stop says, in English words: "none" for 0, "unknown number" for one that is none. Never NULL. */
 const char *swarmtempo_refusal(uint8_t number);
 
 /*

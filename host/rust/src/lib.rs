@@ -58,6 +58,6 @@ pub use command::{Command, Target};
 pub use error::ParseError;
 pub use item::{Drive, InLine, Item, SenseRegister, Timed};
 pub use list::{items, Items, List};
-pub use machine::{Answered, Answereds, Machine, Run, Transcript};
+pub use machine::{Exchange, Exchanges, Machine, Run, Transcript};
 pub use state::{DriveState, Phase, State, Strobe, Timer1, Timer2, Wires, CELLS, IMAGE_LEN};
 pub use units::{Micros, Seconds, TickCount, TooLong, ViaTicks, TICKS_PER_SECOND};

@@ -203,16 +203,16 @@ impl<'a> Transcript<'a> {
     }
 
     /// The records answered, in order.
-    pub fn iter(&self) -> Answereds<'a, '_> {
-        Answereds { pieces: pieces(self.list), answers: self.answers.as_chunks().0.iter() }
+    pub fn iter(&self) -> Exchanges<'a, '_> {
+        Exchanges { pieces: pieces(self.list), answers: self.answers.as_chunks().0.iter() }
     }
 }
 
 impl<'a, 'b> IntoIterator for &'b Transcript<'a> {
-    type Item = Answered<'a>;
-    type IntoIter = Answereds<'a, 'b>;
+    type Item = Exchange<'a>;
+    type IntoIter = Exchanges<'a, 'b>;
 
-    fn into_iter(self) -> Answereds<'a, 'b> {
+    fn into_iter(self) -> Exchanges<'a, 'b> {
         self.iter()
     }
 }
@@ -233,7 +233,7 @@ impl fmt::Display for Transcript<'_> {
 
 /// A record of a list, with its answer.
 #[derive(Clone, Copy, Debug, PartialEq, Eq)]
-pub struct Answered<'a> {
+pub struct Exchange<'a> {
     /// The record's bytes.
     pub record: &'a [u8],
     /// The item, or why the bytes are none.
@@ -244,20 +244,20 @@ pub struct Answered<'a> {
 
 /// The iterator of [`Transcript::iter`].
 #[derive(Clone, Debug)]
-pub struct Answereds<'a, 'b> {
+pub struct Exchanges<'a, 'b> {
     pieces: Pieces<'a>,
     answers: std::slice::Iter<'b, [u8; ANSWER_LEN]>,
 }
 
-impl<'a> Iterator for Answereds<'a, '_> {
-    type Item = Answered<'a>;
+impl<'a> Iterator for Exchanges<'a, '_> {
+    type Item = Exchange<'a>;
 
-    fn next(&mut self) -> Option<Answered<'a>> {
+    fn next(&mut self) -> Option<Exchange<'a>> {
         let answer = Answer::read(self.answers.next()?)?;
         let piece = self.pieces.next()?;
         let (Piece::Record(record) | Piece::Rest(record)) = piece;
-        Some(Answered { record, item: piece.try_into(), answer })
+        Some(Exchange { record, item: piece.try_into(), answer })
     }
 }
 
-impl FusedIterator for Answereds<'_, '_> {}
+impl FusedIterator for Exchanges<'_, '_> {}
