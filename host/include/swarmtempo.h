@@ -84,7 +84,10 @@ extern "C" {
 #define SWARMTEMPO_Q6 0x40u
 #define SWARMTEMPO_Q7 0x80u
 
-/* ---- The library. What is proved of it stands in docs/PROMISES.md. */
+/*
+ * ---- The library. What is proved of it stands in docs/PROMISES.md. host/check compares what is
+ * declared here with the functions of the library and with the declarations of the Rust crate.
+ */
 
 /*
  * Runs a list on the state in `image` (exactly one image, image_len bytes).

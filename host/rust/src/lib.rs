@@ -1,10 +1,10 @@
 //! Swarmtempo: the VIA, the clock chip and the disk lines of a Macintosh Plus, behind safe types.
 //!
 //! A [`Machine`] owns a state. A [`List`] is built of items, each with a wait in [`ViaTicks`]; a run
-//! carries them out and appends an answer of eight bytes for each, which [`answers`] reads.
+//! carries them out or refuses them, and answers each.
 //!
 //! ```
-//! use swarmtempo::{answers, Address, Answer, Item, List, Machine, Register, ViaTicks};
+//! use swarmtempo::{Address, Item, List, Machine, Register, ViaTicks};
 //!
 //! let mut list = List::new();
 //! list.push(ViaTicks(0), Item::Write(Address::Via(Register::IER), 0x81));
@@ -12,12 +12,21 @@
 //! list.push(ViaTicks(0), Item::Read(Address::Via(Register::IFR)));
 //!
 //! let mut machine = Machine::fresh();
-//! let mut bytes = Vec::new();
-//! let run = machine.run(list.as_bytes(), &mut bytes);
-//! assert!(run.at_end());
-//! let Some(Answer::Ok(seen)) = answers(&bytes).last() else { panic!("refused") };
+//! let transcript = machine.run_items(&list);
+//! assert!(transcript.run().at_end());
+//! let last = transcript.iter().last().expect("three answers");
+//! let seen = last.answer.result()?;
 //! assert_eq!((seen.value, seen.level), (0x81, 1));
+//! # Ok::<(), swarmtempo::Refusal>(())
 //! ```
+//!
+//! - Items and lists: [`Item`], [`Timed`], [`List`], [`items`]; as text: [`text`]; long ones in fixed
+//!   memory: [`Chunks`].
+//! - Runs: [`Machine::step`] for one item, [`Machine::run_items`] for items with their answers,
+//!   [`Machine::run`] and [`Machine::run_in`] for answers as bytes, which [`answers`] reads.
+//! - States: [`Machine::image`] to save and [`Machine::from_image`] to restore; [`State`] to look at.
+//! - For people: [`table`], [`vcd`], [`describe`], and `Display` of nearly everything.
+//! - The C functions as they are: [`sys`].
 //!
 //! Ticks and seconds are types of their own, so that one is not passed as the other:
 //!
