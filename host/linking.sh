@@ -31,7 +31,7 @@ END
     nm --dynamic --defined-only "$clean/usr/lib/libswarmtempo.so" | sed -n 's/.* T //p' | sort | diff "$clean/declared" - || return 1
     readelf -d "$clean/usr/lib/libswarmtempo.so" >"$clean/dynamic" || return 1
     grep -qF "[libswarmtempo.so.$abi]" "$clean/dynamic" || { cat "$clean/dynamic"; return 1; }
-    ! grep -E 'NEEDED|TEXTREL' "$clean/dynamic"
+    ! grep -E 'NEEDED|TEXTREL' "$clean/dynamic" && readelf -h "$clean/usr/lib/libswarmtempo.so" | grep -q 'Machine:.*X86-64'
 )
 
 shared_samples() {
@@ -49,6 +49,11 @@ manual_in_c() {
     } >"$clean/shown.c"
     gcc -std=c11 -Wall -Wextra -Werror -I"$clean/usr/include" "$clean/shown.c" "$clean/usr/lib/libswarmtempo.a" -o "$clean/shown" &&
         "$clean/shown" | grep -qx 'flags $00, interrupt level 0'
+}
+
+cxx_program() {
+    g++ -std=c++11 -Wall -Wextra -Werror -I"$clean/usr/include" -x c++ c/example.c -x none -L"$clean/usr/lib" -lswarmtempo -o "$clean/cxx" &&
+        linked "$clean/cxx" 0
 }
 
 # A program and whether it needs the shared library, as it should.
@@ -89,7 +94,8 @@ cmake_project() (
 )
 
 # A crate in an empty folder, with the Rust of docs/SHELLS.md, over a copy of the sources, to which
-# nothing is written; without the archive, a message that says how to get it.
+# nothing is written; without the archive, a message that says how to get it. It links what make
+# installed, or the archive where there is no make.
 rust_project() (
     mkdir -p "$clean/copy/host" "$clean/crate/src" || return 1
     cp -r Cargo.toml Cargo.lock rust cli model include c "$clean/copy/host" || return 1
@@ -104,6 +110,7 @@ rust_project() (
     export CARGO_TARGET_DIR="$clean/target"
     if (unset SWARMTEMPO_LIB_DIR && cargo build -q) 2>"$clean/said"; then return 1; fi
     grep -q 'rt staticlib swarmtempo' "$clean/said" || { cat "$clean/said"; return 1; }
+    [ -d "$clean/usr/lib" ] && folder=$clean/usr/lib
     SWARMTEMPO_LIB_DIR="$folder" cargo run -q >"$clean/said" && grep -x '0t SE: OK: value $00, level 1, SEL 1, lines on -' "$clean/said" || return 1
     ! find "$clean/copy" -newer "$clean/before" | grep . || return 1
     ! cargo tree -e normal,build | grep model

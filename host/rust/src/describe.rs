@@ -64,15 +64,15 @@ fn via(state: &State, out: &mut String) {
     let (t1, t2) = (state.t1, state.t2);
     out.push_str(&format!(
         "  T1        counter {} VIA ticks (${0:04X}), latch {} VIA ticks (${1:04X}), {}, {}{}\n",
-        t1.counter,
-        t1.latch,
+        t1.counter.0,
+        t1.latch.0,
         if state.acr & 0x40 != 0 { "free run" } else { "one shot" },
         armed(t1.armed),
         if t1.due { ", load due at the next tick" } else { "" },
     ));
     out.push_str(&format!(
         "  T2        counter {} VIA ticks (${0:04X}), low latch ${:02X}, {}, {}\n",
-        t2.counter,
+        t2.counter.0,
         t2.low,
         if state.acr & 0x20 != 0 { "standing still" } else { "running" },
         armed(t2.armed),
@@ -156,7 +156,7 @@ fn disk(state: &State, out: &mut String) {
         out.push_str(&format!("  {name}  {}\n", drive(state)));
     }
     if state.strobe.steady {
-        out.push_str(&format!("  strobe    steady for {} VIA ticks\n", state.strobe.ticks));
+        out.push_str(&format!("  strobe    steady for {:#}\n", state.strobe.ticks));
     }
 }
 
@@ -171,9 +171,9 @@ fn drive(drive: &DriveState) -> String {
     let motor = if drive.motor { "motor on" } else { "motor off" };
     let mut words =
         format!("track {}, {}, {disk}, {sides}, {motor}", drive.track, towards(drive.direction));
-    if drive.step_left > 0 {
+    if drive.step_left.0 > 0 {
         let way = towards(drive.step_direction);
-        words.push_str(&format!(", stepping {way} with {} VIA ticks left", drive.step_left));
+        words.push_str(&format!(", stepping {way} with {:#} left", drive.step_left));
     }
     words
 }

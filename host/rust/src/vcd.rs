@@ -1,8 +1,9 @@
 //! Wires, lines and drives over time, as a Value Change Dump.
 //!
-//! A VIA tick is 1,276.55 nanoseconds. Items with no wait between them are drawn 10 apart, so that their
-//! order shows; where more than 127 come in one tick, what follows is late by that much. The state
-//! is taken after each item: what ends within a wait (a step of a drive, a timer) shows at its end.
+//! A VIA tick is 1,276.55 nanoseconds. Items with no wait between them are drawn 10 nanoseconds apart,
+//! so that their order shows; where more than 127 come in one tick, what follows is late by that much.
+//! The state is taken after each item: what ends within a wait (a step of a drive, a timer) shows at
+//! its end.
 //!
 //! ```
 //! use swarmtempo::{vcd, List, Machine};
@@ -22,8 +23,8 @@ use crate::{
 };
 use std::io::{self, Write};
 
-/// Nanoseconds between two items at least.
-const GAP: u64 = 10;
+/// Between two items, at least.
+const GAP_NANOSECONDS: u64 = 10;
 
 /// Tracks in a dump.
 const COUNT: usize = 30;
@@ -95,9 +96,10 @@ pub struct Vcd<W> {
     before: State,
     decoded: Decoded,
     items: u64,
+    /// VIA ticks passed.
     ticks: u64,
-    /// Nanoseconds of the last sample.
-    time: u64,
+    /// The time of the last sample.
+    nanoseconds: u64,
 }
 
 /// What the decoded track shows: words, and the last command and data bytes.
@@ -143,7 +145,7 @@ impl<W: Write> Vcd<W> {
             decoded,
             items: 0,
             ticks: 0,
-            time: 0,
+            nanoseconds: 0,
         };
         vcd.out.write_all(b"#0\n$dumpvars\n")?;
         vcd.changes(&start, 0)?;
@@ -176,8 +178,10 @@ impl<W: Write> Vcd<W> {
         self.items += 1;
         self.ticks += u64::from(wait.0);
         let exact = u128::from(self.ticks) * 1_000_000_000 / u128::from(TICKS_PER_SECOND);
-        self.time = u64::try_from(exact).unwrap_or(u64::MAX).max(self.time.saturating_add(GAP));
-        self.out.write_all(format!("#{}\n", self.time).as_bytes())?;
+        self.nanoseconds = u64::try_from(exact)
+            .unwrap_or(u64::MAX)
+            .max(self.nanoseconds.saturating_add(GAP_NANOSECONDS));
+        self.out.write_all(format!("#{}\n", self.nanoseconds).as_bytes())?;
         self.decoded.follow(&self.before, &after);
         self.changes(&after, refused)?;
         self.before = after;
@@ -189,7 +193,7 @@ impl<W: Write> Vcd<W> {
     /// # Errors
     /// Those of the output.
     pub fn finish(mut self) -> io::Result<W> {
-        let end = format!("#{}\n", self.time.saturating_add(GAP));
+        let end = format!("#{}\n", self.nanoseconds.saturating_add(GAP_NANOSECONDS));
         self.out.write_all(end.as_bytes())?;
         self.out.flush()?;
         Ok(self.out)
@@ -247,11 +251,11 @@ impl<W: Write> Vcd<W> {
             line(DiskLine::Q7),
             u64::from(internal.disk),
             u64::from(internal.motor),
-            u64::from(internal.step_left > 0),
+            u64::from(internal.step_left.0 > 0),
             u64::from(internal.track),
             u64::from(external.disk),
             u64::from(external.motor),
-            u64::from(external.step_left > 0),
+            u64::from(external.step_left.0 > 0),
             u64::from(external.track),
             self.items & 0xFFFF_FFFF,
             u64::from(refused),
