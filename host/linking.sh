@@ -11,8 +11,8 @@ header_in_c99() {
     echo '#include "swarmtempo.h"' | gcc -std=c99 -Wall -Wextra -Wpedantic -Wconversion -Werror -I"$clean/usr/include" -x c -fsyntax-only -
 }
 
-# Every file and no other; both libraries have exactly the functions that the header declares; the
-# shared one needs no other and has its soname.
+# Every file and no other; both libraries have exactly the functions that the header declares, and call
+# what it says; the shared one has its soname and no text relocations.
 installed() (
     install_c install PREFIX="$clean/usr" || return 1
     (cd "$clean/usr" && find . ! -type d | sort) >"$clean/files"
@@ -31,7 +31,8 @@ END
     nm --dynamic --defined-only "$clean/usr/lib/libswarmtempo.so" | sed -n 's/.* T //p' | sort | diff "$clean/declared" - || return 1
     readelf -d "$clean/usr/lib/libswarmtempo.so" >"$clean/dynamic" || return 1
     grep -qF "[libswarmtempo.so.$abi]" "$clean/dynamic" || { cat "$clean/dynamic"; return 1; }
-    ! grep -E 'NEEDED|TEXTREL' "$clean/dynamic" && readelf -h "$clean/usr/lib/libswarmtempo.so" | grep -q 'Machine:.*X86-64'
+    ! nm --undefined-only "$clean/usr/lib/libswarmtempo.a" | sed -n 's/.* U //p' | grep -vxE 'mem(cpy|move|set|cmp)|bcmp' || return 1
+    ! grep -E 'NEEDED|TEXTREL' "$clean/dynamic" | grep -vF '[libc.so.6]' && readelf -h "$clean/usr/lib/libswarmtempo.so" | grep -q 'Machine:.*X86-64'
 )
 
 shared_samples() {

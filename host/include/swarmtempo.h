@@ -11,7 +11,8 @@
  * Numbers in buffers are little-endian.
  *
  * Targets: x86-64 with ELF and the System V calling convention (Linux), static or shared. The library
- * calls no other, the C library's functions included.
+ * calls nothing but, where the compiler copies or compares bytes by them, the C library's memcpy,
+ * memmove, memset, memcmp and bcmp.
  *
  * In this file: constants; the functions of the library; writers of items; readers of answers. The
  * last two are inline.
