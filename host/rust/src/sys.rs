@@ -2,27 +2,25 @@
 //! slices. This is the only unsafe code.
 //!
 //! These take any bytes, also an image that no machine has; [`Machine`](crate::Machine) is for daily
-//! use. A new entry of `swarmtempo.h` has its declaration in `c` and a safe function below.
+//! use. A new entry of `swarmtempo.h` has its declaration and a safe function below.
 
 #![allow(unsafe_code)]
 
-/// The declarations of `swarmtempo.h`, in its order.
-mod c {
-    extern "C" {
-        pub fn swarmtempo_run(
-            image: *mut u8,
-            image_len: usize,
-            list: *const u8,
-            list_len: usize,
-            answers: *mut u8,
-            answers_len: usize,
-            consumed: *mut u64,
-            written: *mut u64,
-        ) -> u8;
-        pub fn swarmtempo_image_len() -> u64;
-        pub fn swarmtempo_fresh(image: *mut u8, image_len: usize) -> u8;
-        pub fn swarmtempo_ticks_of_micros(micros: u32) -> u32;
-    }
+// The declarations of swarmtempo.h, in its order.
+extern "C" {
+    fn swarmtempo_run(
+        image: *mut u8,
+        image_len: usize,
+        list: *const u8,
+        list_len: usize,
+        answers: *mut u8,
+        answers_len: usize,
+        consumed: *mut u64,
+        written: *mut u64,
+    ) -> u8;
+    fn swarmtempo_image_len() -> u64;
+    fn swarmtempo_fresh(image: *mut u8, image_len: usize) -> u8;
+    fn swarmtempo_ticks_of_micros(micros: u32) -> u32;
 }
 
 /// What a run reports, as numbers.
@@ -42,7 +40,7 @@ pub fn run(image: &mut [u8], list: &[u8], answers: &mut [u8]) -> Report {
     let (mut consumed, mut written) = (u64::MAX, u64::MAX);
     // SAFETY: three slices and two numbers that live through the call and do not overlap.
     let stop = unsafe {
-        c::swarmtempo_run(
+        swarmtempo_run(
             image.as_mut_ptr(),
             image.len(),
             list.as_ptr(),
@@ -59,17 +57,17 @@ pub fn run(image: &mut [u8], list: &[u8], answers: &mut [u8]) -> Report {
 /// Bytes of an image.
 pub fn image_len() -> u64 {
     // SAFETY: takes nothing.
-    unsafe { c::swarmtempo_image_len() }
+    unsafe { swarmtempo_image_len() }
 }
 
 /// Writes the image of a fresh machine: 0, or 6 where there are too few bytes.
 pub fn fresh(image: &mut [u8]) -> u8 {
     // SAFETY: a slice that lives through the call.
-    unsafe { c::swarmtempo_fresh(image.as_mut_ptr(), image.len()) }
+    unsafe { swarmtempo_fresh(image.as_mut_ptr(), image.len()) }
 }
 
 /// Microseconds as VIA ticks, rounded up.
 pub fn ticks_of_micros(micros: u32) -> u32 {
     // SAFETY: takes and gives a number.
-    unsafe { c::swarmtempo_ticks_of_micros(micros) }
+    unsafe { swarmtempo_ticks_of_micros(micros) }
 }
