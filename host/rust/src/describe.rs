@@ -68,7 +68,7 @@ fn via(state: &State, out: &mut String) {
         t1.latch.0,
         if state.acr & 0x40 != 0 { "free run" } else { "one shot" },
         armed(t1.armed),
-        if t1.due { ", load due at the next tick" } else { "" },
+        if t1.due { ", load due at the next VIA tick" } else { "" },
     ));
     out.push_str(&format!(
         "  T2        counter {} VIA ticks (${0:04X}), low latch ${:02X}, {}, {}\n",
