@@ -6,21 +6,22 @@
 
 #![allow(unsafe_code)]
 
-// The declarations of swarmtempo.h, in its order.
+use std::ffi::c_uchar;
+
 extern "C" {
     fn swarmtempo_run(
-        image: *mut u8,
+        image: *mut c_uchar,
         image_len: usize,
-        list: *const u8,
+        list: *const c_uchar,
         list_len: usize,
-        answers: *mut u8,
+        answers: *mut c_uchar,
         answers_len: usize,
         consumed: *mut u64,
         written: *mut u64,
     ) -> u8;
     fn swarmtempo_image_len() -> u64;
-    fn swarmtempo_fresh(image: *mut u8, image_len: usize) -> u8;
     fn swarmtempo_ticks_of_micros(micros: u32) -> u32;
+    fn swarmtempo_fresh(image: *mut c_uchar, image_len: usize) -> u8;
 }
 
 /// What a run reports, as numbers.
@@ -60,14 +61,14 @@ pub fn image_len() -> u64 {
     unsafe { swarmtempo_image_len() }
 }
 
-/// Writes the image of a fresh machine: 0, or 6 where there are too few bytes.
-pub fn fresh(image: &mut [u8]) -> u8 {
-    // SAFETY: a slice that lives through the call.
-    unsafe { swarmtempo_fresh(image.as_mut_ptr(), image.len()) }
-}
-
 /// Microseconds as VIA ticks, rounded up.
 pub fn ticks_of_micros(micros: u32) -> u32 {
     // SAFETY: takes and gives a number.
     unsafe { swarmtempo_ticks_of_micros(micros) }
+}
+
+/// Writes the image of a fresh machine: 0, or 6 where there are too few bytes.
+pub fn fresh(image: &mut [u8]) -> u8 {
+    // SAFETY: a slice that lives through the call.
+    unsafe { swarmtempo_fresh(image.as_mut_ptr(), image.len()) }
 }
