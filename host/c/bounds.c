@@ -1,8 +1,8 @@
 /*
  * The boundary with short and odd buffers. Each buffer stands against a page that may not be touched,
  * once at its end and once at its start, so a byte read or written outside ends the program; the bytes
- * around it in its own page are compared afterwards. To be built with the sanitizers too, and run
- * under valgrind.
+ * around it in its own page are compared afterwards. Buffers of length 0 are NULL too. To be built
+ * with the sanitizers too, and run under valgrind.
  */
 #define _DEFAULT_SOURCE
 #include <stdio.h>
@@ -104,6 +104,28 @@ static void fresh_images(void)
         }
 }
 
+/* Each buffer of length 0 at NULL, alone and together with others. */
+static void null_buffers(const uint8_t *state, const uint8_t *items, size_t len)
+{
+    for (int i = 0; i < 8; i++) {
+        uint8_t copy[SWARMTEMPO_IMAGE_LEN], room[64];
+        uint64_t consumed = 77, written = 78;
+        int no_image = i & 1, no_list = i >> 1 & 1, no_room = i >> 2 & 1;
+        memcpy(copy, state, sizeof copy);
+        memset(room, 0xC3, sizeof room);
+        uint8_t stop = swarmtempo_run(no_image ? NULL : copy, no_image ? 0 : sizeof copy, no_list ? NULL : items, no_list ? 0 : len,
+                                      no_room ? NULL : room, no_room ? 0 : sizeof room, &consumed, &written);
+        uint8_t expected = no_image ? SWARMTEMPO_REFUSED_STATE : no_list ? SWARMTEMPO_END : no_room ? SWARMTEMPO_REFUSED_ROOM : SWARMTEMPO_END;
+        int runs = !no_image && !no_list && !no_room;
+        calls++;
+        if (stop != expected) fail("a stop with NULL");
+        if (consumed != (runs ? len : 0) || written != (runs ? 48u : 0)) fail("counts with NULL");
+        if (!runs && memcmp(copy, state, sizeof copy)) fail("the image changed with NULL");
+    }
+    if (swarmtempo_fresh(NULL, 0) != SWARMTEMPO_REFUSED_ROOM) fail("fresh at NULL");
+    calls++;
+}
+
 int main(int argc, char **argv)
 {
     uint8_t state[2 * SWARMTEMPO_IMAGE_LEN] = {0}, items[256];
@@ -119,6 +141,7 @@ int main(int argc, char **argv)
     len += swarmtempo_pw(items + len, 0, 0xFFFFFFFF);
     len += swarmtempo_in(items + len, 0, 4, 0);
     len += swarmtempo_rd(items + len, 0, SWARMTEMPO_IWM(14));
+    null_buffers(state, items, len);
     for (int at_end = 0; at_end < 2; at_end++) {
         for (size_t n = 0; n <= sizeof state; n++) call(state, n, items, len, 48, at_end);
         for (size_t n = 0; n <= len; n++)

@@ -1,4 +1,10 @@
-//! The C entry, and the only unsafe code.
+//! The C entry: its functions, declared here and nowhere else, each behind a safe one that takes
+//! slices. This is the only unsafe code.
+//!
+//! These take any bytes, also an image that no machine has; [`Machine`](crate::Machine) is for daily
+//! use. A new entry of `swarmtempo.h` has its declaration and a safe function below.
+
+#![allow(unsafe_code)]
 
 use std::ffi::c_uchar;
 
@@ -16,47 +22,6 @@ extern "C" {
     fn swarmtempo_image_len() -> u64;
     fn swarmtempo_ticks_of_micros(micros: u32) -> u32;
     fn swarmtempo_fresh(image: *mut c_uchar, image_len: usize) -> u8;
-}
-
-/// The stop number, the bytes consumed and the bytes written.
-pub fn run(image: &mut [u8], list: &[u8], answers: &mut [u8]) -> (u8, usize, usize) {
-    let (mut consumed, mut written) = (0, 0);
-    // SAFETY: three slices and two numbers that live through the call and do not overlap.
-    let stop = unsafe {
-        swarmtempo_run(
-            image.as_mut_ptr(),
-            image.len(),
-            list.as_ptr(),
-            list.len(),
-            answers.as_mut_ptr(),
-            answers.len(),
-            &mut consumed,
-            &mut written,
-        )
-    };
-    (stop, consumed as usize, written as usize)
-}
-
-/// Bytes of an image.
-pub fn image_len() -> usize {
-    // SAFETY: takes nothing.
-    unsafe { swarmtempo_image_len() as usize }
-}
-
-/// VIA ticks, rounded up.
-pub fn ticks_of_micros(micros: u32) -> u32 {
-    // SAFETY: takes and gives a number.
-    unsafe { swarmtempo_ticks_of_micros(micros) }
-}
-
-/// 0, or 6 where the image is too short.
-pub fn fresh(image: &mut [u8]) -> u8 {
-    // SAFETY: a slice that lives through the call.
-    unsafe { swarmtempo_fresh(image.as_mut_ptr(), image.len()) }
-}
-
-// Sheets of settings.
-extern "C" {
     fn swarmtempo_sheet_get(
         bench: *const c_uchar,
         bench_len: usize,
@@ -76,10 +41,73 @@ extern "C" {
     ) -> u8;
 }
 
-/// The refusal's number, the sheet (0 none, 1 bench, 2 house), and where in it the bytes start and how many they are.
-pub fn sheet_get(bench: &[u8], house: &[u8], setting: u16) -> (u8, u8, usize, usize) {
-    let (mut sheet, mut start, mut size) = (0, 0, 0);
-    // SAFETY: two slices and three numbers that live through the call and do not overlap.
+/// What a run reports, as numbers.
+#[derive(Clone, Copy, Debug, PartialEq, Eq)]
+pub struct Report {
+    /// 0 at the end of the list, else 1, 6 or 7.
+    pub stop: u8,
+    /// Bytes of the list consumed.
+    pub consumed: u64,
+    /// Bytes of the answers written.
+    pub written: u64,
+}
+
+/// Runs a list on the state of an image.
+pub fn run(image: &mut [u8], list: &[u8], answers: &mut [u8]) -> Report {
+    // Numbers that no run reports, so that one left unwritten would show.
+    let (mut consumed, mut written) = (u64::MAX, u64::MAX);
+    // SAFETY: three slices and two numbers that live through the call and do not overlap.
+    let stop = unsafe {
+        swarmtempo_run(
+            image.as_mut_ptr(),
+            image.len(),
+            list.as_ptr(),
+            list.len(),
+            answers.as_mut_ptr(),
+            answers.len(),
+            &raw mut consumed,
+            &raw mut written,
+        )
+    };
+    Report { stop, consumed, written }
+}
+
+/// Bytes of an image.
+pub fn image_len() -> u64 {
+    // SAFETY: takes nothing.
+    unsafe { swarmtempo_image_len() }
+}
+
+/// Microseconds as VIA ticks, rounded up.
+pub fn ticks_of_micros(micros: u32) -> u32 {
+    // SAFETY: takes and gives a number.
+    unsafe { swarmtempo_ticks_of_micros(micros) }
+}
+
+/// Writes the image of a fresh machine: 0, or 6 where there are too few bytes.
+pub fn fresh(image: &mut [u8]) -> u8 {
+    // SAFETY: a slice that lives through the call.
+    unsafe { swarmtempo_fresh(image.as_mut_ptr(), image.len()) }
+}
+
+/// Where a setting's bytes are, as numbers.
+#[derive(Clone, Copy, Debug, PartialEq, Eq)]
+pub struct Found {
+    /// 0, or 1 where either sheet is broken.
+    pub refusal: u8,
+    /// 0 not set, 1 in the bench sheet, 2 in the house sheet.
+    pub sheet: u8,
+    /// Where the bytes start in that sheet.
+    pub start: u64,
+    /// How many bytes they are.
+    pub size: u64,
+}
+
+/// Looks a setting up in a bench sheet and a house sheet.
+pub fn sheet_get(bench: &[u8], house: &[u8], setting: u16) -> Found {
+    // Numbers that no look-up gives, as above.
+    let (mut sheet, mut start, mut size) = (u8::MAX, u64::MAX, u64::MAX);
+    // SAFETY: two slices that are only read, and three numbers, all of which live through the call.
     let refusal = unsafe {
         swarmtempo_sheet_get(
             bench.as_ptr(),
@@ -87,17 +115,18 @@ pub fn sheet_get(bench: &[u8], house: &[u8], setting: u16) -> (u8, u8, usize, us
             house.as_ptr(),
             house.len(),
             setting,
-            &mut sheet,
-            &mut start,
-            &mut size,
+            &raw mut sheet,
+            &raw mut start,
+            &raw mut size,
         )
     };
-    (refusal, sheet, start as usize, size as usize)
+    Found { refusal, sheet, start, size }
 }
 
-/// The refusal's number and the bytes written.
-pub fn sheet_compact(sheet: &[u8], out: &mut [u8]) -> (u8, usize) {
-    let mut written = 0;
+/// Writes a sheet's counting records: 0, 1 where the sheet is broken or 6 where there are too few
+/// bytes, and the bytes written.
+pub fn sheet_compact(sheet: &[u8], out: &mut [u8]) -> (u8, u64) {
+    let mut written = u64::MAX;
     // SAFETY: two slices and a number that live through the call and do not overlap.
     let refusal = unsafe {
         swarmtempo_sheet_compact(
@@ -105,8 +134,8 @@ pub fn sheet_compact(sheet: &[u8], out: &mut [u8]) -> (u8, usize) {
             sheet.len(),
             out.as_mut_ptr(),
             out.len(),
-            &mut written,
+            &raw mut written,
         )
     };
-    (refusal, written as usize)
+    (refusal, written)
 }

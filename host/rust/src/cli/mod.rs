@@ -6,7 +6,6 @@ mod completions;
 mod conflicts;
 mod contents;
 mod convert;
-mod describe;
 mod draft;
 mod failure;
 mod files;
@@ -23,9 +22,7 @@ mod source;
 mod style;
 mod summary;
 mod sys;
-mod table;
 mod tour;
-mod vcd;
 mod words;
 
 use commands::COMMANDS;
@@ -35,6 +32,7 @@ use place::{Input, Output};
 use std::ffi::{OsStr, OsString};
 use std::process::ExitCode;
 use style::{Style, When};
+use swarmtempo::describe;
 use words::Given;
 
 const VERSION: &str = concat!("swarmtempo ", env!("CARGO_PKG_VERSION"), "\n");

@@ -9,11 +9,11 @@ use super::progress::Progress;
 use super::request::{Form, Options};
 use super::style::Style;
 use super::summary::{End, Summary};
-use super::table::{Table, HEAD};
-use super::vcd::Vcd;
 use super::{image, source};
 use std::io::{self, Read};
-use swarmtempo::{pieces, Chunks, Item, Machine, Piece, Refusal, ViaTicks, ANSWER_LEN};
+use swarmtempo::table::{Table, HEAD};
+use swarmtempo::vcd::Vcd;
+use swarmtempo::{pieces, Chunks, Machine, Piece, Refusal, ANSWER_LEN};
 
 /// What to do with records that come as a text.
 const RECORDS: &str = "records are run without --text";
@@ -164,8 +164,7 @@ impl Runner {
             return self.step(chunk, buffer);
         }
         for piece in pieces(chunk) {
-            let (Piece::Record(bytes) | Piece::Rest(bytes)) = piece;
-            self.step(bytes, buffer)?;
+            self.step(piece.as_ref(), buffer)?;
             self.watch(piece, buffer).map_err(|error| of_dump(options, error))?;
             if self.stop.is_some() {
                 break;
@@ -198,8 +197,7 @@ impl Runner {
         let mut rows = String::new();
         for (piece, answer) in pieces(part).zip(answers.as_chunks::<ANSWER_LEN>().0) {
             self.summary.note(piece, *answer, offset);
-            let (Piece::Record(bytes) | Piece::Rest(bytes)) = piece;
-            offset += bytes.len() as u64;
+            offset += piece.as_ref().len() as u64;
             let Some(table) = &mut self.table else {
                 continue;
             };
@@ -222,14 +220,7 @@ impl Runner {
         let (Some(vcd), Some(answer)) = (&mut self.vcd, answer.first_chunk::<ANSWER_LEN>()) else {
             return Ok(());
         };
-        let refused = if answer[2..4] == *b"OK" { 0 } else { answer[4] };
-        let wait = match piece {
-            Piece::Record(record) if refused == 0 => {
-                Item::read(&record[2..]).map_or(ViaTicks(0), |(wait, _)| wait)
-            }
-            _ => ViaTicks(0),
-        };
-        vcd.item(wait, refused, self.machine.state())
+        vcd.record(piece, answer, self.machine.state())
     }
 
     /// Files take their places; the summary.

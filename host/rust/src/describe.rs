@@ -1,20 +1,50 @@
-//! A state image in words.
+//! A state in words: what `Display` writes of a [`Machine`], a [`State`] and its parts.
 
-use swarmtempo::{Command, DriveState, Machine, Phase, State};
+use crate::{Command, DriveState, InLine, Machine, Phase, State, Wires};
+use std::fmt;
 
 const FLAGS: [&str; 7] =
     ["0 one second", "1 vertical blanking", "2 shift register", "3 CB2", "4 CB1", "5 T2", "6 T1"];
-const INPUTS: [&str; 7] =
-    ["mouse switch", "X2", "Y2", "H4", "PA7", "serial chip asks", "programmer's switch"];
 
-/// All of a state.
+/// All of a machine's image.
 pub fn image(machine: &Machine) -> String {
     let state = machine.state();
-    let mut out = format!("State image of kind ST, {} bytes\n", machine.image().len());
-    via(&state, &mut out);
-    clock(&state, &mut out);
-    disk(&state, &mut out);
-    out
+    format!("State image of kind ST, {} bytes\n\n{state}", machine.image().len())
+}
+
+impl fmt::Display for Machine {
+    fn fmt(&self, f: &mut fmt::Formatter<'_>) -> fmt::Result {
+        f.write_str(&image(self))
+    }
+}
+
+impl fmt::Display for State {
+    fn fmt(&self, f: &mut fmt::Formatter<'_>) -> fmt::Result {
+        let mut out = String::new();
+        via(self, &mut out);
+        clock(self, &mut out);
+        disk(self, &mut out);
+        f.write_str(out.trim_start())
+    }
+}
+
+impl fmt::Display for Phase {
+    fn fmt(&self, f: &mut fmt::Formatter<'_>) -> fmt::Result {
+        f.write_str(&phase(*self))
+    }
+}
+
+impl fmt::Display for DriveState {
+    fn fmt(&self, f: &mut fmt::Formatter<'_>) -> fmt::Result {
+        f.write_str(&drive(self))
+    }
+}
+
+impl fmt::Display for Wires {
+    fn fmt(&self, f: &mut fmt::Formatter<'_>) -> fmt::Result {
+        let [enable, clock, data] = [self.enable, self.data_clock, self.data].map(u8::from);
+        write!(f, "enable {enable} (low active), data-clock {clock}, data {data}")
+    }
 }
 
 fn via(state: &State, out: &mut String) {
@@ -27,21 +57,22 @@ fn via(state: &State, out: &mut String) {
             "  {name}    output bits ${output:02X}, directions ${dir:02X} (1 is output), levels ${levels:02X} (%{levels:08b})\n"
         ));
     }
-    for (line, (name, &level)) in INPUTS.iter().zip(&state.inputs).enumerate() {
-        out.push_str(&format!("  IN {line}      {} ({name})\n", u8::from(level)));
+    for line in (0..InLine::COUNT).filter_map(InLine::new) {
+        let level = u8::from(state.inputs[usize::from(line.number())]);
+        out.push_str(&format!("  IN {line}      {level} ({})\n", line.name()));
     }
     let (t1, t2) = (state.t1, state.t2);
     out.push_str(&format!(
         "  T1        counter {} VIA ticks (${0:04X}), latch {} VIA ticks (${1:04X}), {}, {}{}\n",
-        t1.counter,
-        t1.latch,
+        t1.counter.0,
+        t1.latch.0,
         if state.acr & 0x40 != 0 { "free run" } else { "one shot" },
         armed(t1.armed),
         if t1.due { ", load due at the next VIA tick" } else { "" },
     ));
     out.push_str(&format!(
         "  T2        counter {} VIA ticks (${0:04X}), low latch ${:02X}, {}, {}\n",
-        t2.counter,
+        t2.counter.0,
         t2.low,
         if state.acr & 0x20 != 0 { "standing still" } else { "running" },
         armed(t2.armed),
@@ -73,14 +104,8 @@ fn flags(byte: u8) -> String {
 }
 
 fn clock(state: &State, out: &mut String) {
-    let wires = state.wires();
     out.push_str("\nClock chip\n");
-    out.push_str(&format!(
-        "  wires     enable {} (low active), data-clock {}, data {}\n",
-        u8::from(wires.enable),
-        u8::from(wires.data_clock),
-        u8::from(wires.data)
-    ));
+    out.push_str(&format!("  wires     {}\n", state.wires()));
     out.push_str(&format!("  command   {}\n", phase(state.phase)));
     out.push_str(&format!("  protect   {}\n", if state.protect { "set" } else { "clear" }));
     let stopped = if state.seconds_stopped() { " (seconds stopped)" } else { "" };
@@ -131,7 +156,7 @@ fn disk(state: &State, out: &mut String) {
         out.push_str(&format!("  {name}  {}\n", drive(state)));
     }
     if state.strobe.steady {
-        out.push_str(&format!("  strobe    steady for {} VIA ticks\n", state.strobe.ticks));
+        out.push_str(&format!("  strobe    steady for {:#}\n", state.strobe.ticks));
     }
 }
 
@@ -146,9 +171,9 @@ fn drive(drive: &DriveState) -> String {
     let motor = if drive.motor { "motor on" } else { "motor off" };
     let mut words =
         format!("track {}, {}, {disk}, {sides}, {motor}", drive.track, towards(drive.direction));
-    if drive.step_left > 0 {
+    if drive.step_left.0 > 0 {
         let way = towards(drive.step_direction);
-        words.push_str(&format!(", stepping {way} with {} VIA ticks left", drive.step_left));
+        words.push_str(&format!(", stepping {way} with {:#} left", drive.step_left));
     }
     words
 }

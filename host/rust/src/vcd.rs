@@ -1,14 +1,30 @@
 //! Wires, lines and drives over time, as a Value Change Dump.
 //!
-//! A VIA tick is 1,276.55 ns. Items with no wait between them are drawn 10 ns apart, so that their
-//! order shows; where more than 127 come in one tick, what follows is late by that much. The state
-//! is taken after each item: what ends within a wait (a step of a drive, a timer) shows at its end.
+//! A VIA tick is 1,276.55 nanoseconds. Items with no wait between them are drawn 10 nanoseconds apart,
+//! so that their order shows; where more than 127 come in one tick, what follows is late by that much.
+//! The state is taken after each item: what ends within a wait (a step of a drive, a timer) shows at
+//! its end.
+//!
+//! ```
+//! use swarmtempo::{vcd, List, Machine};
+//!
+//! let list: List = "12t WR VIA.ORB 4\n0t WR VIA.DDRB 7\n0t WR VIA.ORB 0".parse()?;
+//! let mut dump = Vec::new();
+//! let run = vcd::dump(&mut Machine::fresh(), list.as_ref(), &mut dump)?;
+//! assert!(run.at_end());
+//! let dump = String::from_utf8(dump)?;
+//! assert!(dump.starts_with("$version Swarmtempo $end"));
+//! # Ok::<(), Box<dyn std::error::Error>>(())
+//! ```
 
+use crate::{
+    pieces, Answer, Command, DiskLine, Machine, Phase, Piece, Run, State, Timed, ViaTicks,
+    ANSWER_LEN, TICKS_PER_SECOND,
+};
 use std::io::{self, Write};
-use swarmtempo::{Command, DiskLine, Phase, State, ViaTicks, TICKS_PER_SECOND};
 
-/// Nanoseconds between two items at least.
-const GAP: u64 = 10;
+/// Between two items, at least.
+const GAP_NANOSECONDS: u64 = 10;
 
 /// Tracks in a dump.
 const COUNT: usize = 30;
@@ -48,6 +64,28 @@ const TRACKS: [(&str, &str, u32); COUNT] = [
     ("list", "refused", 4),
 ];
 
+/// Runs a list record by record, with room for every answer, and writes the dump.
+///
+/// # Errors
+/// Those of the output; then the machine has done the items before.
+pub fn dump(machine: &mut Machine, list: &[u8], out: impl Write) -> io::Result<Run> {
+    let mut vcd = Vcd::new(out, machine.state())?;
+    let mut all = Run { stop: None, consumed: 0, written: 0 };
+    for piece in pieces(list) {
+        let mut answer = [0; ANSWER_LEN];
+        let run = machine.run_in(piece.as_ref(), &mut answer);
+        all.consumed += run.consumed;
+        all.written += run.written;
+        all.stop = run.stop;
+        vcd.record(piece, &answer, machine.state())?;
+        if all.stop.is_some() {
+            break;
+        }
+    }
+    vcd.finish()?;
+    Ok(all)
+}
+
 /// Writes a dump.
 pub struct Vcd<W> {
     out: W,
@@ -58,9 +96,10 @@ pub struct Vcd<W> {
     before: State,
     decoded: Decoded,
     items: u64,
+    /// VIA ticks passed.
     ticks: u64,
-    /// Nanoseconds of the last sample.
-    time: u64,
+    /// The time of the last sample.
+    nanoseconds: u64,
 }
 
 /// What the decoded track shows: words, and the last command and data bytes.
@@ -72,6 +111,9 @@ struct Decoded {
 
 impl<W: Write> Vcd<W> {
     /// Begins a dump with the state before the first item.
+    ///
+    /// # Errors
+    /// Those of the output, here as below.
     pub fn new(mut out: W, start: State) -> io::Result<Vcd<W>> {
         let mut head = String::from("$version Swarmtempo $end\n");
         head.push_str(
@@ -92,7 +134,7 @@ impl<W: Write> Vcd<W> {
         }
         head.push_str("$upscope $end\n$upscope $end\n$enddefinitions $end\n");
         out.write_all(head.as_bytes())?;
-        let words = open_command(&start.phase);
+        let words = open_command(start.phase);
         let command = if let Phase::Taking { command, .. } = start.phase { command } else { 0 };
         let decoded = Decoded { words, command, byte: 0 };
         let mut vcd = Vcd {
@@ -103,7 +145,7 @@ impl<W: Write> Vcd<W> {
             decoded,
             items: 0,
             ticks: 0,
-            time: 0,
+            nanoseconds: 0,
         };
         vcd.out.write_all(b"#0\n$dumpvars\n")?;
         vcd.changes(&start, 0)?;
@@ -111,23 +153,49 @@ impl<W: Write> Vcd<W> {
         Ok(vcd)
     }
 
-    /// After an item: its wait (0 where it was refused), the refusal's number or 0.
+    /// After a record: its answer, and the state then.
+    ///
+    /// # Errors
+    /// Those of the output.
+    pub fn record(
+        &mut self,
+        piece: Piece<'_>,
+        answer: &[u8; ANSWER_LEN],
+        after: State,
+    ) -> io::Result<()> {
+        match (Answer::read(answer), Timed::try_from(piece)) {
+            (Some(Answer::Ok(_)), Ok(timed)) => self.item(timed.wait, 0, after),
+            (Some(Answer::No(refusal)), _) => self.item(ViaTicks(0), refusal.number(), after),
+            _ => Ok(()),
+        }
+    }
+
+    /// After an item: its wait (0 where it was refused), the refusal's number or 0, and the state then.
+    ///
+    /// # Errors
+    /// Those of the output.
     pub fn item(&mut self, wait: ViaTicks, refused: u8, after: State) -> io::Result<()> {
         self.items += 1;
         self.ticks += u64::from(wait.0);
         let exact = u128::from(self.ticks) * 1_000_000_000 / u128::from(TICKS_PER_SECOND);
-        self.time = (exact as u64).max(self.time + GAP);
-        self.out.write_all(format!("#{}\n", self.time).as_bytes())?;
+        self.nanoseconds = u64::try_from(exact)
+            .unwrap_or(u64::MAX)
+            .max(self.nanoseconds.saturating_add(GAP_NANOSECONDS));
+        self.out.write_all(format!("#{}\n", self.nanoseconds).as_bytes())?;
         self.decoded.follow(&self.before, &after);
         self.changes(&after, refused)?;
         self.before = after;
         Ok(())
     }
 
-    /// The end of the list: what the dump was written to.
+    /// The end of the list. The output is given back, flushed.
+    ///
+    /// # Errors
+    /// Those of the output.
     pub fn finish(mut self) -> io::Result<W> {
-        let end = format!("#{}\n", self.time + GAP);
+        let end = format!("#{}\n", self.nanoseconds.saturating_add(GAP_NANOSECONDS));
         self.out.write_all(end.as_bytes())?;
+        self.out.flush()?;
         Ok(self.out)
     }
 
@@ -183,11 +251,11 @@ impl<W: Write> Vcd<W> {
             line(DiskLine::Q7),
             u64::from(internal.disk),
             u64::from(internal.motor),
-            u64::from(internal.step_left > 0),
+            u64::from(internal.step_left.0 > 0),
             u64::from(internal.track),
             u64::from(external.disk),
             u64::from(external.motor),
-            u64::from(external.step_left > 0),
+            u64::from(external.step_left.0 > 0),
             u64::from(external.track),
             self.items & 0xFFFF_FFFF,
             u64::from(refused),
@@ -197,16 +265,18 @@ impl<W: Write> Vcd<W> {
 
 /// A track's short name: one printable character.
 fn code(track: usize) -> char {
-    char::from(b'!' + track as u8)
+    ('!'..='~').nth(track).unwrap_or('~')
 }
+
+const _: () = assert!(COUNT <= ('~' as usize - '!' as usize), "a character for each track");
 
 fn named(command: u8) -> String {
     Command::of(command).map_or(format!("${command:02X}"), |command| command.to_string())
 }
 
 /// A command that was under way before the first item.
-fn open_command(phase: &Phase) -> String {
-    match *phase {
+fn open_command(phase: Phase) -> String {
+    match phase {
         Phase::Idle => "idle".into(),
         Phase::Listening { .. } => "command".into(),
         Phase::Taking { command, .. } => named(command),

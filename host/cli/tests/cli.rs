@@ -325,7 +325,7 @@ impl Dump {
             for (what, value) in [
                 ("disk", u64::from(drive.disk)),
                 ("motor", u64::from(drive.motor)),
-                ("step", u64::from(drive.step_left > 0)),
+                ("step", u64::from(drive.step_left.0 > 0)),
                 ("track", u64::from(drive.track)),
             ] {
                 assert_eq!(self.at(&format!("{name}_{what}"), time), value, "{name} {what} {time}");
