@@ -8,8 +8,27 @@ use std::process::Command;
 use swarmtempo::text::assemble;
 use swarmtempo::{Machine, CHUNK_LEN};
 
-const COMMANDS: [&str; 10] =
-    ["run", "asm", "disasm", "image", "sample", "bench", "man", "completions", "help", "version"];
+const COMMANDS: [&str; 14] = [
+    "run",
+    "asm",
+    "disasm",
+    "image",
+    "sheet get",
+    "sheet list",
+    "sheet make",
+    "sheet compact",
+    "sample",
+    "bench",
+    "man",
+    "completions",
+    "help",
+    "version",
+];
+
+/// A command's words and more.
+fn words<'a>(name: &'a str, more: &'a str) -> Vec<&'a str> {
+    name.split(' ').chain([more]).collect()
+}
 
 #[test]
 fn every_command_has_help_and_version() {
@@ -20,19 +39,23 @@ fn every_command_has_help_and_version() {
     assert_eq!(version, format!("swarmtempo {}\n", env!("CARGO_PKG_VERSION")));
     for name in COMMANDS {
         assert!(all.contains(&format!("\n  swarmtempo {name}")), "{name}");
-        let own = program(&[name, "--help"], b"");
+        let own = program(&words(name, "--help"), b"");
         assert_eq!(status(&own), 0);
         assert!(stdout(&own).starts_with(&format!("swarmtempo {name}")), "{}", stdout(&own));
-        assert_eq!(own.stdout, program(&["help", name], b"").stdout);
-        assert_eq!(own.stdout, program(&[name, "-h"], b"").stdout);
-        assert_eq!(stdout(&program(&[name, "-V"], b"")), version);
-        assert_eq!(stdout(&program(&[name, "--version"], b"")), version);
+        assert_eq!(own.stdout, program(&words(&format!("help {name}"), "--"), b"").stdout);
+        assert_eq!(own.stdout, program(&words(name, "-h"), b"").stdout);
+        assert_eq!(stdout(&program(&words(name, "-V"), b"")), version);
+        assert_eq!(stdout(&program(&words(name, "--version"), b"")), version);
     }
     for flag in ["--text", "--image FILE", "--save FILE", "--vcd FILE", "--quiet", "--strict"] {
         assert!(stdout(&program(&["run", "--help"], b"")).contains(flag), "{flag}");
     }
     assert_eq!(stdout(&program(&["-V"], b"")), version);
     assert_eq!(stdout(&program(&["--version"], b"")), version);
+    let sheet = program(&["sheet", "--help"], b"");
+    assert!(stdout(&sheet).contains("\n  swarmtempo sheet compact [SHEET]"), "{}", stdout(&sheet));
+    assert_eq!(sheet.stdout, program(&["help", "sheet"], b"").stdout);
+    assert_eq!(stdout(&program(&["sheet", "-V"], b"")), version);
     // Help comes first, whatever else is wrong.
     let wrong = program(&["run", "--fly", "a", "b", "--help"], b"");
     assert_eq!(wrong.stdout, program(&["run", "--help"], b"").stdout);
@@ -44,8 +67,15 @@ fn units_in_full() {
     let folder = Folder::new("units");
     let image = folder.put("image", Machine::fresh().image());
     let mut said: Vec<String> =
-        COMMANDS.map(|name| stdout(&program(&[name, "--help"], b""))).into();
-    for words in [&[][..], &["help"], &["man"], &["image", &image], &["bench", "--records=10"]] {
+        COMMANDS.map(|name| stdout(&program(&words(name, "--help"), b""))).into();
+    for words in [
+        &[][..],
+        &["help"],
+        &["help", "sheet"],
+        &["man"],
+        &["image", &image],
+        &["bench", "--records=10"],
+    ] {
         said.push(stdout(&program(words, b"")));
     }
     let refused = program(&["run", "--text", "-"], b"9us SE\n7t PW 8s\n0t DI internal 0 0 0\n");
@@ -100,6 +130,10 @@ fn options_in_their_forms() {
         (&["image"], "FILE is missing"),
         (&["rum"], "unknown command `rum`; run is meant, perhaps"),
         (&["help", "fly"], "unknown command `fly`; see swarmtempo help"),
+        (&["sheet"], "sheet: its command is missing: get, list, make, compact; see"),
+        (&["sheet", "gte", "7"], "unknown command `sheet gte`; sheet get is meant, perhaps"),
+        (&["shet"], "unknown command `shet`; sheet is meant, perhaps"),
+        (&["sheet", "get"], "sheet get: SETTING is missing; see swarmtempo sheet get --help"),
         (&["completions", "dos"], "SHELL is one of bash, zsh, fish"),
     ] {
         let output = run(words);
@@ -363,7 +397,7 @@ fn the_man_page() {
 fn completions_complete() {
     for shell in ["bash", "zsh", "fish"] {
         let text = stdout(&program(&["completions", shell], b""));
-        for word in COMMANDS.iter().chain(&["strict", "vcd"]) {
+        for word in COMMANDS.iter().flat_map(|name| name.split(' ')).chain(["strict", "vcd"]) {
             assert!(text.contains(word), "{shell}: {word}");
         }
         if has(shell, "completions read by their shell") {
@@ -386,6 +420,12 @@ fn completions_complete() {
         (&["run", "li"], "list.bin"),
         (&["completions", ""], "bash zsh fish"),
         (&["run", "--room", "li"], ""),
+        (&["she"], "sheet"),
+        (&["sheet", ""], "get list make compact --help"),
+        (&["sheet", "get", "--h"], "--house --help"),
+        (&["sheet", "get", "--house", "li"], "list.bin"),
+        (&["sheet", "get", "7"], ""),
+        (&["sheet", "list", "li"], "list.bin"),
     ] {
         let mut command = Command::new("bash");
         command.args(["-c", script, PROGRAM]).args(words).current_dir(&folder.0);

@@ -9,7 +9,7 @@ use std::fs::File;
 use std::process::{Command, Stdio};
 use std::time::{Duration, Instant};
 use swarmtempo::text::{assemble_all, assemble_line, disassemble};
-use swarmtempo::{answers, pieces, Chunks, Item, Machine, Piece};
+use swarmtempo::{answers, pieces, sheet_text, Chunks, Item, Machine, Piece};
 
 /// A run of the program that takes longer hangs.
 const PATIENCE: Duration = Duration::from_secs(20);
@@ -82,6 +82,8 @@ const TEXTS: [&str; 3] = [
      0t DI external 1 1 1\n$FFFFt PW 4294967295s\nRAW 05 00 53 45 00 00 00\n",
 ];
 
+const SHEET: &str = "7 3 \"north bench\"\n20 1 14\n$201 255 00 FF ; remark\n7 3 \"x\"\n9 0\n";
+
 fn broken_text(random: &mut Random) -> Vec<u8> {
     let text = TEXTS[random.below(TEXTS.len())];
     random.broken(text.as_bytes())
@@ -93,14 +95,16 @@ fn records(random: &mut Random) -> Vec<u8> {
 
 /// Anything that a file can hold: noise, broken texts, records and images.
 fn contents(random: &mut Random) -> Vec<u8> {
-    match random.below(5) {
+    match random.below(7) {
         0 => random.bytes(300),
-        1 => random.broken(Machine::fresh().image()),
-        2 => {
+        1 => random.broken(&sheet_text::assemble(SHEET).expect("in the form")),
+        2 => random.broken(SHEET.as_bytes()),
+        3 => random.broken(Machine::fresh().image()),
+        4 => {
             let list = records(random);
             random.broken(&list)
         }
-        3 => vec![random.byte(); random.below(200_000)],
+        5 => vec![random.byte(); random.below(200_000)],
         _ => broken_text(random),
     }
 }
@@ -171,7 +175,7 @@ fn images() {
 #[test]
 fn the_program() {
     let folder = Folder::new("robust");
-    let commands: [&[&str]; 9] = [
+    let commands: [&[&str]; 14] = [
         &["run", "file"],
         &["run", "file", "--text"],
         &["run", "file", "--records", "--vcd", "vcd", "--quiet"],
@@ -181,6 +185,11 @@ fn the_program() {
         &["asm", "-o", "out"],
         &["disasm", "file", "--records"],
         &["image", "file"],
+        &["sheet", "get", "7", "--bench", "file"],
+        &["sheet", "get", "7", "--text", "--house", "file"],
+        &["sheet", "list"],
+        &["sheet", "make", "file", "-o", "out"],
+        &["sheet", "compact", "file", "-o", "out", "--room", "70"],
     ];
     for_a_while(4, |random| {
         let file = folder.put("file", &contents(random));
@@ -204,6 +213,6 @@ fn the_program() {
         let told = String::from_utf8_lossy(&folder.get("told")).into_owned();
         assert!(!told.contains("panicked"), "{words:?} on {file}: {told}");
         let status = ended.code().unwrap_or(-1);
-        assert!([0, 1, 2, 3, 4, 5, 7, 8, 65].contains(&status), "{words:?} {status}: {told}");
+        assert!([0, 1, 2, 3, 4, 5, 6, 7, 8, 65].contains(&status), "{words:?} {status}: {told}");
     });
 }

@@ -96,6 +96,6 @@ pub fn assemble_all(text: &str) -> Result<Vec<u8>, Vec<TextError>> {
 }
 
 /// Its lines, without a byte order mark.
-fn lines(text: &str) -> std::str::Lines<'_> {
+pub(crate) fn lines(text: &str) -> std::str::Lines<'_> {
     text.strip_prefix('\u{FEFF}').unwrap_or(text).lines()
 }

@@ -1,11 +1,11 @@
-//! Commands, their words, and what they exit with.
+//! The command line: commands, their words, and what they exit with. See `swarmtempo help`.
 
+mod assemble;
 mod bench;
 mod commands;
 mod completions;
 mod conflicts;
 mod contents;
-mod convert;
 mod draft;
 mod failure;
 mod files;
@@ -18,6 +18,7 @@ mod place;
 mod progress;
 mod request;
 mod run;
+mod sheet;
 mod source;
 mod style;
 mod summary;
@@ -25,7 +26,7 @@ mod sys;
 mod tour;
 mod words;
 
-use commands::COMMANDS;
+use commands::{COMMANDS, GROUPS};
 use failure::{called, Failure};
 use files::{print, say, Out};
 use place::{Input, Output};
@@ -38,7 +39,7 @@ use words::Given;
 const VERSION: &str = concat!("swarmtempo ", env!("CARGO_PKG_VERSION"), "\n");
 
 /// Runs the command of the program's words.
-pub fn main() -> ExitCode {
+fn main() -> ExitCode {
     match command(std::env::args_os().skip(1).collect()) {
         Ok(status) => ExitCode::from(status),
         Err(failure) => {
@@ -53,7 +54,29 @@ fn command(mut words: Vec<OsString>) -> Result<u8, Failure> {
     if words.is_empty() {
         return tour::tour();
     }
-    let name = words.remove(0);
+    let mut name = words.remove(0);
+    if let Some(group) = name.to_str().and_then(commands::group) {
+        match words.first() {
+            None => {
+                let names = group.last_words().join(", ");
+                return Err(Failure::usage(
+                    group.name,
+                    &format!("its command is missing: {names}"),
+                ));
+            }
+            Some(word) if word == "-h" || word == "--help" => {
+                return print(&help::of_group(group)).map(|()| 0);
+            }
+            Some(word) if word == "-V" || word == "--version" => {
+                return print(VERSION).map(|()| 0);
+            }
+            Some(word) => {
+                name.push(" ");
+                name.push(word);
+                words.remove(0);
+            }
+        }
+    }
     let command = match name.to_str() {
         Some("-h" | "--help") => commands::find("help"),
         Some("-V" | "--version") => commands::find("version"),
@@ -75,13 +98,17 @@ fn command(mut words: Vec<OsString>) -> Result<u8, Failure> {
 fn act(command: &str, given: &Given) -> Result<u8, Failure> {
     match command {
         "run" => run::run(&request::Options::of(given)?),
-        "asm" => convert::asm(given),
-        "disasm" => convert::disasm(given),
+        "asm" => assemble::asm(given),
+        "disasm" => assemble::disasm(given),
         "image" => {
             let input = Input::of(given.need()?);
             let machine = image::read(&input, source::open(&input)?)?;
             print(&describe::image(&machine)).map(|()| 0)
         }
+        "sheet get" => sheet::get(given),
+        "sheet list" => sheet::list(given),
+        "sheet make" => sheet::make(given),
+        "sheet compact" => sheet::compact(given),
         "sample" => write(given, tour::LIST),
         "bench" => {
             given.operand()?;
@@ -102,13 +129,21 @@ fn act(command: &str, given: &Given) -> Result<u8, Failure> {
             given.operand()?;
             print(VERSION).map(|()| 0)
         }
-        _ => match given.operand()? {
-            None => print(&help::all()).map(|()| 0),
-            Some(name) => match name.to_str().and_then(commands::find) {
-                Some(command) => print(&help::of(command)).map(|()| 0),
-                None => Err(unknown(&name)),
-            },
-        },
+        _ => helped(&given.operands().join(OsStr::new(" "))),
+    }
+}
+
+/// Help: of all commands where no name is given, else of a command or a group.
+fn helped(name: &OsStr) -> Result<u8, Failure> {
+    let name = match name.to_str() {
+        Some("") => return print(&help::all()).map(|()| 0),
+        Some(name) => name,
+        None => return Err(unknown(name)),
+    };
+    match (commands::find(name), commands::group(name)) {
+        (Some(command), _) => print(&help::of(command)).map(|()| 0),
+        (None, Some(group)) => print(&help::of_group(group)).map(|()| 0),
+        (None, None) => Err(unknown(OsStr::new(name))),
     }
 }
 
@@ -126,7 +161,8 @@ fn to_output(given: &Given, text: &str) -> Result<u8, Failure> {
 
 fn unknown(name: &OsStr) -> Failure {
     let name = place::shown(name);
-    let near = words::nearest(&name, COMMANDS.iter().map(|command| command.name));
+    let names = COMMANDS.iter().map(|command| command.name);
+    let near = words::nearest(&name, names.chain(GROUPS.iter().map(|group| group.name)));
     let near = near.map_or(String::new(), |near| format!("; {near} is meant, perhaps"));
     Failure::Usage(format!("unknown command `{name}`{near}; see {} help", called()))
 }

@@ -1,15 +1,15 @@
 //! `swarmtempo` with no word: a small list is run and explained.
 
-use super::describe::date;
 use super::failure::{called, Failure};
 use super::files;
 use super::numbers::{counted, ticks_and_seconds};
 use super::style::{Style, When};
+use swarmtempo::describe::date;
 use swarmtempo::{answers, pieces, text, Answer, Item, Machine, Piece};
 
 /// The list. In it `;;` begins a heading, and `;-` the words for the lines without a comment below it,
 /// which make one row together.
-pub const LIST: &str = include_str!("../../../captures/first.txt");
+pub const LIST: &str = include_str!("../../captures/first.txt");
 
 const INTRODUCTION: &str = "\
 swarmtempo runs lists of timed bus accesses and input events on the board (VIA, clock chip,

@@ -1,9 +1,9 @@
 //! What a run came to, for people.
 
-use super::describe::date;
 use super::lines::Conversions;
 use super::numbers::{counted, grouped, ticks_and_seconds};
 use super::style::Style;
+use swarmtempo::describe::date;
 use swarmtempo::{Piece, Refusal, State, ANSWER_LEN};
 
 /// Refusals have the numbers 1 to 8.

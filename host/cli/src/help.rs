@@ -1,6 +1,6 @@
 //! Help: all commands, or one.
 
-use super::commands::{Command, COMMANDS, STATUSES, TEXT_FORM, UNITS};
+use super::commands::{Command, Group, COMMANDS, STATUSES, TEXT_FORM, UNITS};
 use super::failure::called;
 
 /// All commands.
@@ -28,6 +28,18 @@ pub fn of(command: &Command) -> String {
         let name = format!("{} {}", flag.name, flag.value);
         out.push_str(&format!("  {:<17} {}\n", name.trim_end(), flag.help));
     }
+    out
+}
+
+/// A group's commands.
+pub fn of_group(group: &Group) -> String {
+    let called = called();
+    let mut out = format!("{called} {}: {}\n\n", group.name, group.brief);
+    for command in group.commands() {
+        out.push_str(&format!("  {:<42} {}\n", usage(command), command.brief));
+    }
+    out.push_str(&format!("\n{}\n\n", group.about));
+    out.push_str(&format!("{called} {} COMMAND --help has a command's options.\n", group.name));
     out
 }
 

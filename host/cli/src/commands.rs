@@ -12,7 +12,7 @@ pub struct Flag {
 
 /// A command.
 pub struct Command {
-    /// Its word.
+    /// Its word, or two words, of which the first is a group's.
     pub name: &'static str,
     /// What follows it beside the options.
     pub operand: &'static str,
@@ -22,6 +22,41 @@ pub struct Command {
     pub about: &'static str,
     /// Its options.
     pub flags: &'static [Flag],
+}
+
+/// Commands of two words, under the first of them.
+pub struct Group {
+    /// The first word.
+    pub name: &'static str,
+    /// What they are about, in a line.
+    pub brief: &'static str,
+    /// The rest of what there is to say of all of them.
+    pub about: &'static str,
+}
+
+impl Group {
+    /// Its commands.
+    pub fn commands(&self) -> impl Iterator<Item = &'static Command> + use<> {
+        let name = self.name;
+        COMMANDS.iter().filter(move |command| command.group() == Some(name))
+    }
+
+    /// Their last words.
+    pub fn last_words(&self) -> Vec<&'static str> {
+        self.commands().map(Command::last_word).collect()
+    }
+}
+
+impl Command {
+    /// The first of two words.
+    pub fn group(&self) -> Option<&'static str> {
+        self.name.split_once(' ').map(|(group, _)| group)
+    }
+
+    /// The word, or the last of two.
+    pub fn last_word(&self) -> &'static str {
+        self.name.split_once(' ').map_or(self.name, |(_, word)| word)
+    }
 }
 
 const OUT: Flag = Flag {
@@ -67,8 +102,23 @@ const RUN: [Flag; 10] = [
     },
 ];
 
+const SHEET_TEXT: Flag =
+    Flag { name: "--text", value: "", help: "the sheets named are in the text form" };
+
+/// All groups.
+pub const GROUPS: [Group; 1] = [Group {
+    name: "sheet",
+    brief: "sheets of settings",
+    about: "A bench has its settings from two sheets, its own and the house's. As text a sheet has a record a\n\
+            line: setting (0 to 65535), version (0 to 255), bytes.\n\
+            \n  \
+            20 1 14               ; bytes as two hexadecimal digits each\n  \
+            7  3 \"north bench\"    ; or as ASCII text between quotes\n  \
+            9  0                  ; set, with no bytes",
+}];
+
 /// All commands.
-pub const COMMANDS: [Command; 10] = [
+pub const COMMANDS: [Command; 14] = [
     Command {
         name: "run",
         operand: "LIST",
@@ -110,6 +160,55 @@ pub const COMMANDS: [Command; 10] = [
         about: "Shows the state in an image that run --save wrote. An image of no accepted state is refused\n\
                 with the first field that is out of its range: its name, offset and value.",
         flags: &[],
+    },
+    Command {
+        name: "sheet get",
+        operand: "SETTING",
+        brief: "a setting's bytes, and their sheet",
+        about: "Looks a setting (0 to 65535) up in the bench sheet, then in the house sheet, and shows its\n\
+                number, the sheet that it is from, and its bytes; or that it is not set.\n\
+                \n\
+                Exit status: 0 where it is set, 1 a sheet is broken, 2 it is not set.",
+        flags: &[
+            Flag { name: "--bench", value: "FILE", help: "the bench sheet (without it: an empty one)" },
+            Flag { name: "--house", value: "FILE", help: "the house sheet (without it: an empty one)" },
+            SHEET_TEXT,
+        ],
+    },
+    Command {
+        name: "sheet list",
+        operand: "[SHEET]",
+        brief: "a sheet to text",
+        about: "Shows all records of a sheet as text, in their order; those that do not count say so in a\n\
+                comment, so that sheet make gives the same bytes back. Without SHEET it reads standard\n\
+                input. Exit status: 1 where the sheet is broken.",
+        flags: &[OUT, SHEET_TEXT],
+    },
+    Command {
+        name: "sheet make",
+        operand: "[TEXT]",
+        brief: "text to a sheet",
+        about: "Turns a text, one record a line, into a sheet. Without TEXT it reads standard input. Every\n\
+                wrong line is named, as FILE:LINE:COLUMN: MESSAGE, and then nothing is written.",
+        flags: &[OUT],
+    },
+    Command {
+        name: "sheet compact",
+        operand: "[SHEET]",
+        brief: "a sheet's counting records alone",
+        about: "Writes the records of a sheet that count, one for each setting, in their order: every answer\n\
+                stays the same. Without SHEET it reads standard input.\n\
+                \n\
+                Exit status: 1 the sheet is broken, 6 --room is too little; then nothing is written.",
+        flags: &[
+            OUT,
+            SHEET_TEXT,
+            Flag {
+                name: "--room",
+                value: "BYTES",
+                help: "gives the records so many bytes (without it: all they need)",
+            },
+        ],
     },
     Command {
         name: "sample",
@@ -176,10 +275,16 @@ turned into VIA ticks and rounded up), a time off in s (seconds).";
 /// Statuses, in a sentence.
 pub const STATUSES: &str = "\
 Exit status of run: 0 at the end of the list, 1 a record is cut, 6 no room for an answer, 7 the image
-is none of an accepted state; with --strict the number of the first refusal. Of all commands: 64 wrong
-words, 65 an error in a text or a file of another kind, 74 a file cannot be read or written.";
+is none of an accepted state; with --strict the number of the first refusal. Of sheet: 1 a sheet is
+broken, 2 a setting is not set, 6 too little room. Of all commands: 64 wrong words, 65 an error in a
+text or a file of another kind, 74 a file cannot be read or written.";
 
-/// The command of a word.
+/// The group of a word.
+pub fn group(name: &str) -> Option<&'static Group> {
+    GROUPS.iter().find(|group| group.name == name)
+}
+
+/// The command of its name.
 pub fn find(name: &str) -> Option<&'static Command> {
     COMMANDS.iter().find(|command| command.name == name)
 }

@@ -2,6 +2,7 @@
 
 use std::fmt;
 use std::io;
+use swarmtempo::SheetRefusal;
 
 /// Why a command failed.
 #[derive(Debug)]
@@ -16,6 +17,8 @@ pub enum Failure {
     File(String, io::Error),
     /// An image that is none of an accepted state.
     State(String, String),
+    /// A sheet that is refused.
+    Sheet(String, SheetRefusal),
 }
 
 impl Failure {
@@ -26,6 +29,7 @@ impl Failure {
             Failure::Text(..) | Failure::Content(..) => 65,
             Failure::File(..) => 74,
             Failure::State(..) => 7,
+            Failure::Sheet(_, refusal) => refusal.number(),
         }
     }
 
@@ -47,6 +51,9 @@ impl fmt::Display for Failure {
             Failure::File(name, error) => write!(f, "{name}: {}", reason(error)),
             Failure::State(name, why) => {
                 write!(f, "{name}: not the image of an accepted state: {why}")
+            }
+            Failure::Sheet(name, refusal) => {
+                write!(f, "{name}: {refusal} (refusal {})", refusal.number())
             }
         }
     }

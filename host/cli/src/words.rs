@@ -102,6 +102,11 @@ impl Given {
         }
     }
 
+    /// All operands.
+    pub fn operands(&self) -> &[OsString] {
+        &self.operands
+    }
+
     /// The one operand, where there is one.
     pub fn operand(&self) -> Result<Option<OsString>, Failure> {
         let most = usize::from(!self.command.operand.is_empty());

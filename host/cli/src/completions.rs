@@ -1,6 +1,6 @@
 //! Completions of the words, for shells.
 
-use super::commands::{Command, Flag, COMMANDS};
+use super::commands::{Command, Flag, COMMANDS, GROUPS};
 use std::ffi::OsStr;
 
 /// The shells.
@@ -25,7 +25,7 @@ enum Values {
 
 fn values(name: &str) -> Values {
     match name.trim_matches(['[', ']']) {
-        "FILE" | "LIST" | "TEXT" => Values::Files,
+        "FILE" | "LIST" | "TEXT" | "SHEET" => Values::Files,
         "WHEN" => Values::Words(vec!["always", "never", "auto"]),
         "SHELL" => Values::Words(SHELLS.to_vec()),
         "COMMAND" => Values::Words(names()),
@@ -33,8 +33,15 @@ fn values(name: &str) -> Values {
     }
 }
 
+/// First words and what they do: of commands of one word, and of groups.
+fn first_words() -> Vec<(&'static str, &'static str)> {
+    let alone = COMMANDS.iter().filter(|command| command.group().is_none());
+    let groups = GROUPS.iter().map(|group| (group.name, group.brief));
+    alone.map(|command| (command.name, command.brief)).chain(groups).collect()
+}
+
 fn names() -> Vec<&'static str> {
-    COMMANDS.iter().map(|command| command.name).collect()
+    first_words().into_iter().map(|(name, _)| name).collect()
 }
 
 /// The options of a command, and those of all.
@@ -55,16 +62,25 @@ fn bash() -> String {
     out.push_str("    if [ \"$COMP_CWORD\" -eq 1 ]; then\n");
     let first = Values::Words([names(), vec!["--help", "--version"]].concat());
     out.push_str(&format!("        {}\n        return\n    fi\n", reply(&first)));
-    out.push_str("    case ${COMP_WORDS[1]}:$before:$word in\n");
+    out.push_str("    local command=${COMP_WORDS[1]}\n    case $command in\n");
+    for group in &GROUPS {
+        let second = reply(&Values::Words([group.last_words(), vec!["--help"]].concat()));
+        out.push_str(&format!(
+            "    {})\n        if [ \"$COMP_CWORD\" -eq 2 ]; then {second}; return; fi\n",
+            group.name
+        ));
+        out.push_str("        command=\"$command ${COMP_WORDS[2]}\" ;;\n");
+    }
+    out.push_str("    esac\n    case $command:$before:$word in\n");
     for command in &COMMANDS {
         for Flag { name, value, .. } in command.flags.iter().filter(|flag| !flag.value.is_empty()) {
             let reply = reply(&values(value));
-            out.push_str(&format!("    {}:{name}:*) {reply} ;;\n", command.name));
+            out.push_str(&format!("    '{}':{name}:*) {reply} ;;\n", command.name));
         }
         let flags = reply(&Values::Words(options(command)));
-        out.push_str(&format!("    {}:*:-*) {flags} ;;\n", command.name));
+        out.push_str(&format!("    '{}':*:-*) {flags} ;;\n", command.name));
         let operand = reply(&values(command.operand));
-        out.push_str(&format!("    {}:*) {operand} ;;\n", command.name));
+        out.push_str(&format!("    '{}':*) {operand} ;;\n", command.name));
     }
     out.push_str("    esac\n}\ncomplete -o filenames -F _swarmtempo swarmtempo\n");
     out
@@ -81,14 +97,27 @@ fn zsh() -> String {
     };
     let mut out = String::from("#compdef swarmtempo\n# zsh completions of swarmtempo\n");
     out.push_str("if (( CURRENT == 2 )); then\n    local -a commands=(\n");
-    for command in &COMMANDS {
-        out.push_str(&format!("        '{}:{}'\n", command.name, plain(command.brief)));
+    for (name, brief) in first_words() {
+        out.push_str(&format!("        '{name}:{}'\n", plain(brief)));
     }
     out.push_str("    )\n    _describe command commands\n    return\nfi\n");
     out.push_str("local command=$words[2]\nshift words\n(( CURRENT-- ))\ncase $command in\n");
+    for group in &GROUPS {
+        out.push_str(&format!("{})\n    if (( CURRENT == 2 )); then\n", group.name));
+        out.push_str("        local -a commands=(\n");
+        for command in group.commands() {
+            let (word, brief) = (command.last_word(), plain(command.brief));
+            out.push_str(&format!("            '{word}:{brief}'\n"));
+        }
+        out.push_str("        )\n        _describe command commands\n        return\n    fi\n");
+        out.push_str(
+            "    command=\"$command $words[2]\"\n    shift words\n    (( CURRENT-- ))\n    ;;\n",
+        );
+    }
+    out.push_str("esac\ncase $command in\n");
     for command in &COMMANDS {
         out.push_str(&format!(
-            "{})\n    _arguments '--help[help]' '--version[version]'",
+            "'{}')\n    _arguments '--help[help]' '--version[version]'",
             command.name
         ));
         for flag in command.flags {
@@ -115,11 +144,28 @@ fn zsh() -> String {
 fn fish() -> String {
     let plain = |text: &str| text.replace('\\', "\\\\").replace('\'', "\\'");
     let mut out = String::from("# fish completions of swarmtempo\n");
-    let first = "__fish_use_subcommand";
+    let from = "__fish_seen_subcommand_from";
+    for (name, brief) in first_words() {
+        let brief = plain(brief);
+        out.push_str(&format!(
+            "complete -c swarmtempo -f -n __fish_use_subcommand -a {name} -d '{brief}'\n"
+        ));
+    }
+    for group in &GROUPS {
+        let name = group.name;
+        let unsaid = format!("'{from} {name}; and not {from} {}'", group.last_words().join(" "));
+        for command in group.commands() {
+            let (word, brief) = (command.last_word(), plain(command.brief));
+            out.push_str(&format!(
+                "complete -c swarmtempo -f -n {unsaid} -a {word} -d '{brief}'\n"
+            ));
+        }
+    }
     for command in &COMMANDS {
-        let (name, brief) = (command.name, plain(command.brief));
-        out.push_str(&format!("complete -c swarmtempo -f -n {first} -a {name} -d '{brief}'\n"));
-        let seen = format!("'__fish_seen_subcommand_from {name}'");
+        let seen = match command.group() {
+            None => format!("'{from} {}'", command.name),
+            Some(group) => format!("'{from} {group}; and {from} {}'", command.last_word()),
+        };
         for flag in command.flags {
             let kind = if flag.name.starts_with("--") { "-l" } else { "-s" };
             let word = flag.name.trim_start_matches('-');
