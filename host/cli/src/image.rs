@@ -211,8 +211,8 @@ mod tests {
         let texts = [
             "",
             "0t WR VIA.ORB $04\n0t WR VIA.DDRB $07\n0t WR VIA.ORB $00\n1t WR VIA.ORB 2",
-            include_str!("../../../captures/cell.txt"),
-            include_str!("../../../captures/seek.txt"),
+            include_str!("../../captures/cell.txt"),
+            include_str!("../../captures/seek.txt"),
         ];
         for text in texts {
             let lines: Vec<&str> = text.lines().collect();

@@ -26,6 +26,7 @@
 //!   [`Machine::run`] and [`Machine::run_in`] for answers as bytes, which [`answers`] reads.
 //! - States: [`Machine::image`] to save and [`Machine::from_image`] to restore; [`State`] to look at.
 //! - For people: [`table`], [`vcd`], [`describe`], and `Display` of nearly everything.
+//! - Settings of a bench: [`Sheets`], [`compact`], and as text [`sheet_text`].
 //! - The C functions as they are: [`sys`].
 //!
 //! Ticks and seconds are types of their own, so that one is not passed as the other:

@@ -112,7 +112,8 @@ impl<'a> Sheets<'a> {
 /// [`SheetRefusal::Broken`], then [`SheetRefusal::Room`]; nothing is written then.
 pub fn compact_into(sheet: &[u8], out: &mut [u8]) -> Result<usize, SheetRefusal> {
     match sys::sheet_compact(sheet, out) {
-        (0, written) => Ok(usize::try_from(written).expect("not above the room")),
+        // Not above the room, so a usize has it.
+        (0, written) => usize::try_from(written).map_err(|_| SheetRefusal::Room),
         (1, _) => Err(SheetRefusal::Broken),
         _ => Err(SheetRefusal::Room),
     }
@@ -147,7 +148,8 @@ impl Setting<'_> {
     /// Where there are more than [`SETTING_MAX`] bytes.
     pub fn write(&self, out: &mut Vec<u8>) {
         assert!(self.bytes.len() <= SETTING_MAX, "a setting has 64 bytes at most");
-        out.push((HEAD - 2 + self.bytes.len()) as u8);
+        let length = u8::try_from(HEAD - 2 + self.bytes.len()).expect("69 at most");
+        out.push(length);
         out.extend_from_slice(b"\0SV");
         out.extend_from_slice(&self.setting.to_le_bytes());
         out.push(self.version);

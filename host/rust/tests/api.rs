@@ -9,8 +9,8 @@ use swarmtempo::text::{LineError, TextError};
 use swarmtempo::{
     answers, items, sys, table, vcd, Address, Answer, DiskLine, Drive, InLine, Item, Lines, List,
     Machine, Micros, NoAnswer, ParseError, Phase, Refusal, Register, Seconds, Seen, SenseRegister,
-    State, TickCount, Timed, TooLong, UnknownRefusal, ViaTicks, ANSWER_LEN, CELLS, IMAGE_LEN,
-    TICKS_PER_SECOND,
+    Setting, State, TickCount, Timed, TooLong, UnknownRefusal, ViaTicks, ANSWER_LEN, CELLS,
+    IMAGE_LEN, SETTING_MAX, TICKS_PER_SECOND,
 };
 
 const NOW: ViaTicks = ViaTicks(0);
@@ -387,6 +387,16 @@ fn the_header_has_the_same_numbers() {
     }
     for line in DiskLine::ALL {
         assert_eq!(number_of(line.name()), 1 << line.index());
+    }
+    assert_eq!(number_of("SETTING_MAX") as usize, SETTING_MAX);
+    let mut record = Vec::new();
+    Setting { setting: 0, version: 0, bytes: &[0; SETTING_MAX] }.write(&mut record);
+    assert_eq!(number_of("SHEET_RECORD_MAX") as usize, record.len());
+    for (name, bench, house) in
+        [("NONE", &[][..], &[][..]), ("BENCH", &record[..], &[]), ("HOUSE", &[], &record[..])]
+    {
+        let found = sys::sheet_get(bench, house, 0);
+        assert_eq!(number_of(&format!("SHEET_{name}")), u32::from(found.sheet));
     }
     // Every kind has its writer.
     for kind in Item::KINDS {

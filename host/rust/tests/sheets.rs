@@ -136,7 +136,7 @@ fn the_part_is_not_copied() {
     let sheets = Sheets::new(&bench, &house).expect("sound");
     let (bytes, sheet) = sheets.get(513).expect("set");
     assert_eq!((bytes, sheet), (&[11, 12][..], Sheet::Bench));
-    assert!(std::ptr::eq(bytes, &bench[22..24]));
+    assert!(std::ptr::eq(bytes, &raw const bench[22..24]));
     assert_eq!(sheets.get(2), Some((&[14][..], Sheet::House)));
     assert_eq!(sheets.get(3), Some((&[][..], Sheet::Bench)));
     assert_eq!(sheets.get(258), None);
