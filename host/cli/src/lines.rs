@@ -10,13 +10,17 @@ use std::io::{self, BufRead, BufReader, Read};
 use swarmtempo::text::{assemble_line, Converted, LineError, BYTE_ORDER_MARK};
 
 /// Bytes of a line of text at most.
-const LINE_MAX: u64 = 1 << 20;
+const LINE_MAX: usize = 1 << 20;
 
 /// The records of a text.
 pub struct Lines {
     name: String,
     source: BufReader<Sampled>,
     line: Vec<u8>,
+    /// The line is longer than is allowed, and cut there.
+    long: bool,
+    /// The last line ended in CR: an LF after it belongs to its end.
+    after_return: bool,
     /// Lines read.
     number: u64,
     /// Bytes of the last line, and how many of them were given.
@@ -80,6 +84,8 @@ impl Lines {
             name: input.to_string(),
             source,
             line: Vec::new(),
+            long: false,
+            after_return: false,
             number: 0,
             ready: Vec::new(),
             given: 0,
@@ -126,15 +132,13 @@ impl Lines {
 
     /// The next line's bytes into `ready`; false at the end.
     fn take_line(&mut self) -> io::Result<bool> {
-        self.line.clear();
         self.ready.clear();
         self.given = 0;
-        let read = (&mut self.source).take(LINE_MAX).read_until(b'\n', &mut self.line)?;
-        if read == 0 {
+        if !self.read_line()? {
             return Ok(false);
         }
         self.number += 1;
-        match self.assemble()? {
+        match self.assemble() {
             Ok(converted) => {
                 if !self.ready.is_empty() {
                     self.begins.push_back((self.made, self.number));
@@ -154,21 +158,45 @@ impl Lines {
         Ok(true)
     }
 
-    /// The bytes of the line, or what is wrong in it.
-    fn assemble(&mut self) -> io::Result<Result<Option<Converted>, LineError>> {
-        if self.line.len() as u64 == LINE_MAX && self.line.last() != Some(&b'\n') {
-            self.source.skip_until(b'\n')?;
-            let message = format!("a line is longer than {LINE_MAX} bytes");
-            return Ok(Err(LineError { column: 1, message }));
-        }
-        Ok(match std::str::from_utf8(&self.line) {
-            Ok(line) => assemble_line(line, &mut self.ready),
-            Err(error) => {
-                let good = String::from_utf8_lossy(&self.line[..error.valid_up_to()]);
-                let column = good.chars().count() + 1;
-                Err(LineError { column, message: "not text (UTF-8)".into() })
+    /// The next line without its end, LF, CR LF or CR; false at the end of the text.
+    fn read_line(&mut self) -> io::Result<bool> {
+        self.line.clear();
+        self.long = false;
+        let mut some = false;
+        loop {
+            let bytes = match self.source.fill_buf() {
+                Err(error) if error.kind() == io::ErrorKind::Interrupted => continue,
+                bytes => bytes?,
+            };
+            if bytes.is_empty() {
+                return Ok(some);
             }
-        })
+            if std::mem::take(&mut self.after_return) && bytes[0] == b'\n' {
+                self.source.consume(1);
+                continue;
+            }
+            some = true;
+            let end = bytes.iter().position(|byte| b"\n\r".contains(byte));
+            let part = &bytes[..end.unwrap_or(bytes.len())];
+            let room = LINE_MAX - self.line.len();
+            self.long |= part.len() > room;
+            self.line.extend_from_slice(&part[..part.len().min(room)]);
+            self.after_return = end.is_some_and(|end| bytes[end] == b'\r');
+            let taken = part.len() + usize::from(end.is_some());
+            self.source.consume(taken);
+            if end.is_some() {
+                return Ok(true);
+            }
+        }
+    }
+
+    /// The bytes of the line, or what is wrong in it.
+    fn assemble(&mut self) -> Result<Option<Converted>, LineError> {
+        if self.long {
+            let message = format!("a line is longer than {LINE_MAX} bytes");
+            return Err(LineError { column: 1, message });
+        }
+        assemble_line(utf8(&self.line)?, &mut self.ready)
     }
 }
 
@@ -192,5 +220,36 @@ impl Read for Lines {
             0 => Ok(filled),
             errors => Err(io::Error::other(Wrong(errors))),
         }
+    }
+}
+
+/// A line's characters.
+fn utf8(line: &[u8]) -> Result<&str, LineError> {
+    std::str::from_utf8(line).map_err(|error| {
+        let good = String::from_utf8_lossy(&line[..error.valid_up_to()]);
+        let column = good.chars().count() + 1;
+        LineError { column, message: "not text (UTF-8)".into() }
+    })
+}
+
+/// Takes each line of a short text, with its number; every wrong one is told.
+pub fn each(
+    input: &Input,
+    text: &[u8],
+    mut take: impl FnMut(usize, &str) -> Result<(), LineError>,
+) -> Result<(), Failure> {
+    let text = text.strip_prefix(BYTE_ORDER_MARK).unwrap_or(text);
+    let lines = text.split(|&byte| byte == b'\n').map(|line| line.strip_suffix(b"\r").unwrap_or(line));
+    let lines = lines.flat_map(|line| line.split(|&byte| byte == b'\r'));
+    let mut errors = 0;
+    for (line, i) in lines.zip(1..) {
+        if let Err(error) = utf8(line).and_then(|line| take(i, line)) {
+            errors += 1;
+            say(&format!("{input}:{i}:{}: {}", error.column, error.message));
+        }
+    }
+    match errors {
+        0 => Ok(()),
+        _ => Err(Failure::Text(input.to_string(), errors)),
     }
 }

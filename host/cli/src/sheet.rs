@@ -3,12 +3,12 @@
 use super::conflicts::Uses;
 use super::contents::{self, Looks};
 use super::failure::{failure, Failure};
-use super::files::{self, print, say, Out};
+use super::files::{self, print, Out};
+use super::lines;
 use super::place::{shown, Input, Output};
 use super::source;
 use super::words::Given;
 use std::io::Read;
-use swarmtempo::text::{LineError, BYTE_ORDER_MARK};
 use swarmtempo::{compact_into, settings, sheet_text, SheetRefusal, Sheets};
 
 /// Exit status of `sheet get` where the setting is not set.
@@ -130,24 +130,7 @@ fn read(input: &Input, text: bool) -> Result<Vec<u8>, Failure> {
 
 /// The sheet of a text; every wrong line is told.
 fn assemble(input: &Input, text: &[u8]) -> Result<Vec<u8>, Failure> {
-    let text = text.strip_prefix(BYTE_ORDER_MARK).unwrap_or(text);
-    let (mut sheet, mut errors) = (Vec::new(), 0);
-    for (i, line) in text.split(|&byte| byte == b'\n').enumerate() {
-        let done = match std::str::from_utf8(line) {
-            Ok(line) => sheet_text::assemble_line(line, &mut sheet),
-            Err(error) => {
-                let good = String::from_utf8_lossy(&line[..error.valid_up_to()]);
-                let column = good.chars().count() + 1;
-                Err(LineError { column, message: "not text (UTF-8)".into() })
-            }
-        };
-        if let Err(error) = done {
-            errors += 1;
-            say(&format!("{input}:{}:{}: {}", i + 1, error.column, error.message));
-        }
-    }
-    match errors {
-        0 => Ok(sheet),
-        _ => Err(Failure::Text(input.to_string(), errors)),
-    }
+    let mut sheet = Vec::new();
+    lines::each(input, text, |_, line| sheet_text::assemble_line(line, &mut sheet))?;
+    Ok(sheet)
 }

@@ -264,6 +264,28 @@ fn all_errors_of_a_text() {
     assert_eq!(folder.names(), ["list.txt"]);
 }
 
+/// Lines end in LF, CR LF, or CR alone, also across the buffers; one that is too long is an error, and
+/// the next ones are read.
+#[test]
+fn ends_of_lines() {
+    for end in ["\n", "\r\n", "\r"] {
+        let text =
+            format!("; a list{end}0t SE{end}{end}1t SE ; the last of four{end}").repeat(40_000);
+        let output = program(&["asm"], text.as_bytes());
+        assert_eq!(status(&output), 0, "{end:?}: {}", stderr(&output));
+        assert!(output.stdout == assemble("0t SE\n1t SE").expect("in the form").repeat(40_000));
+        let wrong = text + "5 SE" + end + &"x".repeat(3 << 20) + end + "6 SE";
+        let said = stderr(&program(&["asm"], wrong.as_bytes()));
+        let told = [
+            "standard input:160001:1: a wait needs its unit",
+            "standard input:160002:1: a line is longer than 1048576 bytes",
+            "standard input:160003:1: a wait needs its unit",
+        ];
+        assert_eq!(said.lines().count(), 4, "{end:?}: {said}");
+        assert!(said.lines().zip(told).all(|(line, start)| line.starts_with(start)), "{said}");
+    }
+}
+
 #[test]
 fn microseconds_are_shown_as_ticks() {
     let folder = Folder::new("micros");

@@ -119,7 +119,8 @@ fn texts() {
             Err(errors) => {
                 assert!(errors.windows(2).all(|pair| pair[0].line < pair[1].line));
                 for error in errors {
-                    let line = text.lines().nth(error.line - 1).expect("a line of the text");
+                    let mut lines = text.lines().flat_map(|line| line.split('\r'));
+                    let line = lines.nth(error.line - 1).expect("a line of the text");
                     assert!((1..=line.chars().count() + 2).contains(&error.column), "{error}");
                     assert!(!error.message.is_empty() && error.message.len() < 400, "{error}");
                 }

@@ -15,7 +15,8 @@
 //!
 //! Numbers are decimal, or hexadecimal after `$` or `0x`. A wait ends in `t` (VIA ticks) or in `us`
 //! (microseconds, turned into VIA ticks by the library, rounded up), a time off in `s` (seconds).
-//! Letters may be small or capital. A byte order mark before the first line is skipped.
+//! Letters may be small or capital. Lines end in LF, CR LF, or CR alone. A byte order mark before the
+//! first line is skipped.
 
 mod line;
 mod show;
@@ -95,7 +96,9 @@ pub fn assemble_all(text: &str) -> Result<Vec<u8>, Vec<TextError>> {
     }
 }
 
-/// Its lines, without a byte order mark.
-pub(crate) fn lines(text: &str) -> std::str::Lines<'_> {
-    text.strip_prefix('\u{FEFF}').unwrap_or(text).lines()
+/// Its lines, without a byte order mark. They end in LF, CR LF, or CR alone, as an old Macintosh
+/// writes them.
+pub(crate) fn lines(text: &str) -> impl Iterator<Item = &str> {
+    let text = text.strip_prefix('\u{FEFF}').unwrap_or(text);
+    text.lines().flat_map(|line| line.split('\r'))
 }

@@ -185,6 +185,18 @@ fn hexadecimal_in_two_ways() {
     assert_eq!(assemble("\u{FEFF}$41t WR VIA.ORB 65\n0t IN 3 1"), Ok(dollar));
 }
 
+/// Lines end in LF, CR LF, or CR alone: a comment does not swallow the lines after it.
+#[test]
+fn ends_of_lines() {
+    let expected = assemble("; a list\n0t SE\n\n12t VB").expect("in the form");
+    for end in ["\n", "\r\n", "\r"] {
+        let text = ["; a list", "0t SE", "", "12t VB", ""].join(end);
+        assert_eq!(assemble(&text).as_ref(), Ok(&expected), "{end:?}");
+        let wrong = ["; a list", "0t SE", "", "12 VB"].join(end);
+        assert_eq!(assemble(&wrong).expect_err("no unit").line, 4, "{end:?}");
+    }
+}
+
 #[test]
 fn all_errors_at_once() {
     let text = "0t SE\n5 SE\n0t XX\n; nothing\n0t PW 5\n";
