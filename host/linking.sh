@@ -8,7 +8,8 @@ host=$(pwd -P)
 install_c() { make -s SWARMTEMPO_LIB_DIR="$folder" BUILD="$clean/lib" "$@"; }
 
 header_in_c99() {
-    echo '#include "swarmtempo.h"' | gcc -std=c99 -Wall -Wextra -Wpedantic -Wconversion -Werror -I"$clean/usr/include" -x c -fsyntax-only -
+    echo '#include "swarmtempo.h"' |
+        gcc -std=c99 -Wall -Wextra -Wpedantic -Wconversion -Werror -I"$clean/usr/include" -x c -fsyntax-only -
 }
 
 # Every file and no other; both libraries have exactly the functions that the header declares, and call
@@ -26,17 +27,19 @@ installed() (
 ./lib/libswarmtempo.so.$version
 ./lib/pkgconfig/swarmtempo.pc
 END
-    grep -v '^static' "$clean/usr/include/swarmtempo.h" | sed -n 's/^[a-z].*[ *]\(swarmtempo_[a-z_]*\)(.*/\1/p' | sort >"$clean/declared"
-    nm --defined-only --extern-only "$clean/usr/lib/libswarmtempo.a" | sed -n 's/.* T //p' | sort | diff "$clean/declared" - || return 1
-    nm --dynamic --defined-only "$clean/usr/lib/libswarmtempo.so" | sed -n 's/.* T //p' | sort | diff "$clean/declared" - || return 1
-    readelf -d "$clean/usr/lib/libswarmtempo.so" >"$clean/dynamic" || return 1
+    cd "$clean/usr/lib" || return 1
+    sed -n '/^static/d; s/^[a-z].*[ *]\(swarmtempo_[a-z_]*\)(.*/\1/p' ../include/swarmtempo.h | sort >"$clean/declared"
+    nm --defined-only --extern-only libswarmtempo.a | sed -n 's/.* T //p' | sort | diff "$clean/declared" - || return 1
+    nm --dynamic --defined-only libswarmtempo.so | sed -n 's/.* T //p' | sort | diff "$clean/declared" - || return 1
+    ! nm --undefined-only libswarmtempo.a | sed -n 's/.* U //p' | grep -vxE 'mem(cpy|move|set|cmp)|bcmp' || return 1
+    readelf -hd libswarmtempo.so >"$clean/dynamic" || return 1
     grep -qF "[libswarmtempo.so.$abi]" "$clean/dynamic" || { cat "$clean/dynamic"; return 1; }
-    ! nm --undefined-only "$clean/usr/lib/libswarmtempo.a" | sed -n 's/.* U //p' | grep -vxE 'mem(cpy|move|set|cmp)|bcmp' || return 1
-    ! grep -E 'NEEDED|TEXTREL' "$clean/dynamic" | grep -vF '[libc.so.6]' && readelf -h "$clean/usr/lib/libswarmtempo.so" | grep -q 'Machine:.*X86-64'
+    ! grep -E 'NEEDED|TEXTREL' "$clean/dynamic" | grep -vF '[libc.so.6]' && grep -q 'Machine:.*X86-64' "$clean/dynamic"
 )
 
 shared_samples() {
-    gcc -std=c11 -I"$clean/usr/include" c/check.c -L"$clean/usr/lib" -lswarmtempo -o "$clean/samples" && LD_LIBRARY_PATH=$clean/usr/lib "$clean/samples"
+    gcc -std=c11 -I"$clean/usr/include" c/check.c -L"$clean/usr/lib" -lswarmtempo -o "$clean/samples" &&
+        LD_LIBRARY_PATH=$clean/usr/lib "$clean/samples"
 }
 
 # What docs/SHELLS.md has in a language.
@@ -48,13 +51,13 @@ manual_in_c() {
         shown_in c
         printf 'return 0;\n}\n'
     } >"$clean/shown.c"
-    gcc -std=c11 -Wall -Wextra -Werror -I"$clean/usr/include" "$clean/shown.c" "$clean/usr/lib/libswarmtempo.a" -o "$clean/shown" &&
+    gcc -std=c11 -Wall -Wextra -Werror -I"$clean/usr/include" "$clean/shown.c" -o "$clean/shown" "$clean/usr/lib/libswarmtempo.a" &&
         "$clean/shown" | grep -qx 'flags $00, interrupt level 0'
 }
 
 cxx_program() {
-    g++ -std=c++11 -Wall -Wextra -Werror -I"$clean/usr/include" -x c++ c/example.c -x none -L"$clean/usr/lib" -lswarmtempo -o "$clean/cxx" &&
-        linked "$clean/cxx" 0
+    g++ -std=c++11 -Wall -Wextra -Werror -I"$clean/usr/include" -x c++ c/example.c -x none -o "$clean/cxx" \
+        -L"$clean/usr/lib" -lswarmtempo && linked "$clean/cxx" 0
 }
 
 # A program and whether it needs the shared library, as it should.
@@ -100,7 +103,15 @@ cmake_project() (
 rust_project() (
     mkdir -p "$clean/copy/host" "$clean/crate/src" || return 1
     cp -r Cargo.toml Cargo.lock rust cli model include c "$clean/copy/host" || return 1
-    printf '[package]\nname = "crate"\nversion = "0.0.0"\nedition = "2021"\n[dependencies]\nswarmtempo = { path = "../copy/host/rust" }\n[workspace]\n' >"$clean/crate/Cargo.toml"
+    cat >"$clean/crate/Cargo.toml" <<END
+[package]
+name = "crate"
+version = "0.0.0"
+edition = "2021"
+[dependencies]
+swarmtempo = { path = "../copy/host/rust" }
+[workspace]
+END
     {
         echo 'fn main() -> Result<(), Box<dyn std::error::Error>> {'
         shown_in rust
@@ -112,7 +123,8 @@ rust_project() (
     if (unset SWARMTEMPO_LIB_DIR && cargo build -q) 2>"$clean/said"; then return 1; fi
     grep -q 'rt staticlib swarmtempo' "$clean/said" || { cat "$clean/said"; return 1; }
     [ -d "$clean/usr/lib" ] && folder=$clean/usr/lib
-    SWARMTEMPO_LIB_DIR="$folder" cargo run -q >"$clean/said" && grep -x '0t SE: OK: value $00, level 1, SEL 1, lines on -' "$clean/said" || return 1
+    SWARMTEMPO_LIB_DIR="$folder" cargo run -q >"$clean/said" || return 1
+    grep -x '0t SE: OK: value $00, level 1, SEL 1, lines on -' "$clean/said" || return 1
     ! find "$clean/copy" -newer "$clean/before" | grep . || return 1
     ! cargo tree -e normal,build | grep model
 )

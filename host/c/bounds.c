@@ -115,7 +115,7 @@ static void null_buffers(const uint8_t *state, const uint8_t *items, size_t len)
         memset(room, 0xC3, sizeof room);
         uint8_t stop = swarmtempo_run(no_image ? NULL : copy, no_image ? 0 : sizeof copy, no_list ? NULL : items, no_list ? 0 : len,
                                       no_room ? NULL : room, no_room ? 0 : sizeof room, &consumed, &written);
-        uint8_t expected = no_image ? SWARMTEMPO_REFUSED_STATE : no_list ? SWARMTEMPO_END : no_room ? SWARMTEMPO_REFUSED_ROOM : SWARMTEMPO_END;
+        uint8_t expected = no_image ? SWARMTEMPO_REFUSED_STATE : no_room && !no_list ? SWARMTEMPO_REFUSED_ROOM : SWARMTEMPO_END;
         int runs = !no_image && !no_list && !no_room;
         calls++;
         if (stop != expected) fail("a stop with NULL");

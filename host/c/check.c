@@ -115,7 +115,8 @@ static void refusals(void)
         const char *words = swarmtempo_refusal((uint8_t)i);
         expect(words != NULL && *words, "words");
         expect((strcmp(words, unknown) == 0) == (i > SWARMTEMPO_REFUSED_DISK), "numbers that have words");
-        for (unsigned j = 0; j < i && j <= SWARMTEMPO_REFUSED_DISK; j++) expect(strcmp(words, swarmtempo_refusal((uint8_t)j)) != 0, "words of two numbers");
+        for (unsigned j = 0; j < i && j <= SWARMTEMPO_REFUSED_DISK; j++)
+            expect(strcmp(words, swarmtempo_refusal((uint8_t)j)) != 0, "words of two numbers");
     }
 }
 
@@ -124,7 +125,12 @@ static void readers(void)
     static const uint8_t done[] = {6, 0, 'O', 'K', 0x81, 5, SWARMTEMPO_CA1 | SWARMTEMPO_Q7, 1};
     static const uint8_t refused[] = {6, 0, 'N', 'O', 8, 0, 0, 0};
     static const uint8_t none[][8] = {
-        {0}, {5, 0, 'O', 'K', 1, 1, 1, 1}, {6, 1, 'O', 'K', 1, 1, 1, 1}, {6, 0, 'O', 'O', 1, 1, 1, 1}, {6, 0, 'N', 'K', 1, 1, 1, 1}, {6, 0, 'N', 'O', 0, 0, 0, 0},
+        {0},
+        {5, 0, 'O', 'K', 1, 1, 1, 1},
+        {6, 1, 'O', 'K', 1, 1, 1, 1},
+        {6, 0, 'O', 'O', 1, 1, 1, 1},
+        {6, 0, 'N', 'K', 1, 1, 1, 1},
+        {6, 0, 'N', 'O', 0, 0, 0, 0},
     };
     expect(swarmtempo_answer_done(done) == 1 && swarmtempo_answer_refusal(done) == 0, "done");
     expect(swarmtempo_answer_value(done) == 0x81 && swarmtempo_answer_level(done) == 5, "value and level");
@@ -133,7 +139,8 @@ static void readers(void)
     expect(swarmtempo_answer_value(refused) == 0, "a refusal's number is no value");
     for (size_t i = 0; i < sizeof none / sizeof *none; i++) {
         expect(swarmtempo_answer_refusal(none[i]) == SWARMTEMPO_NO_ANSWER && !swarmtempo_answer_done(none[i]), "no answer");
-        expect(!swarmtempo_answer_value(none[i]) && !swarmtempo_answer_level(none[i]) && !swarmtempo_answer_lines(none[i]) && !swarmtempo_answer_sel(none[i]), "values of no answer");
+        expect(!swarmtempo_answer_value(none[i]) && !swarmtempo_answer_level(none[i]), "value and level of no answer");
+        expect(!swarmtempo_answer_lines(none[i]) && !swarmtempo_answer_sel(none[i]), "lines and SEL of no answer");
     }
 }
 

@@ -75,7 +75,10 @@ extern "C" {
 #define SWARMTEMPO_IER 14u
 #define SWARMTEMPO_ORANH 15u
 
-/* The disk lines, as bits of an answer's disk-line byte. Line i is turned off by SWARMTEMPO_IWM(2 * i) and on by SWARMTEMPO_IWM(2 * i + 1). */
+/*
+ * The disk lines, as bits of an answer's disk-line byte. The line of bit i is turned off by an access of
+ * SWARMTEMPO_IWM(2 * i) and on by one of SWARMTEMPO_IWM(2 * i + 1).
+ */
 #define SWARMTEMPO_CA0 0x01u
 #define SWARMTEMPO_CA1 0x02u
 #define SWARMTEMPO_CA2 0x04u
@@ -119,7 +122,10 @@ uint32_t swarmtempo_ticks_of_micros(uint32_t micros);
  */
 const char *swarmtempo_version(void);
 
-/* What the number of a refusal or of a stop says, in English words: "none" for 0, "unknown number" for one that is none. Never NULL. */
+/*
+ * What the number of a refusal or of a stop says, in English words: "none" for 0, "unknown number" for
+ * one that is none. Never NULL.
+ */
 const char *swarmtempo_refusal(uint8_t number);
 
 /*
