@@ -239,7 +239,8 @@ pub fn each(
     mut take: impl FnMut(usize, &str) -> Result<(), LineError>,
 ) -> Result<(), Failure> {
     let text = text.strip_prefix(BYTE_ORDER_MARK).unwrap_or(text);
-    let lines = text.split(|&byte| byte == b'\n').map(|line| line.strip_suffix(b"\r").unwrap_or(line));
+    let lines =
+        text.split(|&byte| byte == b'\n').map(|line| line.strip_suffix(b"\r").unwrap_or(line));
     let lines = lines.flat_map(|line| line.split(|&byte| byte == b'\r'));
     let mut errors = 0;
     for (line, i) in lines.zip(1..) {
