@@ -130,7 +130,7 @@ const char *swarmtempo_refusal(uint8_t number);
 
 /*
  * ---- Sheets of settings: a bench sheet before a house sheet, each a run of records of kind SV; either may
- * be empty (a length of 0, the pointer not NULL). The two may be one buffer; no other buffers overlap.
+ * be empty. The two may be one buffer; no other buffers overlap.
  */
 /* Bytes of a setting at most, and of the longest record. */
 #define SWARMTEMPO_SETTING_MAX 64
