@@ -253,7 +253,7 @@ mod tests {
         let folder = folder("signal");
         for signal in ["TERM", "INT", "HUP"] {
             let mut command = Command::new(std::env::current_exe().expect("this program"));
-            command.args(["--ignored", "--exact", "cli::draft::tests::a_draft_that_waits"]);
+            command.args(["--ignored", "--exact", "draft::tests::a_draft_that_waits"]);
             let command = command.env(FOLDER, &folder).stdout(Stdio::null());
             let mut child = command.spawn().expect("started");
             let start = Instant::now();
