@@ -127,7 +127,10 @@ static void null_buffers(const uint8_t *state, const uint8_t *items, size_t len)
     uint64_t start = 78, size = 79, written = 80;
     if (swarmtempo_sheet_get(NULL, 0, NULL, 0, 7, &which, &start, &size) || which || start || size) fail("sheets at NULL");
     if (swarmtempo_sheet_compact(NULL, 0, NULL, 0, &written) || written) fail("a sheet at NULL");
-    calls += 3;
+    uint8_t answered = 81, answer = 82;
+    if (swarmtempo_keyboard_fresh(NULL, 0, 3) != SWARMTEMPO_REFUSED_ROOM) fail("a fresh keyboard at NULL");
+    if (swarmtempo_keyboard_wait(NULL, 0, 1, &answered, &answer) != SWARMTEMPO_REFUSED_STATE || answered || answer) fail("a keyboard at NULL");
+    calls += 5;
 }
 
 /* Sheets of every length, sound and cut, with every room. */

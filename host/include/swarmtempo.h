@@ -159,6 +159,42 @@ uint8_t swarmtempo_sheet_compact(const uint8_t *sheet, size_t sheet_len, uint8_t
                                  uint64_t *written);
 
 /*
+ * ---- The keyboard, a part of its own: no item of a list reaches it, and its image is in no state image.
+ */
+/* Bytes of a keyboard's image of this version; swarmtempo_keyboard_len() says the same. */
+#define SWARMTEMPO_KEYBOARD_LEN 18
+/* VIA ticks after which a waiting Inquiry answers Null. */
+#define SWARMTEMPO_INQUIRY_TICKS 195840ul
+/* Eight key codes are held already. */
+#define SWARMTEMPO_REFUSED_KEY 11u
+
+/* Command bytes. */
+#define SWARMTEMPO_INQUIRY 0x10u
+#define SWARMTEMPO_INSTANT 0x14u
+#define SWARMTEMPO_MODEL 0x16u
+#define SWARMTEMPO_TEST 0x36u
+
+/* Bytes of a keyboard's image. */
+uint64_t swarmtempo_keyboard_len(void);
+
+/*
+ * Writes the image of a keyboard that was just made; `model` is what the command Model answers. Returns
+ * 0, or 6 where image_len is below swarmtempo_keyboard_len(), and then writes nothing. Bytes past the
+ * image keep their contents.
+ */
+uint8_t swarmtempo_keyboard_fresh(uint8_t *image, size_t image_len, uint8_t model);
+
+/*
+ * A command byte, a key code, and a wait, each on the keyboard in `image` (exactly one image, image_len
+ * bytes). Each returns 0, or the refusal: 7 where no accepted keyboard has this image, 11 where a key is
+ * one too many. `*answered` is 1 where there is an answer byte, and `*answer` is that byte; else both are
+ * 0. On a refusal the image keeps its bytes. A wait may be cut anywhere.
+ */
+uint8_t swarmtempo_keyboard_command(uint8_t *image, size_t image_len, uint8_t command, uint8_t *answered, uint8_t *answer);
+uint8_t swarmtempo_keyboard_key(uint8_t *image, size_t image_len, uint8_t code, uint8_t *answered, uint8_t *answer);
+uint8_t swarmtempo_keyboard_wait(uint8_t *image, size_t image_len, uint32_t via_ticks, uint8_t *answered, uint8_t *answer);
+
+/*
  * ---- Writers of items. Each writes one record at `at`, which has room for SWARMTEMPO_ITEM_MAX bytes, and
  * returns its length in bytes. `wait_via_ticks` passes before the item acts.
  */

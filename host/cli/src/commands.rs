@@ -118,7 +118,7 @@ pub const GROUPS: [Group; 1] = [Group {
 }];
 
 /// All commands.
-pub const COMMANDS: [Command; 14] = [
+pub const COMMANDS: [Command; 15] = [
     Command {
         name: "run",
         operand: "LIST",
@@ -160,6 +160,33 @@ pub const COMMANDS: [Command; 14] = [
         about: "Shows the state in an image that run --save wrote. An image of no accepted state is refused\n\
                 with the first field that is out of its range: its name, offset and value.",
         flags: &[],
+    },
+    Command {
+        name: "keyboard",
+        operand: "[EVENTS]",
+        brief: "a keyboard's answers to commands, keys and waits",
+        about: "Runs a text of events on a keyboard and shows its answers. Without EVENTS it reads standard\n\
+                input. A line has a wait in VIA ticks, which ends in t, and what happens after it:\n\
+                \n  \
+                0t      COMMAND $10   ; a command byte, or INQUIRY, INSTANT, MODEL, TEST\n  \
+                100t    KEY $33       ; a key code\n  \
+                195840t               ; a wait alone\n\
+                \n\
+                Every wrong line is named, as FILE:LINE:COLUMN: MESSAGE, and then nothing is run. Exit\n\
+                status: 7 where the image is none of an accepted keyboard.",
+        flags: &[
+            Flag {
+                name: "--model",
+                value: "BYTE",
+                help: "what the command Model answers (without it: $03)",
+            },
+            Flag {
+                name: "--image",
+                value: "FILE",
+                help: "begins with the keyboard of this image, not with one just made",
+            },
+            Flag { name: "--save", value: "FILE", help: "writes the image of the keyboard reached" },
+        ],
     },
     Command {
         name: "sheet get",

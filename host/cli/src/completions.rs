@@ -25,7 +25,7 @@ enum Values {
 
 fn values(name: &str) -> Values {
     match name.trim_matches(['[', ']']) {
-        "FILE" | "LIST" | "TEXT" | "SHEET" => Values::Files,
+        "EVENTS" | "FILE" | "LIST" | "SHEET" | "TEXT" => Values::Files,
         "WHEN" => Values::Words(vec!["always", "never", "auto"]),
         "SHELL" => Values::Words(SHELLS.to_vec()),
         "COMMAND" => Values::Words(names()),

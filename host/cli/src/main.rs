@@ -11,6 +11,7 @@ mod failure;
 mod files;
 mod help;
 mod image;
+mod keyboard;
 mod lines;
 mod manual;
 mod numbers;
@@ -105,6 +106,7 @@ fn act(command: &str, given: &Given) -> Result<u8, Failure> {
             let machine = image::read(&input, source::open(&input)?)?;
             print(&describe::image(&machine)).map(|()| 0)
         }
+        "keyboard" => keyboard::keyboard(given),
         "sheet get" => sheet::get(given),
         "sheet list" => sheet::list(given),
         "sheet make" => sheet::make(given),

@@ -8,11 +8,12 @@ use std::process::Command;
 use swarmtempo::text::assemble;
 use swarmtempo::{Machine, CHUNK_LEN};
 
-const COMMANDS: [&str; 14] = [
+const COMMANDS: [&str; 15] = [
     "run",
     "asm",
     "disasm",
     "image",
+    "keyboard",
     "sheet get",
     "sheet list",
     "sheet make",

@@ -84,6 +84,8 @@ const TEXTS: [&str; 3] = [
 
 const SHEET: &str = "7 3 \"north bench\"\n20 1 14\n$201 255 00 FF ; remark\n7 3 \"x\"\n9 0\n";
 
+const EVENTS: &str = "0t COMMAND Inquiry\n100t KEY $33\n195840t ; alone\n0t COMMAND 0x16\n";
+
 fn broken_text(random: &mut Random) -> Vec<u8> {
     let text = TEXTS[random.below(TEXTS.len())];
     random.broken(text.as_bytes())
@@ -95,10 +97,11 @@ fn records(random: &mut Random) -> Vec<u8> {
 
 /// Anything that a file can hold: noise, broken texts, records and images.
 fn contents(random: &mut Random) -> Vec<u8> {
-    match random.below(7) {
+    match random.below(8) {
         0 => random.bytes(300),
         1 => random.broken(&sheet_text::assemble(SHEET).expect("in the form")),
         2 => random.broken(SHEET.as_bytes()),
+        6 => random.broken(EVENTS.as_bytes()),
         3 => random.broken(Machine::fresh().image()),
         4 => {
             let list = records(random);
@@ -176,7 +179,8 @@ fn images() {
 #[test]
 fn the_program() {
     let folder = Folder::new("robust");
-    let commands: [&[&str]; 14] = [
+    folder.put("nothing", b"");
+    let commands: [&[&str]; 16] = [
         &["run", "file"],
         &["run", "file", "--text"],
         &["run", "file", "--records", "--vcd", "vcd", "--quiet"],
@@ -189,6 +193,8 @@ fn the_program() {
         &["sheet", "get", "7", "--bench", "file"],
         &["sheet", "get", "7", "--text", "--house", "file"],
         &["sheet", "list"],
+        &["keyboard", "--save", "out"],
+        &["keyboard", "--image", "file", "nothing"],
         &["sheet", "make", "file", "-o", "out"],
         &["sheet", "compact", "file", "-o", "out", "--room", "70"],
     ];

@@ -10,6 +10,7 @@ mod clock;
 mod drive;
 mod image;
 mod items;
+mod keyboard;
 mod machine;
 mod run;
 pub mod sheet;
@@ -19,6 +20,9 @@ pub use clock::{decode_command, Clock, Command, Phase, Store, Target, CELLS};
 pub use drive::{ticks_of_micros, Drive, Drives, Strobe, EJECT_TICKS, STEP_TICKS, WRITE_TICKS};
 pub use image::{fresh_image, run_image, IMAGE_LEN};
 pub use items::{decode, Item, IWM_BASE, STRIDE, VIA_BASE};
+pub use keyboard::{
+    keyboard_call, keyboard_fresh, Keyboard, KeyboardEvent, FULL, INQUIRY_TICKS, KEYBOARD_LEN,
+};
 pub use machine::{Machine, Wires};
 pub use run::{frame, Run};
 pub use via::{Timer1, Timer2, Via};

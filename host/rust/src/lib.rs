@@ -26,6 +26,7 @@
 //!   [`Machine::run`] and [`Machine::run_in`] for answers as bytes, which [`answers`] reads.
 //! - States: [`Machine::image`] to save and [`Machine::from_image`] to restore; [`State`] to look at.
 //! - For people: [`table`], [`vcd`], [`describe`], and `Display` of nearly everything.
+//! - A keyboard, by itself: [`Keyboard`].
 //! - Settings of a bench: [`Sheets`], [`compact`], and as text [`sheet_text`].
 //! - The C functions as they are: [`sys`].
 //!
@@ -45,6 +46,7 @@ mod command;
 pub mod describe;
 mod error;
 mod item;
+mod keyboard;
 mod list;
 mod machine;
 pub mod sheet_text;
@@ -69,6 +71,7 @@ pub use chunks::{pieces, Chunks, Piece, Pieces, CHUNK_LEN};
 pub use command::{Command, Target};
 pub use error::ParseError;
 pub use item::{Drive, InLine, Item, SenseRegister, Timed};
+pub use keyboard::{Keyboard, KeyboardFull, KeyboardState, INQUIRY_TICKS, KEYBOARD_LEN};
 pub use list::{items, Items, List};
 pub use machine::{Exchange, Exchanges, Machine, Run, Transcript};
 pub use sheets::{

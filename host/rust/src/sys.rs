@@ -39,6 +39,29 @@ extern "C" {
         out_len: usize,
         written: *mut u64,
     ) -> u8;
+    fn swarmtempo_keyboard_len() -> u64;
+    fn swarmtempo_keyboard_fresh(image: *mut c_uchar, image_len: usize, model: u8) -> u8;
+    fn swarmtempo_keyboard_command(
+        image: *mut c_uchar,
+        image_len: usize,
+        command: u8,
+        answered: *mut u8,
+        answer: *mut u8,
+    ) -> u8;
+    fn swarmtempo_keyboard_key(
+        image: *mut c_uchar,
+        image_len: usize,
+        code: u8,
+        answered: *mut u8,
+        answer: *mut u8,
+    ) -> u8;
+    fn swarmtempo_keyboard_wait(
+        image: *mut c_uchar,
+        image_len: usize,
+        via_ticks: u32,
+        answered: *mut u8,
+        answer: *mut u8,
+    ) -> u8;
 }
 
 /// What a run reports, as numbers.
@@ -138,4 +161,59 @@ pub fn sheet_compact(sheet: &[u8], out: &mut [u8]) -> (u8, u64) {
         )
     };
     (refusal, written)
+}
+
+/// What a keyboard says to an event, as numbers.
+#[derive(Clone, Copy, Debug, PartialEq, Eq)]
+pub struct Said {
+    /// 0, 7 where no accepted keyboard has this image, or 11 where a key is one too many.
+    pub refusal: u8,
+    /// 1 where there is an answer byte, else 0.
+    pub answered: u8,
+    /// The answer byte, 0 where there is none.
+    pub answer: u8,
+}
+
+/// Bytes of a keyboard's image.
+pub fn keyboard_len() -> u64 {
+    // SAFETY: takes nothing.
+    unsafe { swarmtempo_keyboard_len() }
+}
+
+/// Writes the image of a keyboard that was just made: 0, or 6 where there are too few bytes.
+pub fn keyboard_fresh(image: &mut [u8], model: u8) -> u8 {
+    // SAFETY: a slice that lives through the call.
+    unsafe { swarmtempo_keyboard_fresh(image.as_mut_ptr(), image.len(), model) }
+}
+
+/// A command byte.
+pub fn keyboard_command(image: &mut [u8], command: u8) -> Said {
+    let (at, len) = (image.as_mut_ptr(), image.len());
+    // SAFETY: a slice, and the two numbers of `said`, live through the call and do not overlap.
+    said(|answered, answer| unsafe {
+        swarmtempo_keyboard_command(at, len, command, answered, answer)
+    })
+}
+
+/// A key code.
+pub fn keyboard_key(image: &mut [u8], code: u8) -> Said {
+    let (at, len) = (image.as_mut_ptr(), image.len());
+    // SAFETY: as for a command.
+    said(|answered, answer| unsafe { swarmtempo_keyboard_key(at, len, code, answered, answer) })
+}
+
+/// A wait in VIA ticks.
+pub fn keyboard_wait(image: &mut [u8], via_ticks: u32) -> Said {
+    let (at, len) = (image.as_mut_ptr(), image.len());
+    // SAFETY: as for a command.
+    said(|answered, answer| unsafe {
+        swarmtempo_keyboard_wait(at, len, via_ticks, answered, answer)
+    })
+}
+
+fn said(call: impl FnOnce(*mut u8, *mut u8) -> u8) -> Said {
+    // Numbers that would show where they are left unwritten.
+    let (mut answered, mut answer) = (u8::MAX, u8::MAX);
+    let refusal = call(&raw mut answered, &raw mut answer);
+    Said { refusal, answered, answer }
 }

@@ -7,10 +7,10 @@ use std::fmt::{Debug, Display};
 use std::str::FromStr;
 use swarmtempo::text::{LineError, TextError};
 use swarmtempo::{
-    answers, items, sys, table, vcd, Address, Answer, DiskLine, Drive, InLine, Item, Lines, List,
-    Machine, Micros, NoAnswer, ParseError, Phase, Refusal, Register, Seconds, Seen, SenseRegister,
-    Setting, State, TickCount, Timed, TooLong, UnknownRefusal, ViaTicks, ANSWER_LEN, CELLS,
-    IMAGE_LEN, SETTING_MAX, TICKS_PER_SECOND,
+    answers, items, sys, table, vcd, Address, Answer, DiskLine, Drive, InLine, Item, KeyboardFull,
+    Lines, List, Machine, Micros, NoAnswer, ParseError, Phase, Refusal, Register, Seconds, Seen,
+    SenseRegister, Setting, State, TickCount, Timed, TooLong, UnknownRefusal, ViaTicks, ANSWER_LEN,
+    CELLS, IMAGE_LEN, INQUIRY_TICKS, KEYBOARD_LEN, SETTING_MAX, TICKS_PER_SECOND,
 };
 
 const NOW: ViaTicks = ViaTicks(0);
@@ -388,6 +388,8 @@ fn the_header_has_the_same_numbers() {
     for line in DiskLine::ALL {
         assert_eq!(number_of(line.name()), 1 << line.index());
     }
+    assert_eq!(number_of("KEYBOARD_LEN") as usize, KEYBOARD_LEN);
+    assert_eq!(number_of("INQUIRY_TICKS"), INQUIRY_TICKS.0);
     assert_eq!(number_of("SETTING_MAX") as usize, SETTING_MAX);
     let mut record = Vec::new();
     Setting { setting: 0, version: 0, bytes: &[0; SETTING_MAX] }.write(&mut record);
@@ -409,7 +411,10 @@ fn the_header_has_the_same_numbers() {
 fn refusals_have_the_same_numbers_and_words_in_c() {
     let words = include_str!("../../c/words.c");
     let cases = words.lines().filter(|line| line.trim_start().starts_with("case "));
-    assert_eq!(cases.count(), 1 + Refusal::ALL.len());
+    // None, those of lists and images, and the keyboard's.
+    assert_eq!(cases.count(), 1 + Refusal::ALL.len() + 1);
+    assert_eq!(number_of("REFUSED_KEY"), u32::from(KeyboardFull::NUMBER));
+    assert!(words.contains(&format!("case SWARMTEMPO_REFUSED_KEY: return \"{KeyboardFull}\";")));
     for refusal in Refusal::ALL {
         let name = format!("REFUSED_{}", format!("{refusal:?}").to_uppercase());
         assert_eq!(number_of(&name), u32::from(refusal.number()));
