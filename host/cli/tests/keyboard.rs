@@ -20,7 +20,7 @@ line VIA ticks event            answer
 ";
     assert_eq!((stdout(&said), stderr(&said), status(&said)), (wanted.into(), String::new(), 0));
 
-    let keys: String = (1..=9).map(|code| format!("0t KEY {code}\r")).collect();
+    let keys = (1..=9).fold(String::new(), |text, code| text + &format!("0t KEY {code}\r"));
     let said = program(&["keyboard", "-", "--model=$8B"], (keys + "0t COMMAND MODEL\r").as_bytes());
     let out = stdout(&said);
     assert!(out.contains("   9         0 KEY $09          refused 11: eight key codes are held"));
