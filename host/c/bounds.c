@@ -88,6 +88,28 @@ static void call(const uint8_t *state, size_t state_len, const uint8_t *items, s
     }
 }
 
+/* The list turned over into every room up to twice its length. */
+static void conversions(const uint8_t *items, size_t items_len, int at_end)
+{
+    static const uint8_t blank[512];
+    for (size_t room = 0; room <= 2 * items_len; room++) {
+        uint64_t counts[4] = {~0ull, 77, 78, ~0ull};
+        place(&list, items, items_len, at_end);
+        place(&answers, blank, room, at_end);
+        memset(answers.at, 0xC3, room);
+        uint8_t stop = swarmtempo_convert(list.at, items_len, answers.at, room, &counts[1], &counts[2]);
+        calls++;
+        guards_hold(&list);
+        guards_hold(&answers);
+        if (counts[0] != ~0ull || counts[3] != ~0ull) fail("a byte beside the numbers was written");
+        if (counts[1] > room || counts[2] > counts[1]) fail("a conversion's numbers");
+        if (stop == SWARMTEMPO_REFUSED_ROOM ? counts[1] || counts[2] : stop > SWARMTEMPO_REFUSED_CUT) fail("a conversion's refusal");
+        if (items_len && memcmp(list.at, items, items_len)) fail("the list was written");
+        for (size_t i = counts[1]; i < room; i++)
+            if (answers.at[i] != 0xC3) fail("bytes past those written changed");
+    }
+}
+
 static void fresh_images(void)
 {
     static const uint8_t blank[SWARMTEMPO_IMAGE_LEN + 32];
@@ -127,10 +149,11 @@ static void null_buffers(const uint8_t *state, const uint8_t *items, size_t len)
     uint64_t start = 78, size = 79, written = 80;
     if (swarmtempo_sheet_get(NULL, 0, NULL, 0, 7, &which, &start, &size) || which || start || size) fail("sheets at NULL");
     if (swarmtempo_sheet_compact(NULL, 0, NULL, 0, &written) || written) fail("a sheet at NULL");
+    if (swarmtempo_convert(NULL, 0, NULL, 0, &start, &written) || start || written) fail("a capture at NULL");
     uint8_t answered = 81, answer = 82;
     if (swarmtempo_keyboard_fresh(NULL, 0, 3) != SWARMTEMPO_REFUSED_ROOM) fail("a fresh keyboard at NULL");
     if (swarmtempo_keyboard_wait(NULL, 0, 1, &answered, &answer) != SWARMTEMPO_REFUSED_STATE || answered || answer) fail("a keyboard at NULL");
-    calls += 5;
+    calls += 6;
 }
 
 /* Sheets of every length, sound and cut, with every room. */
@@ -185,6 +208,7 @@ int main(int argc, char **argv)
     null_buffers(state, items, len);
     sheets();
     for (int at_end = 0; at_end < 2; at_end++) {
+        for (size_t n = 0; n <= len; n++) conversions(items, n, at_end);
         for (size_t n = 0; n <= sizeof state; n++) call(state, n, items, len, 48, at_end);
         for (size_t n = 0; n <= len; n++)
             for (size_t room = 0; room <= 56; room += 1 + room % 3) call(state, SWARMTEMPO_IMAGE_LEN, items, n, room, at_end);

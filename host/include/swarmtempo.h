@@ -42,7 +42,7 @@ extern "C" {
 /* Bytes of the longest item that the functions below write. */
 #define SWARMTEMPO_ITEM_MAX 11
 
-/* How a run stopped (0, 1, 6, 7), and the numbers of NO answers (1 to 5, 8). */
+/* How a run stopped (0, 1, 6, 7), and the numbers of NO answers (1 to 5, 8, 9). */
 #define SWARMTEMPO_END 0u             /* the end of the list */
 #define SWARMTEMPO_REFUSED_CUT 1u     /* a cut record or a length below 2; NO 1 is written, the run stops before it */
 #define SWARMTEMPO_REFUSED_KIND 2u    /* unknown kind */
@@ -52,6 +52,7 @@ extern "C" {
 #define SWARMTEMPO_REFUSED_ROOM 6u    /* list bytes remain, fewer than 8 answer bytes left; the item is not done */
 #define SWARMTEMPO_REFUSED_STATE 7u   /* the image is none of an accepted state; no buffer is changed */
 #define SWARMTEMPO_REFUSED_DISK 8u    /* a disk inserted where one is, or removed where none is */
+#define SWARMTEMPO_REFUSED_RETIRED 9u /* SN on a register that the drive has itself: 0 to 5, 12, 15 */
 
 /* Address of VIA register r, 0 to 15, and of IWM location k, 0 to 15. */
 #define SWARMTEMPO_VIA(r) ((uint32_t)(0xEFE1FEul + 512ul * (r)))
@@ -112,6 +113,19 @@ uint64_t swarmtempo_image_len(void);
  * swarmtempo_image_len(), and then writes nothing. Bytes past the image keep their contents.
  */
 uint8_t swarmtempo_fresh(uint8_t *image, size_t image_len);
+
+/*
+ * Turns a capture over that was made before SN on registers 0 to 5, 12 and 15 retired, begun on a fresh
+ * machine: such an SN becomes an IN of the same wait that repeats line 0's level, with a DI after it
+ * where the SN items alone change whether a disk is in the drive. All other records pass as they are.
+ *
+ * Returns 0 at the end of the capture; 1 where a cut record ended the work, what comes before it being
+ * written; 6 where out_len is too small, and then nothing is written. Twice list_len is enough.
+ * `*written` is the number of bytes written, `*count` the number of SN items replaced without a DI;
+ * both are 0 on 6. Bytes past those written keep their contents.
+ */
+uint8_t swarmtempo_convert(const uint8_t *list, size_t list_len, uint8_t *out, size_t out_len,
+                           uint64_t *written, uint64_t *count);
 
 /* Microseconds as VIA ticks, rounded up: 12,000 gives 9,401. One wait takes 65,535 ticks at most. */
 uint32_t swarmtempo_ticks_of_micros(uint32_t micros);
@@ -252,7 +266,7 @@ static inline size_t swarmtempo_in(uint8_t *at, uint16_t wait_via_ticks, uint8_t
     return swarmtempo_item(at, 'I', 'N', wait_via_ticks, 2);
 }
 
-/* Sets the level of sense register 0 to 15 of drive 0 (internal) or 1 (external). */
+/* Sets the level of sense register 6 to 11, 13 or 14 of drive 0 (internal) or 1 (external). */
 static inline size_t swarmtempo_sn(uint8_t *at, uint16_t wait_via_ticks, uint8_t drive, uint8_t reg, uint8_t level)
 {
     at[6] = drive;

@@ -55,7 +55,7 @@ fn lists(records: usize) -> Vec<(&'static str, List)> {
         .collect();
     disk.push(Item::Read(Address::Iwm(DiskLine::Q7, false)));
     let line = InLine::new(3).expect("a line");
-    let register = SenseRegister::new(1).expect("a register");
+    let register = SenseRegister::new(6).expect("a register");
     let mut mixed = clock[..40].to_vec();
     mixed.extend_from_slice(&reads);
     mixed.extend_from_slice(&timers);

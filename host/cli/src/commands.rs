@@ -118,7 +118,7 @@ pub const GROUPS: [Group; 1] = [Group {
 }];
 
 /// All commands.
-pub const COMMANDS: [Command; 15] = [
+pub const COMMANDS: [Command; 16] = [
     Command {
         name: "run",
         operand: "LIST",
@@ -151,6 +151,22 @@ pub const COMMANDS: [Command; 15] = [
             name: "--records",
             value: "",
             help: "LIST is records even where it looks like a text",
+        }],
+    },
+    Command {
+        name: "convert",
+        operand: "[OLD]",
+        brief: "a capture from before SN retired, turned over",
+        about: "Turns a capture (records) over that was made before SN retired on the registers that a drive\n\
+                has itself, 0 to 5, 12 and 15: such an SN becomes an IN of the same wait, and a DI after it\n\
+                where a disk came or went. Without OLD it reads standard input. It takes at most 268,435,456\n\
+                bytes, which begin on a fresh machine.\n\
+                \n\
+                Exit status: 1 where a record is cut; what comes before it is converted and written.",
+        flags: &[OUT, Flag {
+            name: "--records",
+            value: "",
+            help: "OLD is records even where it looks like a text",
         }],
     },
     Command {
@@ -290,7 +306,7 @@ pub const COMMANDS: [Command; 15] = [
 /// The text form, the units and the statuses, for help and the man page.
 pub const TEXT_FORM: &str = "\
 12t WR VIA.ORB $41     0t RD $EFE1FE     12000us VB    0t SE     0t RS
-0t IN 3 1              0t SN internal 1 0              0t DI internal 1 0 1
+0t IN 3 1              0t SN internal 6 0              0t DI internal 1 0 1
 0t PW 5s               RAW 05 00                       ; comment
 ";
 
@@ -302,8 +318,8 @@ turned into VIA ticks and rounded up), a time off in s (seconds).";
 /// Statuses, in a sentence.
 pub const STATUSES: &str = "\
 Exit status of run: 0 at the end of the list, 1 a record is cut, 6 no room for an answer, 7 the image
-is none of an accepted state; with --strict the number of the first refusal. Of sheet: 1 a sheet is
-broken, 2 a setting is not set, 6 too little room. Of all commands: 64 wrong words, 65 an error in a
+is none of an accepted state; with --strict the number of the first refusal. Of convert: 1 a
+record is cut. Of sheet: 1 a sheet is broken, 2 a setting is not set, 6 too little room. Of all commands: 64 wrong words, 65 an error in a
 text or a file of another kind, 74 a file cannot be read or written.";
 
 /// The group of a word.

@@ -25,7 +25,7 @@ enum Values {
 
 fn values(name: &str) -> Values {
     match name.trim_matches(['[', ']']) {
-        "EVENTS" | "FILE" | "LIST" | "SHEET" | "TEXT" => Values::Files,
+        "EVENTS" | "FILE" | "LIST" | "OLD" | "SHEET" | "TEXT" => Values::Files,
         "WHEN" => Values::Words(vec!["always", "never", "auto"]),
         "SHELL" => Values::Words(SHELLS.to_vec()),
         "COMMAND" => Values::Words(names()),

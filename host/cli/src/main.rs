@@ -6,6 +6,7 @@ mod commands;
 mod completions;
 mod conflicts;
 mod contents;
+mod convert;
 mod draft;
 mod failure;
 mod files;
@@ -101,6 +102,7 @@ fn act(command: &str, given: &Given) -> Result<u8, Failure> {
         "run" => run::run(&request::Options::of(given)?),
         "asm" => assemble::asm(given),
         "disasm" => assemble::disasm(given),
+        "convert" => convert::convert(given),
         "image" => {
             let input = Input::of(given.need()?);
             let machine = image::read(&input, source::open(&input)?)?;

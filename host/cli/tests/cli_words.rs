@@ -8,10 +8,11 @@ use std::process::Command;
 use swarmtempo::text::assemble;
 use swarmtempo::{Machine, CHUNK_LEN};
 
-const COMMANDS: [&str; 15] = [
+const COMMANDS: [&str; 16] = [
     "run",
     "asm",
     "disasm",
+    "convert",
     "image",
     "keyboard",
     "sheet get",

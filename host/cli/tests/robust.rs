@@ -180,7 +180,7 @@ fn images() {
 fn the_program() {
     let folder = Folder::new("robust");
     folder.put("nothing", b"");
-    let commands: [&[&str]; 16] = [
+    let commands: [&[&str]; 18] = [
         &["run", "file"],
         &["run", "file", "--text"],
         &["run", "file", "--records", "--vcd", "vcd", "--quiet"],
@@ -190,6 +190,8 @@ fn the_program() {
         &["asm", "-o", "out"],
         &["disasm", "file", "--records"],
         &["image", "file"],
+        &["convert", "file", "-o", "out"],
+        &["convert", "--records"],
         &["sheet", "get", "7", "--bench", "file"],
         &["sheet", "get", "7", "--text", "--house", "file"],
         &["sheet", "list"],
@@ -220,6 +222,6 @@ fn the_program() {
         let told = String::from_utf8_lossy(&folder.get("told")).into_owned();
         assert!(!told.contains("panicked"), "{words:?} on {file}: {told}");
         let status = ended.code().unwrap_or(-1);
-        assert!([0, 1, 2, 3, 4, 5, 6, 7, 8, 65].contains(&status), "{words:?} {status}: {told}");
+        assert!([0, 1, 2, 3, 4, 5, 6, 7, 8, 9, 65].contains(&status), "{words:?} {status}: {told}");
     });
 }

@@ -22,6 +22,14 @@ extern "C" {
     fn swarmtempo_image_len() -> u64;
     fn swarmtempo_ticks_of_micros(micros: u32) -> u32;
     fn swarmtempo_fresh(image: *mut c_uchar, image_len: usize) -> u8;
+    fn swarmtempo_convert(
+        list: *const c_uchar,
+        list_len: usize,
+        out: *mut c_uchar,
+        out_len: usize,
+        written: *mut u64,
+        count: *mut u64,
+    ) -> u8;
     fn swarmtempo_sheet_get(
         bench: *const c_uchar,
         bench_len: usize,
@@ -111,6 +119,34 @@ pub fn ticks_of_micros(micros: u32) -> u32 {
 pub fn fresh(image: &mut [u8]) -> u8 {
     // SAFETY: a slice that lives through the call.
     unsafe { swarmtempo_fresh(image.as_mut_ptr(), image.len()) }
+}
+
+/// What a conversion reports, as numbers.
+#[derive(Clone, Copy, Debug, PartialEq, Eq)]
+pub struct Converted {
+    /// 0 at the end of the capture, 1 where a record is cut, 6 where there is too little room.
+    pub refusal: u8,
+    /// Bytes written.
+    pub written: u64,
+    /// SN items replaced without a DI.
+    pub count: u64,
+}
+
+/// Turns an old capture over.
+pub fn convert(list: &[u8], out: &mut [u8]) -> Converted {
+    let (mut written, mut count) = (u64::MAX, u64::MAX);
+    // SAFETY: two slices and two numbers that live through the call and do not overlap.
+    let refusal = unsafe {
+        swarmtempo_convert(
+            list.as_ptr(),
+            list.len(),
+            out.as_mut_ptr(),
+            out.len(),
+            &raw mut written,
+            &raw mut count,
+        )
+    };
+    Converted { refusal, written, count }
 }
 
 /// Where a setting's bytes are, as numbers.

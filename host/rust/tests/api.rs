@@ -155,7 +155,7 @@ fn names() {
         assert_eq!(InLine::try_from(number).map(u8::from), in_range(number, 7));
         assert_eq!(SenseRegister::try_from(number).map(u8::from), in_range(number, 16));
         let refusal = Refusal::try_from(number);
-        assert_eq!(refusal.is_ok(), (1..=8).contains(&number));
+        assert_eq!(refusal.is_ok(), (1..=9).contains(&number));
         assert_eq!(refusal.map_or_else(|UnknownRefusal(n)| n, u8::from), number);
     }
 }
@@ -191,7 +191,7 @@ fn answers_there_and_back() {
     let mut some = answers(&bytes);
     assert_eq!(some.by_ref().count(), 3);
     assert_eq!(some.next(), None);
-    for wrong in [[6, 0, b'O', b'K', 0, 0, 0, 2], [6, 0, b'N', b'O', 9, 0, 0, 0], [0; 8]] {
+    for wrong in [[6, 0, b'O', b'K', 0, 0, 0, 2], [6, 0, b'N', b'O', 10, 0, 0, 0], [0; 8]] {
         assert_eq!(Answer::try_from(wrong), Err(NoAnswer));
     }
 }

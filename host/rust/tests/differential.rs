@@ -642,7 +642,7 @@ fn number(name: &str, otherwise: u64) -> u64 {
 #[derive(Default, Debug)]
 struct Reached {
     stops: [u64; 8],
-    refusals: [u64; 9],
+    refusals: [u64; 10],
     phases: [u64; 5],
     protected: u64,
     cells: u64,
@@ -678,7 +678,7 @@ impl Reached {
 
     fn enough(&self, lists: u64) {
         let counts = [0, 1, 6, 7].map(|i| self.stops[i]).into_iter();
-        let refusals = [1, 2, 3, 4, 5, 8].map(|i| self.refusals[i]);
+        let refusals = [1, 2, 3, 4, 5, 8, 9].map(|i| self.refusals[i]);
         let counts = counts.chain(refusals).chain(self.phases);
         let counts = counts.chain([self.moved, self.motors, self.strobes]);
         let counts = counts.chain([self.protected, self.cells, self.seconds, self.asked]);
