@@ -67,7 +67,11 @@ fn fetched(cell: u8) -> Vec<Item> {
 /// LSTRB pulsed for a step of the internal drive.
 fn stepped() -> Vec<Item> {
     let mut items = vec![iwm(DiskLine::ENABLE, true), iwm(DiskLine::CA0, true)];
-    items.extend([iwm(DiskLine::LSTRB, true), iwm(DiskLine::LSTRB, false), iwm(DiskLine::Q6, true)]);
+    items.extend([
+        iwm(DiskLine::LSTRB, true),
+        iwm(DiskLine::LSTRB, false),
+        iwm(DiskLine::Q6, true),
+    ]);
     items.push(iwm(DiskLine::Q7, false));
     items
 }
@@ -229,7 +233,8 @@ fn summary(ratios: &[(&str, f64)]) -> String {
 /// Prints a row for each list, and the summary.
 pub fn bench(records: usize) -> Result<(), Failure> {
     if let Ok(only) = std::env::var(ONLY) {
-        return run_only(&only, records);
+        run_only(&only, records);
+        return Ok(());
     }
     print(&format!("{records} records a list, the best of {ROUNDS} rounds\n"))?;
     print("list               library: records/s   ns/record   model: ns/record   ratio\n")?;
@@ -253,7 +258,7 @@ pub fn bench(records: usize) -> Result<(), Failure> {
 // ---- instructions, counted by callgrind
 
 /// Runs one list, by one side: what a process under callgrind does.
-fn run_only(only: &str, records: usize) -> Result<(), Failure> {
+fn run_only(only: &str, records: usize) {
     let (side, wanted) = only.split_once(' ').unwrap_or((only, ""));
     for (name, list) in lists(records).iter().filter(|l| l.0 == wanted) {
         let mut run = Run::new(name, list, records);
@@ -263,7 +268,6 @@ fn run_only(only: &str, records: usize) -> Result<(), Failure> {
             run.model();
         }
     }
-    Ok(())
 }
 
 /// The instructions a record of one list, by one side.
