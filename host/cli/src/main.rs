@@ -117,7 +117,11 @@ fn act(command: &str, given: &Given) -> Result<u8, Failure> {
         "bench" => {
             given.operand()?;
             let records = given.number("--records")?.unwrap_or(200_000).clamp(1, 10_000_000);
-            bench::bench(records as usize).map(|()| 0)
+            if given.flag("--instructions") {
+                bench::instructions(records.min(10_000) as usize).map(|()| 0)
+            } else {
+                bench::bench(records as usize).map(|()| 0)
+            }
         }
         "man" => write(given, &manual::page()),
         "completions" => {
