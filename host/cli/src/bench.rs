@@ -1,7 +1,8 @@
-//! How fast runs are, beside a plain model of the same board: a list for each kind of item, for refusals, for transactions with the
-//! clock chip, for long waits and for a mix, and calls with one item.
+//! How fast runs are, beside a plain model of the same board: a list for each kind of item, for
+//! refusals, for transactions with the clock chip, for long waits and for a mix, and calls with one
+//! item.
 
-use super::failure::Failure;
+use super::failure::{failure, Failure};
 use super::files::print;
 use std::process::Command;
 use std::time::{Duration, Instant};
@@ -20,7 +21,8 @@ const MIX: &str = "mix";
 /// The list that is run in calls of one item.
 const ONE: &str = "one item a call";
 
-/// Names the one list that this process is to run, and who runs it: what `bench --instructions` tells the processes that it counts.
+/// Names the one list that this process is to run, and who runs it: what `bench --instructions` tells
+/// the processes that it counts.
 const ONLY: &str = "SWARMTEMPO_BENCH_ONLY";
 
 fn via(register: Register, value: u8) -> Item {
@@ -203,7 +205,8 @@ fn timed(mut run: impl FnMut()) -> Duration {
     start.elapsed()
 }
 
-/// The quickest of several rounds, in which both take turns, so that what else the machine does meets both.
+/// The quickest of several rounds, in which both take turns, so that what else the machine does meets
+/// both.
 fn best(name: &str, list: &List, records: usize) -> (Duration, Duration) {
     let mut ours = Run::new(name, list, records);
     let mut theirs = Run::new(name, list, records);
@@ -237,14 +240,17 @@ pub fn bench(records: usize) -> Result<(), Failure> {
         return Ok(());
     }
     print(&format!("{records} records a list, the best of {ROUNDS} rounds\n"))?;
-    print("list               library: records/s   ns/record   model: ns/record   ratio\n")?;
+    let (library, model) = ("library: nanoseconds", "model: nanoseconds");
+    print(&format!("{:<18} {:>17} {library:>21} {model:>21}\n", "", "library: records"))?;
+    let each = "a record";
+    print(&format!("{:<18} {:>17} {each:>21} {each:>21} {:>7}\n", "list", "a second", "ratio"))?;
     let mut ratios = Vec::new();
     for (name, list) in lists(records) {
         let (library, model) = best(name, &list, records);
         let ns = |time: Duration| time.as_secs_f64() * 1e9 / records as f64;
         let ratio = ns(library) / ns(model);
         print(&format!(
-            "{name:<18} {:>18.0} {:>11.1} {:>18.1} {ratio:>7.2}\n",
+            "{name:<18} {:>17.0} {:>21.1} {:>21.1} {ratio:>7.2}\n",
             1e9 / ns(library),
             ns(library),
             ns(model),
@@ -272,8 +278,7 @@ fn run_only(only: &str, records: usize) {
 
 /// The instructions a record of one list, by one side.
 fn counted(side: &str, function: &str, name: &str, records: usize) -> Result<f64, Failure> {
-    let trouble = |what: String| Failure::usage("bench", &format!("--instructions: {what}"));
-    let program = std::env::current_exe().map_err(|e| trouble(e.to_string()))?;
+    let program = std::env::current_exe().map_err(|error| failure("this program", error))?;
     let output = Command::new("valgrind")
         .args(["--tool=callgrind", "--callgrind-out-file=/dev/null"])
         .arg(format!("--toggle-collect={function}"))
@@ -281,14 +286,17 @@ fn counted(side: &str, function: &str, name: &str, records: usize) -> Result<f64
         .args(["bench", "--records", &records.to_string()])
         .env(ONLY, format!("{side} {name}"))
         .output()
-        .map_err(|e| trouble(format!("valgrind: {e}")))?;
+        .map_err(|error| failure("valgrind", error))?;
     let text = String::from_utf8_lossy(&output.stderr);
     let collected = text.lines().find_map(|line| line.split_once("Collected :"));
     let number = collected.and_then(|(_, n)| n.trim().parse::<f64>().ok());
-    number.map(|n| n / records as f64).ok_or_else(|| trouble("no count from valgrind".into()))
+    number.map(|n| n / records as f64).ok_or_else(|| {
+        Failure::Content("valgrind".into(), format!("no count of instructions: {}", text.trim()))
+    })
 }
 
-/// Prints a row for each list: instructions a record, the same whatever else the machine does. It needs valgrind.
+/// Prints a row for each list: instructions a record, the same whatever else the machine does. It
+/// needs valgrind.
 pub fn instructions(records: usize) -> Result<(), Failure> {
     print(&format!("{records} records a list, instructions a record\n"))?;
     print("list                 library       model   ratio\n")?;

@@ -264,17 +264,19 @@ pub const COMMANDS: [Command; 16] = [
         name: "bench",
         operand: "",
         brief: "records a second, beside a plain model of the board",
-        about: "Times lists of several kinds, on the library and on a plain model of the same board.",
+        about: "Times lists on the library and on a plain model of the same board: each kind of item, refusals,\n\
+                transactions with the clock chip, long waits, a mix, and calls with one item. The last line is\n\
+                for scripts: the ratios of the mix, of the worst list, and of calls with one item.",
         flags: &[
             Flag {
                 name: "--records",
                 value: "COUNT",
-                help: "records in each list (without it: 200000)",
+                help: "records in each list (without it: 200000; at most 10000 with --instructions)",
             },
             Flag {
                 name: "--instructions",
                 value: "",
-                help: "count instructions a record by valgrind, the same whatever else runs",
+                help: "counts instructions a record, by valgrind, which takes longer, in place of times",
             },
         ],
     },

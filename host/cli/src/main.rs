@@ -118,9 +118,10 @@ fn act(command: &str, given: &Given) -> Result<u8, Failure> {
             given.operand()?;
             let records = given.number("--records")?.unwrap_or(200_000).clamp(1, 10_000_000);
             if given.flag("--instructions") {
-                return bench::instructions(records.min(10_000) as usize).map(|()| 0);
+                bench::instructions(records.min(10_000) as usize).map(|()| 0)
+            } else {
+                bench::bench(records as usize).map(|()| 0)
             }
-            bench::bench(records as usize).map(|()| 0)
         }
         "man" => write(given, &manual::page()),
         "completions" => {
