@@ -58,6 +58,8 @@ pub record Samples : Type 0 where
   pub s10 : from-fresh (levels true false true ∷ levels false true true ∷ []) .phase ≡ Listening 0 0
   pub seconds-byte : from-fresh (write 0x05 0x12) .store .seconds ≡ 0x1200
   pub read-back : from-fresh (write 0x41 0xAA ++ ask 0xC1 ++ fall) .phase ≡ Sending 0xAA 1
+  -- A cell of $AA: its last bit, 0, shows after the eighth fall; at the ninth the chip ignores.
+  pub eighth-fall : from-fresh (write 0x41 0xAA ++ ask 0xC1 ++ fall ++ fall ++ fall ++ fall ++ fall ++ fall ++ fall ++ fall) .phase ≡ Sending 0xAA 8
   pub ninth-fall : from-fresh (ask 0xC1 ++ fall ++ fall ++ fall ++ fall ++ fall ++ fall ++ fall ++ fall ++ fall) .phase ≡ Ignoring
 
 pub samples : Samples
@@ -74,5 +76,6 @@ samples =
       s10 = refl;
       seconds-byte = refl;
       read-back = refl;
+      eighth-fall = refl;
       ninth-fall = refl;
     }

@@ -1,25 +1,12 @@
-// Cells, seconds, protect and test of the clock chip: what reads, writes and seconds do to them.
+// Cells, seconds, protect and test of the clock chip: what reads and writes do to them.
 ghost use mathlib.Core.Path.{_≡_};
 ghost use Rattle.clock_spec.specs.Command.{TargetInRange, Legal};
-ghost use Rattle.clock_spec.specs.Shared.{advance, stops, writeBy};
+ghost use Rattle.clock_spec.specs.Shared.{writeBy};
 ghost use Rattle.clock_spec.specs.Writable.{writable};
-ghost use Rattle.clock_spec.specs.Store.{withSeconds, fetch, put, act};
+ghost use Rattle.clock_spec.specs.Store.{fetch, put, act};
 use clock_spec::Command;
 use clock_spec::Store;
 use clock_spec::Target;
-
-// The seconds grow by so many, modulo 2^32, unless test bit 7 or 6 stops them.
-pub fn add_seconds(store: Store, seconds: u32) -> Store
-    ensures { λ r. ⌜ r ≡ withSeconds store (advance (stops (store .test)) seconds (store .seconds)) ⌝ }
-{
-    if 64 <= store.test {
-        return store;
-    }
-    let mut s = store;
-    let was = s.seconds;
-    s.seconds = std::num::wrapping_add_u32(was, seconds);
-    s
-}
 
 // The byte that a legal read takes.
 pub fn fetch(store: Store, t: Target) -> u8

@@ -1,6 +1,6 @@
 // The two drives and their strobe: time, disks and power; what the disk lines write to them and show of them.
 ghost use mathlib.Core.Path.{_≡_};
-ghost use Rattle.disk_spec.specs.Drives.{freshDrives, drivesTicks, drivesDiskMoved, placeRefused, drivesPowered, drivesAfter, drivesShown, acceptedDrives};
+ghost use Rattle.disk_spec.specs.Drives.{freshDrives, drivesTicks, drivesBusy, drivesDiskMoved, placeRefused, drivesPowered, drivesAfter, drivesShown, acceptedDrives};
 use disk_drive::move_disk;
 use disk_drive::write_register;
 use disk_spec::Drives;
@@ -14,6 +14,13 @@ pub fn fresh() -> Drives
         external: disk_drive::fresh(),
         strobe: disk_strobe::off(),
     }
+}
+
+// Whether time changes them: a step is pending, or a strobe is steady.
+pub fn busy(d: Drives) -> bool
+    ensures { λ r. ⌜ r ≡ drivesBusy d ⌝ }
+{
+    (d.internal.pending != 0) | ((d.external.pending != 0) | d.strobe.steady)
 }
 
 // `ticks` VIA ticks pass.

@@ -1,29 +1,49 @@
 -- Laws of the two drives and their strobe: waits add up, every step keeps the ranges, levels that stay change nothing, and a sense is a level.
 use Prim.Native.Nat.{ℕ, _+_, _/_, _%_, _<_}
-use mathlib.Core.Path.{_≡_, refl, ap, _∙_}
-use mathlib.Core.Bool.{Bool, true, false, cond, not, _&&_}
+use mathlib.Core.Path.{_≡_, refl, sym, ap, _∙_}
+use mathlib.Core.Bool.{Bool, true, false, cond, not, _&&_, _||_, false≢true}
 use native.Mathlib.Omega.{arith}
 use lib.Dec.{eqb}
+use borrow.Author.Tests.{eqb-true}
 use Rattle.levels.proofs.Laws.{both}
 use Rattle.disk_spec.specs.declared.Drive.{Drive}
 use Rattle.disk_spec.specs.Control.{diskMoved, registerWritten}
 use Rattle.disk_spec.specs.Sense.{level, isDriveSense, driveSense, senseShown, acceptedDrive}
-use Rattle.disk_spec.proofs.DriveTicks.{driveTicks-add}
+use Rattle.disk_spec.proofs.DriveTicks.{driveTicks-add, idle}
 use Rattle.disk_spec.proofs.Ranges.{fresh-accepted, inserted-accepted, removed-accepted, powered-accepted, registerWritten-accepted, driveTicks-accepted}
 use Rattle.disk_spec.specs.declared.Watched.{Watched}
 use Rattle.disk_spec.specs.Watched.{registerOf}
 use Rattle.disk_spec.specs.Strobe.{strobeAfter, strobeWrites, acceptedStrobe}
-use Rattle.disk_spec.proofs.StrobeTicks.{strobeTicks-add}
-use Rattle.disk_spec.proofs.Pulses.{level-writes-nothing, untouched}
+use Rattle.disk_spec.proofs.StrobeTicks.{strobeTicks-add, unsteady}
+use Rattle.disk_spec.proofs.Pulses.{level-writes-nothing, unlit, untouched}
 use Rattle.disk_spec.proofs.Bounds.{quiet-accepted, strobeTicks-accepted, strobeAfter-accepted}
 use Rattle.disk_spec.specs.declared.Drives.{Drives}
-use Rattle.disk_spec.specs.Drives.{withStrobe, driveAt, withDriveAt, freshDrives, drivesTicks, drivesDiskMoved, drivesPowered, drivesWritten, drivesAfter, drivesShown, acceptedDrives}
+use Rattle.disk_spec.specs.Drives.{withStrobe, driveAt, withDriveAt, freshDrives, drivesTicks, drivesBusy, drivesDiskMoved, drivesPowered, drivesWritten, drivesAfter, drivesShown, acceptedDrives}
 
 -- Waiting a ticks and then b, for all whole numbers.
 pub drivesTicks-add : (a b : ℕ) (d : Drives) → drivesTicks (a + b) d ≡ drivesTicks b (drivesTicks a d)
 unfolding drivesTicks
 drivesTicks-add a b d =
     simp (driveTicks-add a b (d .internal), driveTicks-add a b (d .external), strobeTicks-add a b (d .strobe))
+
+-- Where no step is pending and no strobe is steady, time changes nothing.
+pub idle-drives : (n : ℕ) (d : Drives) → drivesBusy d ≡ false → drivesTicks n d ≡ d
+unfolding drivesBusy drivesTicks
+idle-drives n d h =
+    let p = neither (not (eqb (d .internal .pending) 0)) _ h in
+    let q = neither (not (eqb (d .external .pending) 0)) _ (p .1) in
+    simp (idle n (d .internal) (none (d .internal .pending) (p .0)), idle n (d .external) (none (d .external .pending) (q .0)), unsteady n (d .strobe) (q .1))
+  where
+    neither : (a b : Bool) → (a || b) ≡ false → (a ≡ false) × (b ≡ false)
+    neither true b e = (e, absurd (false≢true (sym e)))
+    neither false b e = (refl, e)
+
+    none : (k : ℕ) → not (eqb k 0) ≡ false → k ≡ 0
+    none k e = eqb-true k 0 (negated (eqb k 0) e)
+      where
+        negated : (a : Bool) → not a ≡ false → a ≡ true
+        negated true e = refl
+        negated false e = sym e
 
 -- A second power cut changes nothing more.
 pub powered-twice : (d : Drives) → drivesPowered (drivesPowered d) ≡ drivesPowered d
@@ -125,6 +145,13 @@ unfolding drivesAfter
 drives-untouched w d h =
     ap (λ (b : Bool). withStrobe (drivesWritten b w d) (strobeAfter w w (d .strobe))) (level-writes-nothing w w (d .strobe) refl)
     ∙ ap (withStrobe d) (untouched w (d .strobe) (parts w d h .strobing))
+
+-- An item that leaves LSTRB off changes nothing of the drives.
+pub drives-unlit : (before after : Watched) (d : Drives) → before .lstrb ≡ false → after .lstrb ≡ false → acceptedDrives before d ≡ true → drivesAfter before after d ≡ d
+unfolding drivesAfter
+drives-unlit before after d p q h =
+    ap (λ (b : Bool). withStrobe (drivesWritten b after d) (strobeAfter before after (d .strobe))) (level-writes-nothing before after (d .strobe) (p ∙ sym q))
+    ∙ ap (withStrobe d) (unlit before after (d .strobe) p q (parts before d h .strobing))
 
 -- ---- the sense
 

@@ -98,6 +98,14 @@ dark : (steady lstrb enable : Bool) → (lstrb && enable) ≡ false → (not ste
 dark true lstrb enable e h = no (sym e ∙ h)
 dark false lstrb enable e h = refl
 
+-- An item that leaves LSTRB off changes nothing of it.
+pub unlit : (before after : Watched) (s : Strobe) → before .lstrb ≡ false → after .lstrb ≡ false → acceptedStrobe before s ≡ true → strobeAfter before after s ≡ s
+unfolding strobeAfter
+unlit before after s p q h =
+    let r = ranges before s h in
+    ap (λ (b : Bool). afterBy b (before .lstrb) (unspoilt before after) (after .enable) s) q
+    ∙ sym (quiet-is s (dark (s .steady) (before .lstrb) (before .enable) (ap (λ (b : Bool). b && before .enable) p) (r .lit)) (r .resting))
+
 pub untouched : (w : Watched) (s : Strobe) → acceptedStrobe w s ≡ true → strobeAfter w w s ≡ s
 unfolding strobeAfter unspoilt
 untouched w s h = go (w .lstrb) (w .enable) refl refl

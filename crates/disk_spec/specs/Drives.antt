@@ -1,6 +1,6 @@
 -- The two drives and the strobe that writes to them, by request W-203: "Model two drives by source document 004."
 use Prim.Native.Nat.{ℕ, _/_, _%_}
-use mathlib.Core.Bool.{Bool, true, false, not, _&&_}
+use mathlib.Core.Bool.{Bool, true, false, not, _&&_, _||_}
 use lib.Dec.{eqb}
 use Rattle.disk_spec.specs.declared.Drive.{Drive}
 use Rattle.disk_spec.specs.Drive.{freshDrive, driveTicks, afterPowerCut}
@@ -36,6 +36,10 @@ freshDrives = record { internal = freshDrive; external = freshDrive; strobe = no
 unfoldable pub drivesTicks : ℕ → Drives → Drives
 drivesTicks n d =
     record { internal = driveTicks n (d .internal); external = driveTicks n (d .external); strobe = strobeTicks n (d .strobe) }
+
+-- Time changes the drives only while a step is pending or a strobe is steady.
+unfoldable pub drivesBusy : Drives → Bool
+drivesBusy d = not (eqb (d .internal .pending) 0) || (not (eqb (d .external .pending) 0) || d .strobe .steady)
 
 -- DI: drive, insert 1 or remove 0, locked, double-sided.
 unfoldable pub drivesDiskMoved : Bool → Bool → Bool → Bool → Drives → Drives

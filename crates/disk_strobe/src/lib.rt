@@ -12,13 +12,13 @@ pub fn watched_of(d: DiskLines, sel: u8) -> Watched
 {
     let l = d.lines;
     Watched {
-        lstrb: l[3] == 1,
-        enable: l[4] == 1,
-        ca0: l[0] == 1,
-        ca1: l[1] == 1,
-        ca2: l[2] == 1,
+        lstrb: l / 8 % 2 == 1,
+        enable: l / 16 % 2 == 1,
+        ca0: l % 2 == 1,
+        ca1: l / 2 % 2 == 1,
+        ca2: l / 4 % 2 == 1,
         sel: sel == 1,
-        select: l[5] == 1,
+        select: l / 32 % 2 == 1,
     }
 }
 

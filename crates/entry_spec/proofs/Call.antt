@@ -7,13 +7,14 @@ use native.Mathlib.Omega.{arith}
 use lib.ListN.{length, take, drop, length-append, length-drop}
 use lib.Seq.{take-at, drop-at}
 use lib.Dec.{ltb}
+use borrow.Author.Tests.{ne-eqb}
 use Rattle.levels.proofs.Laws.{no}
 use Rattle.machine_spec.specs.declared.Machine.{Machine}
 use Rattle.machine_spec.specs.Machine.{acceptedOf}
 use Rattle.run_spec.specs.Turn.{turnOf}
 use Rattle.run_spec.specs.Outcome.{Piece, whole, broken, pieces, Out, halt, onto, onPiece, runPieces, runOf, over}
 use Rattle.run_spec.proofs.Users.{accepted-kept, answers-fit}
-use Rattle.image_spec.specs.Image.{imageOf, machineOf, validImage, Typed}
+use Rattle.image_spec.specs.Image.{imageLength, imageOf, machineOf, validImage, Typed}
 use Rattle.image_spec.proofs.Round.{valid-is, image-typed, saved-valid, restore-saved}
 use Rattle.demand3.specs.Runs.{Run3}
 use Rattle.demand3.proofs.Runs.{run3, accepted-clock}
@@ -55,16 +56,22 @@ pub record Seven (i l d : List ℕ) : Type 0 where
   pub stop : callOf i l (length d) .stop ≡ 7
   pub consumed : callOf i l (length d) .consumed ≡ 0
   pub written : length (callOf i l (length d) .answers) ≡ 0
+  pub machine : callOf i l (length d) .machine ≡ machineOf i
   pub image : callImage i l (length d) ≡ i
   pub answers : callAnswers i l d ≡ d
 
 pub seven : (i l d : List ℕ) → validImage i ≡ false → Seven i l d
 unfolding callOf callImage callAnswers
-seven i l d e = record { stop = simp e refl; consumed = simp e refl; written = simp e refl; image = simp e refl; answers = simp e refl }
+seven i l d e = record { stop = simp e refl; consumed = simp e refl; written = simp e refl; machine = simp e refl; image = simp e refl; answers = simp e refl }
 
 -- "An image that no accepted state has gets refusal 7 and all three buffers keep their bytes."
 pub gets-seven : (i l d : List ℕ) → NoState i → Seven i l d
 gets-seven i l d h = seven i l d (no-state i h)
+
+-- "An image of an older length then gets refusal 7": any length but that of the layout.
+pub other-length : (i l d : List ℕ) → (length i ≡ imageLength → ⊥) → Seven i l d
+unfolding validImage
+other-length i l d n = seven i l d (simp (ne-eqb (length i) imageLength n))
 
 -- ---- every other image
 

@@ -1,15 +1,16 @@
 -- What the C entry's contract says of a call, and how its code comes to it.
-use Prim.Native.Nat.{ℕ}
+use Prim.Native.Nat.{ℕ, _-_}
 use mathlib.Core.Path.{_≡_, refl, sym, ap, subst⁻¹, _∙_}
 use mathlib.Core.Bool.{true, false}
-use mathlib.Core.List.{List}
+use mathlib.Core.List.{List, _++_}
 use lib.ListN.{length}
 use Rattle.levels.proofs.Laws.{no}
 use Rattle.machine_spec.specs.declared.Machine.{Machine}
 use Rattle.machine_spec.specs.Machine.{acceptedOf}
 use Rattle.run_spec.specs.declared.Ran.{Ran}
-use Rattle.run_spec.specs.Outcome.{Out, runOf, ranOf, over}
+use Rattle.run_spec.specs.Outcome.{Out, onto, runOf, ranOf, over}
 use Rattle.run_spec.proofs.Users.{accepted-kept}
+use Rattle.run_spec.proofs.Joined.{cut-list}
 use Rattle.image_spec.specs.Image.{imageOf, machineOf, validImage}
 use Rattle.image_spec.proofs.Round.{valid-is}
 use Rattle.demand3.specs.Runs.{Run3}
@@ -26,13 +27,14 @@ module _ (i l d : List ℕ) where
       × ((i′ ≡ callImage i l (length d))
       × ((d′ ≡ callAnswers i l d)
       × ((validImage i′ ≡ validImage i)
-      × (validImage i ≡ true → Run3 (machineOf i) l (length d) (machineOf i′)))))))
+      × ((machineOf i′ ≡ callOf i l (length d) .machine)
+      × (validImage i ≡ true → Run3 (machineOf i) l (length d) (machineOf i′))))))))
 
   -- Refusal 7: nothing is written.
   pub refused : validImage i ≡ false → Post 7 0 0 i d
   refused e =
       let s = seven i l d e in
-      (sym (s .stop), (sym (s .consumed), (sym (s .written), (sym (s .image), (sym (s .answers), (refl, λ h. no (sym e ∙ h)))))))
+      (sym (s .stop), (sym (s .consumed), (sym (s .written), (sym (s .image), (sym (s .answers), (refl, (sym (s .machine), λ h. no (sym e ∙ h))))))))
 
   -- Every other call is the run from the image's state, and leaves the image of the state reached.
   pub ran : validImage i ≡ true → (m : Machine) → m ≡ machineOf i → (r : Ran) → r ≡ ranOf (runOf m l (length d)) → (d′ : List ℕ) → d′ ≡ over (runOf m l (length d)) d
@@ -44,13 +46,31 @@ module _ (i l d : List ℕ) where
       let v : validImage i′ ≡ true = ev (ap (λ (x : Ran). acceptedOf (x .machine)) er ∙ a) in
       let q : runOf m l n ≡ callOf i l n = ap (λ (x : Machine). runOf x l n) em ∙ sym (is-run i l n e) in
       let k : r ≡ ranOf (callOf i l n) = er ∙ ap ranOf q in
-      let h : Run3 (machineOf i) l n (machineOf i′) = subst⁻¹ (λ (x : Machine). Run3 (machineOf i) l n x) (er′ ∙ ap (λ (x : Ran). x .machine) k) (call3 i e l n) in (
+      let g : machineOf i′ ≡ callOf i l n .machine = er′ ∙ ap (λ (x : Ran). x .machine) k in
+      let h : Run3 (machineOf i) l n (machineOf i′) = subst⁻¹ (λ (x : Machine). Run3 (machineOf i) l n x) g (call3 i e l n) in (
         ap (λ (x : Ran). x .stop) k,
         (
           ap (λ (x : Ran). x .consumed) k,
           (
             ap (λ (x : Ran). x .written) k,
-            (ei ∙ ap (λ (x : Ran). imageOf (x .machine)) k ∙ sym (image-left i l n e), (ed ∙ ap (λ (o : Out). over o d) q, (v ∙ sym e, λ y. h))),
+            (ei ∙ ap (λ (x : Ran). imageOf (x .machine)) k ∙ sym (image-left i l n e), (ed ∙ ap (λ (o : Out). over o d) q, (v ∙ sym e, (g, λ y. h)))),
           ),
         ),
       )
+
+-- ---- call after call is one run
+-- i′ is what the first call left of the valid image i, by two clauses of its contract.
+module _ (i i′ l k : List ℕ) (room : ℕ) (e : validImage i ≡ true) (v : validImage i′ ≡ validImage i) (s : machineOf i′ ≡ callOf i l room .machine) where
+  -- The next call is the run from the state that the first reached.
+  pub next-call : (more : ℕ) → callOf i′ k more ≡ runOf (callOf i l room .machine) k more
+  next-call more = is-run i′ k more (v ∙ e) ∙ ap (λ (m : Machine). runOf m k more) s
+
+  -- And where the first came to the end of its list, the two are one call with both lists: answers joined, bytes consumed added, stop and state those of the second.
+  pub one-run : callOf i l room .stop ≡ 0
+      → callOf i (l ++ k) room ≡ onto (callOf i l room .answers) (length l) (callOf i′ k (room - length (callOf i l room .answers)))
+  one-run z =
+      let r : callOf i l room ≡ runOf (machineOf i) l room = is-run i l room e in
+      is-run i (l ++ k) room e
+      ∙ cut-list (machineOf i) l k room (sym (ap (λ (o : Out). o .stop) r) ∙ z)
+      ∙ sym (ap (λ (o : Out). onto (o .answers) (length l) (runOf (o .machine) k (room - length (o .answers)))) r)
+      ∙ ap (onto (callOf i l room .answers) (length l)) (sym (next-call (room - length (callOf i l room .answers))))

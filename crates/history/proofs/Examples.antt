@@ -9,9 +9,9 @@ use lib.ListN.{getD}
 use Rattle.clock_spec.specs.Command.{named, decode}
 use Rattle.octets.specs.Octets.{replace}
 use Rattle.clock_spec.specs.Shared.{Event, quiet, second, off}
-use Rattle.clock_spec.specs.Store.{fetch, put, act}
+use Rattle.clock_spec.specs.Store.{withProtect, fetch, put, act}
 use Rattle.clock_spec.specs.Phase.{between}
-use Rattle.clock.specs.Step.{freshClock, next, acts, stepWires}
+use Rattle.clock.specs.Step.{withStore, freshClock, next, acts, stepWires}
 use Rattle.clock_spec.specs.declared.Phase.the-variants.{Taking}
 use Rattle.clock_spec.specs.declared.Wires.{Wires}
 use Rattle.clock.specs.declared.Clock.{Clock}
@@ -88,6 +88,10 @@ amid = record {
   store = record { cells = freshClock 20 .store .cells; seconds = 4294967295; protect = false; test = 0x11 };
 }
 
+-- The same with protect set.
+abbrev amidProtected : Clock
+amidProtected = withStore amid (withProtect (amid .store) true)
+
 abbrev low : Wires
 low = record { enable = false; dataclock = true; dataline = true }
 
@@ -110,6 +114,9 @@ pub record Examples : Type 0 where
   pub amidCell : (getD (storeAfter 20 amid low goesOn .cells) 0 0 ≡ 0xAA) × (cellAt 20 (startOf amid low) 0 goesOn ≡ 0xAA)
   pub amidSeconds : (storeAfter 20 amid low goesOn .seconds ≡ 7) × (secondsAt 20 (startOf amid low) goesOn ≡ 7)
   pub amidTest : (storeAfter 20 amid low goesOn .test ≡ 0x11) × (testAt 20 (startOf amid low) goesOn ≡ 0x11)
+  -- "Protect set in the image counts like a complete write that set it."
+  pub protectedCell : (getD (storeAfter 20 amidProtected low goesOn .cells) 0 0 ≡ 0) × (cellAt 20 (startOf amidProtected low) 0 goesOn ≡ 0)
+  pub protectedStays : (storeAfter 20 amidProtected low goesOn .protect ≡ true) × (protectAt 20 (startOf amidProtected low) goesOn ≡ true)
 
 pub examples : Examples
 unfolding clockAfter stepWires between next acts act put decode named fetch wiresAt rises endingAt protectAt endingClear last secondsAt replace
@@ -127,4 +134,6 @@ examples = record {
   amidCell = (refl, refl);
   amidSeconds = (refl, refl);
   amidTest = (refl, refl);
+  protectedCell = (refl, refl);
+  protectedStays = (refl, refl);
 }

@@ -4,7 +4,6 @@ ghost use mathlib.Core.Bool.{true};
 ghost use lib.ListN.{length};
 ghost use Rattle.machine_spec.specs.Machine.{acceptedOf};
 ghost use Rattle.image_spec.specs.Image.{imageLength, imageOf, machineOf, validImage};
-use disk_lines::DiskLines;
 use machine_spec::Machine;
 
 pub const LENGTH: usize = image_layout::LENGTH;
@@ -16,7 +15,7 @@ pub fn save(image: &mut [u8], m: Machine)
     ensures { λ _. ⌜ machineOf (now (image .exit)) ≡ m ⌝ }
     ensures { λ _. ⌜ (acceptedOf m ≡ true → validImage (now (image .exit)) ≡ true) ⌝ }
 {
-    let lines = m.disk.lines;
+    let lines = disk_lines::levels(m.disk);
     let inputs = m.inputs;
     let sense = m.sense;
     image_layout::put_head(image);
@@ -34,9 +33,7 @@ pub fn load(image: &[u8]) -> Machine
     Machine {
         via: image_via::via(image),
         clock: image_clock::clock(image),
-        disk: DiskLines {
-            lines: image_layout::lines(image),
-        },
+        disk: disk_lines::lines_of(image_layout::lines(image)),
         inputs: image_layout::inputs(image),
         sense: image_layout::sense(image),
         drives: image_drives::drives(image),

@@ -104,17 +104,16 @@ pub fn sense(image: &[u8]) -> [u8; SENSE_LENGTH]
     own
 }
 
-// Whether two byte strings of one length are the same.
+// Whether two byte strings of one length are the same. It looks at all of them, so that the compiler takes several at a time.
 pub fn same(a: &[u8], b: &[u8]) -> bool
     requires { ⌜ length (now a) ≡ length (now b) ⌝ }
     ensures { λ r. ⌜ r ≡ sameBytes (now (a .entry)) (now (b .entry)) ⌝ }
 {
+    let mut all = true;
     let mut i: usize = 0;
     while i < a.len() {
-        if a[i] != b[i] {
-            return false;
-        }
+        all = all & (a[i] == b[i]);
         i += 1;
     }
-    true
+    all
 }

@@ -21,6 +21,9 @@ use Rattle.image_spec.proofs.ClockBack.{phase-long, registers-long, clo
 use Rattle.disk_spec.specs.declared.Drives.{Drives}
 use Rattle.image_spec.specs.DriveLayout.{driveBytes, strobeBytes}
 use Rattle.image_spec.proofs.DriveBack.{drive-long, strobe-long, drives-back, drives-typed}
+use Rattle.disk_lines.specs.declared.DiskLines.{DiskLines}
+use Rattle.disk_lines.specs.Lines.{lineLevels}
+use Rattle.disk_lines.proofs.Laws.{lines-back, lines-width}
 use Rattle.machine_spec.specs.declared.Machine.{Machine}
 use Rattle.machine_spec.specs.Machine.{acceptedOf}
 use Rattle.image_spec.specs.Image.{imageOf, machineOf, validImage, Typed}
@@ -32,7 +35,7 @@ partsOf m =
     ∷ phaseBytes (m .clock .phase)
     ∷ registerBytes (m .clock .store)
     ∷ m .clock .store .cells
-    ∷ m .disk .lines
+    ∷ lineLevels (m .disk)
     ∷ m .inputs
     ∷ m .sense
     ∷ driveBytes (m .drives .internal)
@@ -43,8 +46,12 @@ partsOf m =
 abbrev lengths : List ℕ
 lengths = viaLength ∷ phaseLength ∷ registersLength ∷ cellsLength ∷ linesLength ∷ inputsLength ∷ senseLength ∷ driveLength ∷ driveLength ∷ strobeLength ∷ []
 
+levels-long : (d : DiskLines) → length (lineLevels d) ≡ linesLength
+unfolding lineLevels
+levels-long d = refl
+
 sized : (m : Machine) → Typed m → sizes (partsOf m) ≡ lengths
-sized m t = simp (via-long, phase-long, registers-long, t .cells, t .lines, t .inputs, t .sense, drive-long, strobe-long)
+sized m t = simp (via-long, phase-long, registers-long, t .cells, levels-long, t .inputs, t .sense, drive-long, strobe-long)
 
 parts : (m : Machine) → Typed m → cut viaAt lengths (imageOf m) ≡ partsOf m
 unfolding imageOf headBytes
@@ -60,7 +67,7 @@ abbrev clockPut : Clock → List ℕ → List ℕ
 clockPut c d = putAt (putAt (putAt d phaseAt (phaseBytes (c .phase))) registersAt (registerBytes (c .store))) cellsAt (c .store .cells)
 
 abbrev levelsPut : Machine → List ℕ → List ℕ
-levelsPut m d = putAt (putAt (putAt d linesAt (m .disk .lines)) inputsAt (m .inputs)) senseAt (m .sense)
+levelsPut m d = putAt (putAt (putAt d linesAt (lineLevels (m .disk))) inputsAt (m .inputs)) senseAt (m .sense)
 
 abbrev drivesPut : Drives → List ℕ → List ℕ
 drivesPut s d = putAt (putAt (putAt d internalAt (driveBytes (s .internal))) externalAt (driveBytes (s .external))) strobeAt (strobeBytes (s .strobe))
@@ -93,6 +100,7 @@ restore-saved m t =
       ap (pick 8) e,
       ap (pick 9) e,
       via-back (m .via) (t .via),
+      lines-back (m .disk) (t .lines),
       clock-back (m .clock) (t .seconds, t .cells),
       drives-back (m .drives) (t .drives),
     )
@@ -133,7 +141,7 @@ image-typed s n =
       via = via-typed (part viaAt viaLength s);
       seconds = c .0;
       cells = c .1;
-      lines = part-long linesAt linesLength s (omega arith);
+      lines = lines-width (part linesAt linesLength s);
       inputs = part-long inputsAt inputsLength s (omega arith);
       sense = part-long senseAt senseLength s (omega arith);
       drives = drives-typed (part internalAt driveLength s) (part externalAt driveLength s) (part strobeAt strobeLength s);

@@ -11,6 +11,7 @@ pub use Rattle.image_spec.specs.Layout.{imageLength}
 use Rattle.image_spec.specs.ViaLayout.{viaBytes, viaOf, ViaTyped}
 use Rattle.image_spec.specs.ClockLayout.{phaseBytes, registerBytes, clockOf}
 use Rattle.image_spec.specs.DriveLayout.{driveBytes, strobeBytes, drivesOf, DrivesTyped}
+use Rattle.disk_lines.specs.Lines.{lineLevels, linesOf}
 use Rattle.machine_spec.specs.declared.Machine.{Machine}
 use Rattle.machine_spec.specs.Machine.{acceptedOf}
 
@@ -22,7 +23,7 @@ imageOf m =
     ++ phaseBytes (m .clock .phase)
     ++ registerBytes (m .clock .store)
     ++ m .clock .store .cells
-    ++ m .disk .lines
+    ++ lineLevels (m .disk)
     ++ m .inputs
     ++ m .sense
     ++ driveBytes (m .drives .internal)
@@ -35,7 +36,7 @@ machineOf s =
     record {
       via = viaOf (part viaAt viaLength s);
       clock = clockOf (part phaseAt phaseLength s) (part registersAt registersLength s) (part cellsAt cellsLength s);
-      disk = record { lines = part linesAt linesLength s };
+      disk = linesOf (part linesAt linesLength s);
       inputs = part inputsAt inputsLength s;
       sense = part senseAt senseLength s;
       drives = drivesOf (part internalAt driveLength s) (part externalAt driveLength s) (part strobeAt strobeLength s);
@@ -51,7 +52,7 @@ pub record Typed (m : Machine) : Type 0 where
   pub via : ViaTyped (m .via)
   pub seconds : m .clock .store .seconds < 4294967296
   pub cells : length (m .clock .store .cells) ≡ cellsLength
-  pub lines : length (m .disk .lines) ≡ linesLength
+  pub lines : m .disk .lines < 256
   pub inputs : length (m .inputs) ≡ inputsLength
   pub sense : length (m .sense) ≡ senseLength
   pub drives : DrivesTyped (m .drives)

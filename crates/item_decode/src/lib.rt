@@ -7,14 +7,14 @@ use item_spec::Decoded;
 use item_spec::Plain;
 
 // Whether a record's kind is this one.
-fn is(s: &[u8], kind: &[u8; 2]) -> bool
+pub fn is(s: &[u8], kind: &[u8; 2]) -> bool
     requires { ⌜ 2 ≤ length (now s) ⌝ }
     ensures { λ r. ⌜ r ≡ isKind (now (s .entry)) (now (kind .entry)) ⌝ }
 {
     s[0] == kind[0] && s[1] == kind[1]
 }
 
-// A record's bytes after its length: an item, or refusal 2, 3, 4 or 5.
+// A record's bytes after its length: an item, or refusal 2, 3, 4, 5 or 9.
 pub fn decode(s: &[u8]) -> Decoded
     requires { ⌜ 2 ≤ length (now s) ⌝ }
     ensures { λ r. ⌜ r ≡ decodedOf (now (s .entry)) ⌝ }

@@ -2,7 +2,7 @@
 ghost use mathlib.Core.Path.{_≡_};
 ghost use Prim.Native.Nat.{_≤_};
 ghost use lib.ListN.{length};
-ghost use Rattle.item_spec.specs.Ranged.{lineRecord, senseRecord, diskRecord};
+ghost use Rattle.item_spec.specs.Ranged.{lineRecord, senseRecord, isRetired, diskRecord};
 use item_spec::Decoded;
 use item_spec::Item;
 
@@ -26,6 +26,13 @@ pub fn line_item(s: &[u8]) -> Decoded
     })
 }
 
+// Whether SN on this register has retired.
+pub fn is_retired(register: u8) -> bool
+    ensures { λ r. ⌜ r ≡ isRetired register ⌝ }
+{
+    (register < 6) | (register == 12) | (register == 15)
+}
+
 // SN
 pub fn sense_item(s: &[u8]) -> Decoded
     requires { ⌜ 2 ≤ length (now s) ⌝ }
@@ -39,6 +46,9 @@ pub fn sense_item(s: &[u8]) -> Decoded
     let level = s[6];
     if (1 < drive) | (15 < register) | (1 < level) {
         return Decoded::Refused(5);
+    }
+    if is_retired(register) {
+        return Decoded::Refused(9);
     }
     Decoded::Done(Item::Sense {
         wait: octets::le16(s, 2),

@@ -11,7 +11,7 @@ use Rattle.octets.specs.Octets.{le32Of, Bytes}
 use Rattle.octets.proofs.Laws.{le16-width, le32-width}
 use Rattle.item_spec.specs.Addresses.{foundOf}
 use Rattle.item_spec.specs.Items.{ofLength, atAddress, recordWait, readRecord, writeRecord, powerRecord, plainItem, plainRecord, ItemInRange, ItemInWidth}
-use Rattle.item_spec.specs.Ranged.{atMost, lineRecord, senseRecord, diskRecord}
+use Rattle.item_spec.specs.Ranged.{atMost, lineRecord, isRetired, senseRecord, diskRecord}
 use Rattle.item_spec.specs.Kinds.{isKind, decodedOf}
 use Rattle.item_spec.specs.declared.Item.{Item}
 use Rattle.item_spec.specs.declared.Item.the-variants.{ReadVia, ReadIwm, WriteVia, WriteIwm}
@@ -78,7 +78,7 @@ in-range s =
     (good-sized ItemInRange s 9 _ (good-placed ItemInRange (le32Of s 4) (λ r. WriteVia (recordWait s) r (getD s 8 0)) (λ k. WriteIwm (recordWait s) k (getD s 8 0)) (λ r h. h) (λ k h. h)))
     (λ k. good-sized ItemInRange s 4 _ (plain-range k (recordWait s)))
     (good-sized ItemInRange s 6 _ (good-upTo ItemInRange (getD s 4 0) 6 _ (λ a. good-upTo ItemInRange (getD s 5 0) 1 _ (λ b. (omega arith, omega arith)))))
-    (good-sized ItemInRange s 7 _ (good-upTo ItemInRange (getD s 4 0) 1 _ (λ a. good-upTo ItemInRange (getD s 5 0) 15 _ (λ b. good-upTo ItemInRange (getD s 6 0) 1 _ (λ c. (omega arith, omega arith, omega arith))))))
+    (good-sized ItemInRange s 7 _ (good-upTo ItemInRange (getD s 4 0) 1 _ (λ a. good-upTo ItemInRange (getD s 5 0) 15 _ (λ b. good-upTo ItemInRange (getD s 6 0) 1 _ (λ c. good-cond ItemInRange (isRetired (getD s 5 0)) _ _ tt (omega arith, omega arith, omega arith))))))
     (good-sized ItemInRange s 8 _ tt)
     (good-sized ItemInRange s 8 _
     (good-upTo ItemInRange (getD s 4 0) 1 _ (λ a. good-upTo ItemInRange (getD s 5 0) 1 _ (λ b. good-upTo ItemInRange (getD s 6 0) 1 _ (λ c. good-upTo ItemInRange (getD s 7 0) 1 _ (λ d. (omega arith, omega arith, omega arith, omega arith)))))))
@@ -101,7 +101,7 @@ in-width s bs =
     (good-sized ItemInWidth s 9 _ (good-placed ItemInWidth (le32Of s 4) (λ r. WriteVia (recordWait s) r (getD s 8 0)) (λ k. WriteIwm (recordWait s) k (getD s 8 0)) (λ r h. (w, bs 8)) (λ k h. (w, bs 8))))
     (λ k. good-sized ItemInWidth s 4 _ (plain-width k (recordWait s) w))
     (good-sized ItemInWidth s 6 _ (good-upTo ItemInWidth (getD s 4 0) 6 _ (λ a. good-upTo ItemInWidth (getD s 5 0) 1 _ (λ b. w))))
-    (good-sized ItemInWidth s 7 _ (good-upTo ItemInWidth (getD s 4 0) 1 _ (λ a. good-upTo ItemInWidth (getD s 5 0) 15 _ (λ b. good-upTo ItemInWidth (getD s 6 0) 1 _ (λ c. w)))))
+    (good-sized ItemInWidth s 7 _ (good-upTo ItemInWidth (getD s 4 0) 1 _ (λ a. good-upTo ItemInWidth (getD s 5 0) 15 _ (λ b. good-upTo ItemInWidth (getD s 6 0) 1 _ (λ c. good-cond ItemInWidth (isRetired (getD s 5 0)) _ _ tt w)))))
     (good-sized ItemInWidth s 8 _ (w, le32-width s 4 bs))
     (good-sized ItemInWidth s 8 _
     (good-upTo ItemInWidth (getD s 4 0) 1 _ (λ a. good-upTo ItemInWidth (getD s 5 0) 1 _ (λ b. good-upTo ItemInWidth (getD s 6 0) 1 _ (λ c. good-upTo ItemInWidth (getD s 7 0) 1 _ (λ d. w))))))

@@ -2,4 +2,5 @@ pub mod Addresses
 pub mod RecordLaws
 pub mod Any
 pub mod ItemRange
+pub mod KindLaws
 pub mod Samples

@@ -3,3 +3,4 @@ pub mod Record
 pub mod Items
 pub mod Ranged
 pub mod Kinds
+pub mod Samples

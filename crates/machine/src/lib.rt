@@ -20,17 +20,15 @@ pub fn fresh() -> Machine
 pub fn accepted(m: Machine) -> bool
     ensures { λ r. ⌜ r ≡ acceptedOf m ⌝ }
 {
-    let lines = m.disk.lines;
     let inputs = m.inputs;
     let sense = m.sense;
     let c = m.clock;
     let p = c.phase;
     let w = machine_pins::wires(m);
-    let a = levels::all_levels(&lines);
     let b = levels::all_levels(&inputs);
     let s = levels::all_levels(&sense);
     let v = via_flags::accepted(m.via);
     let k = clock_phase::accepted_phase(p, w.enable);
     let g = disk_drives::accepted(m.drives, machine_pins::watched(m));
-    a & b & s & v & k & g
+    b & s & v & k & g
 }

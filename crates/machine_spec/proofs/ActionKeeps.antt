@@ -10,7 +10,6 @@ use Rattle.via.proofs.Accepted.{fresh-accepted, reset-accepted, raised-accepted
 use Rattle.via.proofs.AccessAccepted.{written-accepted, read-accepted}
 use Rattle.clock_spec.specs.Phase.{shownLevel}
 use Rattle.machine_spec.specs.Wiring.{inputsOf}
-use Rattle.disk_lines.proofs.Laws.{off-levels, access-levels}
 use Rattle.disk_spec.specs.declared.Watched.{Watched}
 use Rattle.disk_spec.specs.Drives.{acceptedDrives}
 use Rattle.disk_spec.proofs.DrivesLaws.{placed-accepted, drivesPowered-accepted}
@@ -30,16 +29,16 @@ pub record Kept (m : Machine) : Type 0 where
 pub act-keeps : (m : Machine) (i : Item) → ItemInRange i → Kept m → Kept (actedOf m i .machine)
 unfolding actedOf viaRead iwmRead
 act-keeps m (ReadVia w r) h k = record { levels = k .levels; via = read-accepted r (inputsOf (shownLevel (m .clock .phase)) (m .inputs)) (m .via) (k .via) }
-act-keeps m (ReadIwm w l) h k = record { levels = (access-levels l (m .disk) (k .levels .0), k .levels .1, k .levels .2); via = k .via }
+act-keeps m (ReadIwm w l) h k = record { levels = k .levels; via = k .via }
 act-keeps m (WriteVia w r v) h k = record { levels = k .levels; via = written-accepted r v (m .via) (k .via) }
-act-keeps m (WriteIwm w l v) h k = record { levels = (access-levels l (m .disk) (k .levels .0), k .levels .1, k .levels .2); via = k .via }
+act-keeps m (WriteIwm w l v) h k = record { levels = k .levels; via = k .via }
 act-keeps m (Blank w) h k = record { levels = k .levels; via = raised-accepted 2 (m .via) (omega arith) (k .via) }
 act-keeps m (Second w) h k = record { levels = k .levels; via = raised-accepted 1 (m .via) (omega arith) (k .via) }
-act-keeps m (Line w l v) h k = record { levels = (k .levels .0, set-levels (m .inputs) l v (k .levels .1) (h .1), k .levels .2); via = k .via }
+act-keeps m (Line w l v) h k = record { levels = (set-levels (m .inputs) l v (k .levels .0) (h .1), k .levels .1); via = k .via }
 act-keeps m (Sense w d r v) h k =
-    record { levels = (k .levels .0, k .levels .1, set-levels (m .sense) (16 * d + r) v (k .levels .2) (h .2)); via = k .via }
-act-keeps m (Reset w) h k = record { levels = (off-levels, k .levels .1, k .levels .2); via = reset-accepted (m .via) }
-act-keeps m (Power w s) h k = record { levels = (off-levels, k .levels .1, k .levels .2); via = fresh-accepted }
+    record { levels = (k .levels .0, set-levels (m .sense) (16 * d + r) v (k .levels .1) (h .2)); via = k .via }
+act-keeps m (Reset w) h k = record { levels = k .levels; via = reset-accepted (m .via) }
+act-keeps m (Power w s) h k = record { levels = k .levels; via = fresh-accepted }
 act-keeps m (Disk w d i l b) h k = record { levels = k .levels; via = k .via }
 
 -- And of the drives, with the levels before the item: the strobe looks at the levels afterwards.

@@ -8,3 +8,5 @@ pub mod Keeps
 pub mod Drives
 pub mod Items
 pub mod Interrupts
+pub mod Ports
+pub mod Loads

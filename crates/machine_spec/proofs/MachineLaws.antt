@@ -19,32 +19,26 @@ pub record Parts (m : Machine) : Type 0 where
 pub parts : (m : Machine) → acceptedOf m ≡ true → Parts m
 unfolding acceptedOf
 parts m h =
-    let a = allLevels (m .disk .lines) in
     let b = allLevels (m .inputs) in
     let s = allLevels (m .sense) in
     let v = acceptedVia (m .via) in
     let k = acceptedPhase cellCount (m .clock .phase) (wires m .enable) in
     let g = acceptedDrives (strobeLevels m) (m .drives) in
-    let o = both ((((a && b) && s) && v) && k) g h in
-    let p = both (((a && b) && s) && v) k (o .0) in
-    let q = both ((a && b) && s) v (p .0) in
-    let r = both (a && b) s (q .0) in
-    let t = both a b (r .0) in
-    record { levels = (t .0, t .1, r .1); via = q .1; phase = p .1; drives = o .1 }
+    let o = both (((b && s) && v) && k) g h in
+    let p = both ((b && s) && v) k (o .0) in
+    let q = both (b && s) v (p .0) in
+    record { levels = both b s (q .0); via = q .1; phase = p .1; drives = o .1 }
 
 pub whole : (m : Machine) → Parts m → acceptedOf m ≡ true
 unfolding acceptedOf
 whole m h =
-    let a = allLevels (m .disk .lines) in
     let b = allLevels (m .inputs) in
     let s = allLevels (m .sense) in
     let v = acceptedVia (m .via) in
     let k = acceptedPhase cellCount (m .clock .phase) (wires m .enable) in
     let g = acceptedDrives (strobeLevels m) (m .drives) in
-    joined ((((a && b) && s) && v) && k) g
-    (joined (((a && b) && s) && v) k
-    (joined ((a && b) && s) v
-    (joined (a && b) s (joined a b (h .levels .0) (h .levels .1)) (h .levels .2))
-    (h .via))
+    joined (((b && s) && v) && k) g
+    (joined ((b && s) && v) k
+    (joined (b && s) v (joined b s (h .levels .0) (h .levels .1)) (h .via))
     (h .phase))
     (h .drives)

@@ -76,14 +76,14 @@ strobeLevels m = watchedOf (m .disk) (selOf (m .via .ports))
 
 -- ---- accepted states
 
--- "Every line level is 0 or 1."
+-- "Every line level is 0 or 1." The disk lines are kept as a byte, whose every value is one of their states.
 abbrev pub Levels : Machine → Type 0
-Levels m = (allLevels (m .disk .lines) ≡ true) × (allLevels (m .inputs) ≡ true) × (allLevels (m .sense) ≡ true)
+Levels m = (allLevels (m .inputs) ≡ true) × (allLevels (m .sense) ≡ true)
 
 -- "Every line level is 0 or 1, the chip is idle exactly while enable is 1, .. room not in use holds 0"; W-203: both drives and the strobe
 -- within their ranges.
 unfoldable pub acceptedOf : Machine → Bool
 acceptedOf m =
-    ((((allLevels (m .disk .lines) && allLevels (m .inputs)) && allLevels (m .sense)) && acceptedVia (m .via))
+    (((allLevels (m .inputs) && allLevels (m .sense)) && acceptedVia (m .via))
     && acceptedPhase cellCount (m .clock .phase) (wires m .enable))
     && acceptedDrives (strobeLevels m) (m .drives)

@@ -1,10 +1,10 @@
 -- One item, by document 01: "only then does its wait pass, and only then its action"; then the clock compares its wires, and by request
 -- W-203 the drives' strobe its levels. And the answer.
 use mathlib.Core.Bool.{true}
+use mathlib.Core.List.{List, [], _∷_}
 use lib.ListN.{getD}
 use Rattle.item_spec.specs.declared.Answer.{Answer}
 use Rattle.via.specs.Via.{levelOf}
-use Rattle.disk_lines.specs.Lines.{lineByteOf}
 use Rattle.item_spec.specs.declared.Item.{Item}
 use Rattle.machine_spec.specs.declared.Machine.{Machine}
 use Rattle.machine_spec.specs.Machine.{wires, strobeLevels}
@@ -19,6 +19,14 @@ stepOf m i =
     let d = actedOf (afterWait (itemWait i) m) i in
     record { machine = afterStrobe (strobeLevels m) (afterWires (wires m) (d .machine)); value = d .value }
 
+-- The machine after an item, and after some, the first done first.
+abbrev pub afterItem : Machine → Item → Machine
+afterItem m i = stepOf m i .machine
+
+abbrev pub afterItems : Machine → List Item → Machine
+afterItems m [] = m
+afterItems m (i ∷ is) = afterItems (afterItem m i) is
+
 -- "Level, lines and SEL are those after the item."
 unfoldable pub answerOf : Did → Answer
 answerOf d =
@@ -26,6 +34,6 @@ answerOf d =
       ok = true;
       value = d .value;
       level = interruptLevel (levelOf (d .machine .via)) (getD (d .machine .inputs) 5 0) (getD (d .machine .inputs) 6 0);
-      lines = lineByteOf (d .machine .disk);
+      lines = d .machine .disk .lines;
       sel = selOf (d .machine .via .ports);
     }

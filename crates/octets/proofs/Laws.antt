@@ -1,13 +1,14 @@
 -- Laws of the definitions of `specs/Octets.antt` that callers cite.
-use Prim.Native.Nat.{ℕ, zero, suc, _+_, _-_, _/_, _%_, _^_, _≤_, _<_}
+use Prim.Native.Nat.{ℕ, zero, suc, _+_, _-_, _*_, _/_, _%_, _^_, _≤_, _<_}
 use mathlib.Core.Path.{_≡_, sym, ap, _∙_}
 use mathlib.Core.Bool.{cond}
-use mathlib.Core.List.{List, [], _∷_, _++_}
+use mathlib.Core.List.{List, [], _∷_, _++_, append-nil}
 use native.Mathlib.Omega.{arith}
+use native.Mathlib.Nat.{div-div-eq-div-mul}
 use lib.ListN.{length, getD, take, drop, length-append, length-drop, drop-of-length-le}
 use lib.Seq.{drop-cons, take-at, drop-at, length-take-le, getD-drop}
 use lib.Dec.{eqb}
-use Rattle.octets.specs.Octets.{le16Of, le32Of, replace, putAt, Bytes}
+use Rattle.octets.specs.Octets.{le16Of, le32Of, replace, putAt, Bytes, bytes32}
 
 -- a list of n elements is its elements, written out at a numeral n
 abbrev pub tab : ℕ → ℕ → List ℕ → List ℕ
@@ -95,3 +96,41 @@ replace-byte (suc (suc (suc zero))) (suc (suc zero)) b s k j h = omega arith
 replace-byte (suc (suc (suc zero))) (suc (suc (suc zero))) b s k j h = omega arith
 replace-byte (suc (suc (suc zero))) (suc (suc (suc (suc m)))) b s k j h = absurd (omega arith)
 replace-byte (suc (suc (suc (suc n)))) j b s k q h = absurd (omega arith)
+
+-- four bytes written and read again: divided step by step, as `omega` reads it
+back-steps : (n : ℕ) → n < 4294967296 → n % 256 + n / 256 % 256 * 256 + n / 256 / 256 % 256 * 65536 + n / 256 / 256 / 256 % 256 * 16777216 ≡ n
+back-steps n h = omega arith
+
+pub back32 : (n : ℕ) → n < 4294967296 → n % 256 + n / 256 % 256 * 256 + n / 65536 % 256 * 65536 + n / 16777216 % 256 * 16777216 ≡ n
+back32 n h =
+    let e : n / 256 / 256 ≡ n / 65536 = div-div-eq-div-mul n 256 256 in
+    let f : n / 256 / 256 / 256 ≡ n / 16777216 = div-div-eq-div-mul (n / 256) 256 256 ∙ div-div-eq-div-mul n 256 65536 in
+    rw (← e, ← f) (back-steps n h)
+
+-- and the other way: the bytes of what four bytes say are these bytes
+low : (a m : ℕ) → a < 256 → (a + m * 256) % 256 ≡ a
+low a m h = omega arith
+
+high : (a m : ℕ) → a < 256 → (a + m * 256) / 256 ≡ m
+high a m h = omega arith
+
+pub again32 : (a b c d : ℕ) → a < 256 → b < 256 → c < 256 → d < 256 → bytes32 (a + b * 256 + c * 65536 + d * 16777216) ≡ a ∷ b ∷ c ∷ d ∷ []
+again32 a b c d ha hb hc hd =
+    let n = a + b * 256 + c * 65536 + d * 16777216 in
+    let m = c + d * 256 in
+    let l = b + m * 256 in
+    let e : n ≡ a + l * 256 = omega arith in
+    let f : n / 256 ≡ l = ap (λ (x : ℕ). x / 256) e ∙ high a l ha in
+    let g : n / 65536 ≡ m = sym (div-div-eq-div-mul n 256 256) ∙ ap (λ (x : ℕ). x / 256) f ∙ high b m hb in
+    let h : n / 16777216 ≡ d = sym (div-div-eq-div-mul n 65536 256) ∙ ap (λ (x : ℕ). x / 256) g ∙ high c d hc in
+    let p : n % 256 ≡ a = ap (λ (x : ℕ). x % 256) e ∙ low a l ha in
+    let q : n / 256 % 256 ≡ b = ap (λ (x : ℕ). x % 256) f ∙ low b m hb in
+    let r : n / 65536 % 256 ≡ c = ap (λ (x : ℕ). x % 256) g ∙ low c d hc in
+    let s : n / 16777216 % 256 ≡ d = ap (λ (x : ℕ). x % 256) h ∙ omega (arith, hd) in
+    cc
+
+-- written over the whole
+pub put-whole : (d x : List ℕ) → length d ≡ length x → putAt d 0 x ≡ x
+put-whole d x e =
+    let k : length d ≤ 0 + length x = omega arith in
+    ap (λ (r : List ℕ). take 0 d ++ x ++ r) (drop-of-length-le d k) ∙ append-nil x

@@ -1,6 +1,6 @@
 -- Bytes and numbers: document 01, "Items and answers as bytes", and the seconds bytes of "The clock's wires".
 use Prim.Native.Nat.{ℕ, suc, _+_, _*_, _/_, _%_, _^_, _<_}
-use mathlib.Core.List.{List, _++_}
+use mathlib.Core.List.{List, [], _∷_, _++_}
 use lib.ListN.{length, getD, take, drop}
 
 -- "Numbers are little-endian": two bytes from `at` on.
@@ -22,3 +22,7 @@ putAt d at x = take at d ++ x ++ drop (at + length x) d
 -- Every number of the list is a byte.
 abbrev pub Bytes : List ℕ → Type 0
 Bytes s = (i : ℕ) → getD s i 0 < 256
+
+-- The four bytes of a number.
+abbrev pub bytes32 : ℕ → List ℕ
+bytes32 n = n % 256 ∷ n / 256 % 256 ∷ n / 65536 % 256 ∷ n / 16777216 % 256 ∷ []

@@ -38,7 +38,7 @@ done-ordinary : (m : Machine) (x : Item) → ItemInRange x → acceptedOf m ≡ 
 unfolding answerOf
 done-ordinary m x r h =
     let n = stepOf m x .machine in
-    let l = parts n (step-keeps m x r h) .levels .1 in
+    let l = parts n (step-keeps m x r h) .levels .0 in
     never (levelOf (n .via)) (getD (n .inputs) 5 0) (getD (n .inputs) 6 0) (via-level (n .via)) (level-at (n .inputs) 5 l) (level-at (n .inputs) 6 l)
 
 pub turn-ordinary : (m : Machine) (s : List ℕ) → acceptedOf m ≡ true → Ordinary (turnOf m s .answer)

@@ -8,7 +8,7 @@ use Rattle.clock_spec.specs.Command.{named, decode}
 use Rattle.clock_spec.specs.Store.{fetch, put, act}
 use Rattle.clock_spec.specs.Phase.{between, shownLevel, acceptedPhase}
 use Rattle.clock.specs.Step.{next, acts, stepWires}
-use Rattle.disk_lines.specs.Lines.{linesOff, afterAccess, lineByteOf, senseAt, readLine}
+use Rattle.disk_lines.specs.Lines.{linesOff, withLevel, afterAccess, senseAt, readLine}
 use Rattle.disk_spec.specs.Sense as sense
 use Rattle.disk_spec.specs.Drive.{neighbour, tickDrive, driveTicks}
 use Rattle.disk_spec.specs.Control.{registerWritten}
@@ -40,7 +40,7 @@ use Rattle.samples.specs.Drives.{DriveSamples}
 
 pub samples : Samples
 unfolding allLevels freshVia portLevel latchOf tickOf ticks raisedOf asking levelOf acceptedVia viaWritten registerRead named decode between fetch next acts put act
-    stepWires shownLevel acceptedPhase linesOff lineByteOf wiresOf selOf inputsOf interruptLevel le16Of le32Of frameOf answerBytes noOf isKind placeFrom foundOf writeRecord plainRecord
+    stepWires shownLevel acceptedPhase linesOff wiresOf selOf inputsOf interruptLevel le16Of le32Of frameOf answerBytes noOf isKind placeFrom foundOf writeRecord plainRecord
     decodedOf items.readRecord acceptedOf acceptedDrives acceptedDrive acceptedStrobe itemWait viaRead actedOf stepOf refusesOf answerOf cut piecesFrom turnOf onto onPiece runPieces runOf sent values
 samples =
     record {
@@ -59,8 +59,8 @@ samples =
     }
 
 pub driveSamples : DriveSamples
-unfolding allLevels freshVia tickOf ticks resetOf asking levelOf acceptedVia viaWritten between stepWires next acts act shownLevel acceptedPhase linesOff afterAccess lineByteOf
-    senseAt readLine wiresOf selOf watchedOf le16Of le32Of frameOf answerBytes noOf isKind placeFrom foundOf writeRecord plainRecord powerRecord diskRecord decodedOf items.readRecord ranged.senseRecord
+unfolding allLevels freshVia tickOf ticks resetOf asking levelOf acceptedVia viaWritten between stepWires next acts act shownLevel acceptedPhase linesOff withLevel afterAccess
+    senseAt readLine wiresOf selOf watchedOf le16Of le32Of frameOf answerBytes noOf isKind placeFrom foundOf writeRecord plainRecord powerRecord diskRecord decodedOf items.readRecord ranged.isRetired ranged.senseRecord
     registerWritten neighbour tickDrive driveTicks isDriveSense sense.driveSense senseShown acceptedDrive tickStrobe strobeTicks heldStill unspoilt strobeAfter registerOf
     longEnough strobeWrites acceptedStrobe drivesTicks drivesDiskMoved placeRefused drivesPowered drivesAfter drivesShown acceptedDrives
     acceptedOf itemWait iwmRead actedOf stepOf refusesOf answerOf cut piecesFrom turnOf onto onPiece runPieces runOf values
@@ -74,7 +74,4 @@ driveSamples =
       motor = refl;
       overReset = refl;
       overPower = refl;
-      stored = refl;
-      shown = refl;
-      drive = (refl, refl, refl);
     }

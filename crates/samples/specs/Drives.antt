@@ -1,18 +1,13 @@
 -- Request W-203 in short runs from the fresh machine, as one statement about the definition that the run's contract cites.
 use mathlib.Core.Path.{_≡_}
-use mathlib.Core.Bool.{true, false}
 use mathlib.Core.List.{List, [], _∷_, _++_}
 use Prim.Native.Nat.{ℕ}
-use Rattle.machine_spec.specs.declared.Machine.{Machine}
-use Rattle.samples.specs.Lists.{wr, access, rdIwm, sn, di, rs, pw, selDown, ready, strobe}
-use Rattle.samples.specs.Samples.{ran, valuesFrom}
+use Rattle.samples.specs.Lists.{wr, access, rdIwm, di, rs, pw, ready, strobe}
+use Rattle.samples.specs.Samples.{valuesFrom}
 
 -- The sense that the addressed register of the selected drive shows: a read of location 14.
 abbrev pub sense : List ℕ
 sense = rdIwm 14
-
-abbrev pub after : List ℕ → Machine
-after l = ran l .machine
 
 -- The values of the answers are the numbers of the refusals.
 pub record DriveSamples : Type 0 where
@@ -27,8 +22,3 @@ pub record DriveSamples : Type 0 where
   pub motor : valuesFrom 7 1 (di 0 1 0 0 ++ ready ++ access 0 3 ++ strobe 1 ++ sense) ≡ 0 ∷ []
   pub overReset : valuesFrom 12 1 (di 0 1 0 0 ++ ready ++ access 0 3 ++ strobe 1 ++ rs ++ ready ++ access 0 3 ++ sense) ≡ 0 ∷ []
   pub overPower : valuesFrom 12 4 (di 0 1 0 0 ++ ready ++ access 0 3 ++ strobe 1 ++ pw ++ ready ++ access 0 3 ++ sense ++ wr 0 3 0 ++ access 0 2 ++ sense) ≡ 128 ∷ 0 ∷ 0 ∷ 0 ∷ []
-  -- SN on a register of the drive does not show (2), on another it does (6).
-  pub stored : valuesFrom 6 1 (sn 0 2 0 ++ sn 0 6 0 ++ ready ++ access 0 1 ++ sense) ≡ 128 ∷ []
-  pub shown : valuesFrom 7 1 (sn 0 2 0 ++ sn 0 6 0 ++ ready ++ access 0 1 ++ access 0 3 ++ sense) ≡ 0 ∷ []
-  -- A locked, double-sided disk in the external drive.
-  pub drive : (after (di 1 1 1 1) .drives .external .locked ≡ true) × (after (di 1 1 1 1) .drives .external .sides ≡ true) × (after (di 1 1 1 1) .drives .internal .disk ≡ false)

@@ -1,3 +1,10 @@
 pub mod Lists
 pub mod Samples
 pub mod Drives
+pub mod Steps
+pub mod Registers
+pub mod Wiring
+pub mod Senses
+pub mod Clock
+pub mod Strobes
+pub mod States

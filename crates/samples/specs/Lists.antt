@@ -27,10 +27,7 @@ access wait k = 9 ∷ 0 ∷ 87 ∷ 82 ∷ wait % 256 ∷ wait / 256 ∷ (word (l
 abbrev pub rdIwm : ℕ → List ℕ
 rdIwm k = 8 ∷ 0 ∷ 82 ∷ 68 ∷ 0 ∷ 0 ∷ word (location k)
 
--- SN, DI, RS and PW with 0 seconds off, with no wait.
-abbrev pub sn : ℕ → ℕ → ℕ → List ℕ
-sn drive r level = 7 ∷ 0 ∷ 83 ∷ 78 ∷ 0 ∷ 0 ∷ drive ∷ r ∷ level ∷ []
-
+-- DI, RS and PW with 0 seconds off, with no wait.
 abbrev pub di : ℕ → ℕ → ℕ → ℕ → List ℕ
 di drive insert locked sides = 8 ∷ 0 ∷ 68 ∷ 73 ∷ 0 ∷ 0 ∷ drive ∷ insert ∷ locked ∷ sides ∷ []
 

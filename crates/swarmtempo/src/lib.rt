@@ -5,8 +5,13 @@ ghost use mathlib.Core.Bool.{true};
 ghost use Rattle.image_spec.specs.Image.{imageLength, machineOf, validImage};
 ghost use Rattle.demand3.specs.Runs.{Run3};
 ghost use Rattle.units.specs.Units.{ticksOf};
+ghost use Rattle.capture_spec.specs.Convert.{convertedOf, outputOf};
 ghost use Rattle.entry_spec.specs.Call.{callOf, callImage, callAnswers, freshStop, freshImage};
+ghost use Rattle.sheet_spec.specs.Lookup.{sourceOf, placeOf, refusalOf, sheetNumber};
+ghost use Rattle.sheet_spec.specs.Compaction.{compactedOf, memoryOf, stopOf, writtenOf};
 use units::Micros;
+
+pub mod keyboard_calls;
 
 // The length of an image in bytes.
 #[no_mangle]
@@ -30,7 +35,8 @@ pub extern "C" fn swarmtempo_fresh(image: &mut [u8]) -> u8
 }
 
 // Runs the list from the image's state, and leaves the image of the state reached. The stop number: 0, 1 or 6; 7 where no
-// accepted state has this image. The last clause is demand 3, from the image's state.
+// accepted state has this image. The last two clauses: the state of the image left is the state reached, so that call after call is one run; and demand 3,
+// from the image's state.
 #[no_mangle]
 pub extern "C" fn swarmtempo_run(
     image: &mut [u8],
@@ -45,6 +51,7 @@ pub extern "C" fn swarmtempo_run(
     ensures { λ _. ⌜ now (image .exit) ≡ callImage (now (image .entry)) (now (list .entry)) (length (now (answers .entry))) ⌝ }
     ensures { λ _. ⌜ now (answers .exit) ≡ callAnswers (now (image .entry)) (now (list .entry)) (now (answers .entry)) ⌝ }
     ensures { λ _. ⌜ validImage (now (image .exit)) ≡ validImage (now (image .entry)) ⌝ }
+    ensures { λ _. ⌜ machineOf (now (image .exit)) ≡ callOf (now (image .entry)) (now (list .entry)) (length (now (answers .entry))) .machine ⌝ }
     ensures { λ _. ⌜ (validImage (now (image .entry)) ≡ true → Run3 (machineOf (now (image .entry))) (now (list .entry)) (length (now (answers .entry))) (machineOf (now (image .exit)))) ⌝ }
 {
     *consumed = 0;
@@ -52,7 +59,7 @@ pub extern "C" fn swarmtempo_run(
     if !image::valid(image) {
         return 7;
     }
-    let r = run::run(image::load(image), list, answers);
+    let r = run::run_accepted(image::load(image), list, answers);
     *consumed = r.consumed as u64;
     *written = r.written as u64;
     image::save(image, r.machine);
@@ -66,4 +73,54 @@ pub extern "C" fn swarmtempo_ticks_of_micros(micros: u32) -> u32
 {
     let t = units::ticks_of_micros(Micros(micros));
     t.0
+}
+
+// Where a setting's bytes stand: in the bench sheet (1) or the house sheet (2), from `start` on, `size` of them. 0, or 1 where either sheet is
+// broken; `sheet`, `start` and `size` are 0 then, and where the setting is in neither.
+#[no_mangle]
+pub extern "C" fn swarmtempo_sheet_get(
+    bench: &[u8],
+    house: &[u8],
+    setting: u16,
+    sheet: &mut u8,
+    start: &mut u64,
+    size: &mut u64,
+) -> u8
+    ensures { λ r. ⌜ r ≡ refusalOf (sourceOf (now (bench .entry)) (now (house .entry)) setting) ⌝ }
+    ensures { λ _. ⌜ now (sheet .exit) ≡ sheetNumber (sourceOf (now (bench .entry)) (now (house .entry)) setting) ⌝ }
+    ensures { λ _. ⌜ now (start .exit) ≡ placeOf (now (bench .entry)) (now (house .entry)) setting .start ⌝ }
+    ensures { λ _. ⌜ now (size .exit) ≡ placeOf (now (bench .entry)) (now (house .entry)) setting .size ⌝ }
+{
+    sheet_entry::get(bench, house, setting, sheet, start, size)
+}
+
+// Writes a sheet's counting records, one for each setting, in their old order. 0, or 1 where the sheet is broken, then 6 where the room is too
+// short; neither writes anything, and `written` is 0.
+#[no_mangle]
+pub extern "C" fn swarmtempo_sheet_compact(sheet: &[u8], out: &mut [u8], written: &mut u64) -> u8
+    ensures { λ r. ⌜ r ≡ stopOf (compactedOf (now (sheet .entry)) (length (now (out .entry)))) ⌝ }
+    ensures { λ _. ⌜ now (written .exit) ≡ writtenOf (compactedOf (now (sheet .entry)) (length (now (out .entry)))) ⌝ }
+    ensures { λ _. ⌜ now (out .exit) ≡ memoryOf (now (sheet .entry)) (now (out .entry)) ⌝ }
+{
+    sheet_entry::compact(sheet, out, written)
+}
+
+// Turns an old capture over into `out`. 0; 1 where a record refused with 1 ended the work, what comes before it being written; 6 where the room is too
+// small, and then nothing is written and both numbers are 0. `count` is the number of retired SN items replaced with no DI after them.
+#[no_mangle]
+pub extern "C" fn swarmtempo_convert(
+    list: &[u8],
+    out: &mut [u8],
+    written: &mut u64,
+    count: &mut u64,
+) -> u8
+    ensures { λ r. ⌜ r ≡ convertedOf (now (list .entry)) (length (now (out .entry))) .refusal ⌝ }
+    ensures { λ _. ⌜ now (written .exit) ≡ convertedOf (now (list .entry)) (length (now (out .entry))) .written ⌝ }
+    ensures { λ _. ⌜ now (count .exit) ≡ convertedOf (now (list .entry)) (length (now (out .entry))) .count ⌝ }
+    ensures { λ _. ⌜ now (out .exit) ≡ outputOf (now (list .entry)) (now (out .entry)) ⌝ }
+{
+    let r = capture::convert(list, out);
+    *written = r.written as u64;
+    *count = r.count as u64;
+    r.refusal
 }

@@ -1,16 +1,19 @@
 -- n ticks of the VIA are n ticks of each timer, with the flags that they raised.
 use mathlib.Core.Path.{_≡_, refl, sym, ap, ap₂, _∙_}
-use mathlib.Core.Bool.{Bool, true, false, cond, _&&_, _||_, or-false}
-use Prim.Native.Nat.{ℕ, zero, suc, _+_, _-_}
+use mathlib.Core.Bool.{Bool, true, false, cond, not, _&&_, _||_, or-false, false≢true}
+use Prim.Native.Nat.{ℕ, zero, suc, _+_, _-_, _≤_}
 use native.Mathlib.Nat.{add-zero, add-suc}
-use lib.Dec.{eqb}
+use lib.Dec.{eqb, leb}
+use borrow.Author.Tests.{leb-true}
+use Rattle.via_timer.proofs.Closed.{early}
 use lib.Bits.{bitOr, or-zero-r}
 use Rattle.via_bits.proofs.Or.{or-assoc}
 use Rattle.via_timer.specs.Timer.{at, stepBy, step, steps}
 use Rattle.via_timer.specs.declared.Counter.{Counter}
-use Rattle.via.specs.Setters.{withCounter2, withArmed2, withFlags}
+use Rattle.via_timer.proofs.Counts.{unfired}
+use Rattle.via.specs.Setters.{withCounter1, withDue1, withCounter2, withArmed2, withT1, withT2, withFlags}
 use Rattle.via_bits.specs.Bytes.{bit}
-use Rattle.via.specs.Via.{latchOf, counter1, counter2, withCounters, tickOf, ticks, resetOf}
+use Rattle.via.specs.Via.{latchOf, counter1, counter2, withCounters, tickOf, ticks, onlyCounts, resetOf}
 use Rattle.via.specs.declared.Timer2.{Timer2}
 use Rattle.via.specs.declared.Via.{Via}
 
@@ -55,9 +58,6 @@ raised f a b c d =
 -- ---- a count that goes on from another: what has fired stays so
 abbrev joined : Counter → Counter → Counter
 joined a b = at (b .value) (b .armed) (b .due) (a .fired || b .fired)
-
-abbrev unfired : Counter → Counter
-unfired a = at (a .value) (a .armed) (a .due) false
 
 joined-by : (d z free : Bool) (latch : ℕ) (a : Counter) → joined a (stepBy d z free latch (unfired a)) ≡ stepBy d z free latch a
 joined-by true z free latch a = simp or-false
@@ -125,3 +125,37 @@ waits (suc n) v =
 pub reset-twice : (v : Via) → resetOf (resetOf v) ≡ resetOf v
 unfolding resetOf
 reset-twice v = refl
+
+-- ---- ticks that only count
+
+pub record Counting (n : ℕ) (v : Via) : Type 0 where
+  pub undue : v .t1 .due ≡ false
+  pub running : bit 5 (v .acr) ≡ false
+  pub first : n ≤ v .t1 .counter
+  pub second : n ≤ v .t2 .counter
+
+pub counting : (n : ℕ) (v : Via) → onlyCounts n v ≡ true → Counting n v
+unfolding onlyCounts
+counting n v h =
+    let p = halves (not (v .t1 .due)) _ h in
+    let q = halves (not (bit 5 (v .acr))) _ (p .1) in
+    let r = halves (leb n (v .t1 .counter)) _ (q .1) in
+    record { undue = negated (v .t1 .due) (p .0); running = negated (bit 5 (v .acr)) (q .0); first = leb-true _ _ (r .0); second = leb-true _ _ (r .1) }
+  where
+    halves : (a b : Bool) → (a && b) ≡ true → (a ≡ true) × (b ≡ true)
+    halves true b e = (refl, e)
+    halves false b e = (e, absurd (false≢true e))
+
+    negated : (a : Bool) → not a ≡ true → a ≡ false
+    negated true e = sym e
+    negated false e = refl
+
+-- The counters fall by n, and nothing else moves.
+pub counted : (n : ℕ) (v : Via) → Counting n v
+    → withT2 (withT1 v (withCounter1 (v .t1) (v .t1 .counter - n))) (withCounter2 (v .t2) (v .t2 .counter - n)) ≡ ticks n v
+counted n v c =
+    sym (waits n v
+    ∙ ap₂ (withCounters v) (ap (λ (d : Bool). steps n (bit 6 (v .acr)) (latchOf (v .t1)) (at (v .t1 .counter) (v .t1 .armed) d false)) (c .undue) ∙ early (bit 6 (v .acr)) (latchOf (v .t1)) (v .t1 .counter) n (v .t1 .armed) false (c .first))
+    (ap (λ (b : Bool). second b n (v .t2)) (c .running) ∙ early false 0 (v .t2 .counter) n (v .t2 .armed) false (c .second))
+    ∙ ap (λ (d : Bool). withFlags (withT2 (withT1 v (withDue1 (withCounter1 (v .t1) (v .t1 .counter - n)) d)) (withCounter2 (v .t2) (v .t2 .counter - n))) (bitOr (bitOr (v .flags) 0) 0)) (sym (c .undue))
+    ∙ ap (withFlags (withT2 (withT1 v (withCounter1 (v .t1) (v .t1 .counter - n))) (withCounter2 (v .t2) (v .t2 .counter - n)))) (or-zero-r (bitOr (v .flags) 0) ∙ or-zero-r (v .flags)))

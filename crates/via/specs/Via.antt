@@ -1,7 +1,7 @@
 -- The VIA by document 01: fresh, its ports, its timers tick by tick, its flags and its level, reset.
 use Prim.Native.Nat.{ℕ, zero, suc, _+_, _*_}
 use mathlib.Core.Bool.{Bool, true, false, cond, not, _&&_}
-use lib.Dec.{eqb, ltb}
+use lib.Dec.{eqb, leb, ltb}
 use lib.Bits.{bitAnd, bitOr}
 use Rattle.via_bits.specs.Bytes.{bit, clear}
 use Rattle.via_timer.specs.Timer.{at, step}
@@ -62,6 +62,10 @@ tickOf v =
 unfoldable pub ticks : ℕ → Via → Via
 ticks zero v = v
 ticks (suc n) v = tickOf (ticks n v)
+
+-- Whether n ticks do no more than take n from both counters.
+unfoldable pub onlyCounts : ℕ → Via → Bool
+onlyCounts n v = not (v .t1 .due) && (not (bit 5 (v .acr)) && (leb n (v .t1 .counter) && leb n (v .t2 .counter)))
 
 -- ---- flags
 -- "VB sets flag 1, SE flag 0, whatever PCR says": the mask is 2 or 1.

@@ -1,10 +1,10 @@
 // The VIA: ports, two timers, registers written, reset; what is asked of its flags is in via_flags, reading in via_registers. The state goes in by value, and the next one comes out.
 ghost use mathlib.Core.Path.{_≡_};
-ghost use mathlib.Core.Bool.{cond, false};
+ghost use mathlib.Core.Bool.{cond, true, false};
 ghost use Prim.Native.Nat.{_<_};
 ghost use Rattle.via_timer.specs.Timer.{steps};
 ghost use Rattle.via.specs.Writes.{timer1Written, viaWritten};
-ghost use Rattle.via.specs.Via.{freshVia, latchOf, counter1, counter2, ticks, resetOf};
+ghost use Rattle.via.specs.Via.{onlyCounts, freshVia, latchOf, counter1, counter2, ticks, resetOf};
 use via_timer::Counter;
 
 // Output bits and directions of ports B and A; a direction bit of 1 is an output.
@@ -143,6 +143,26 @@ impl Via {
         self.t2.counter = b.value;
         self.t2.armed = b.armed;
         self.flags = self.flags | via_bits::pick(a.fired, 64, 0) | via_bits::pick(b.fired, 32, 0);
+        self
+    }
+
+    // Whether n VIA ticks do no more than take n from both counters: no load is due, T2 counts, and neither passes 0.
+    pub fn only_counts(self, n: u16) -> bool
+        ensures { λ r. ⌜ r ≡ onlyCounts n self ⌝ }
+    {
+        !self.t1.due
+            & ((self.acr / 32 % 2 != 1) & ((n <= self.t1.counter) & (n <= self.t2.counter)))
+    }
+
+    // n VIA ticks that do no more.
+    pub fn count(mut self, n: u16) -> Via
+        requires { ⌜ onlyCounts n self ≡ true ⌝ }
+        ensures { λ r. ⌜ r ≡ ticks n self ⌝ }
+    {
+        let a = self.t1.counter - n;
+        let b = self.t2.counter - n;
+        self.t1.counter = a;
+        self.t2.counter = b;
         self
     }
 

@@ -1,15 +1,7 @@
-// The VIA's flags: set by events, asking for an interrupt, and in their range.
+// The VIA's flags: asking for an interrupt, and in their range.
 ghost use mathlib.Core.Path.{_≡_};
-ghost use Rattle.via.specs.Via.{raisedOf, asking, levelOf, acceptedVia};
+ghost use Rattle.via.specs.Via.{asking, levelOf, acceptedVia};
 use via::Via;
-
-// The flags of the mask are set: 2 for vertical blanking, 1 for a second.
-pub fn raise(mut via: Via, mask: u8) -> Via
-    ensures { λ r. ⌜ r ≡ raisedOf mask via ⌝ }
-{
-    via.flags = via.flags | mask;
-    via
-}
 
 // Whether an enabled flag is set.
 pub fn asks(via: Via) -> bool

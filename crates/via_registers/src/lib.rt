@@ -2,8 +2,7 @@
 ghost use mathlib.Core.Path.{_≡_};
 ghost use Prim.Native.Nat.{_<_, _+_, _/_, _%_};
 ghost use Rattle.via.specs.Via.{portLevel};
-ghost use Rattle.via.specs.Registers.{flagsByte, valueRead, flagsRead, registerRead};
-use via::Access;
+ghost use Rattle.via.specs.Registers.{flagsByte, valueRead, flagsRead};
 use via::Inputs;
 use via::Via;
 
@@ -35,7 +34,7 @@ fn flags_byte(via: Via) -> u8
 }
 
 // The value that reading a register gives.
-fn value_read(via: Via, register: u8, inputs: Inputs) -> u8
+pub fn value_read(via: Via, register: u8, inputs: Inputs) -> u8
     requires { ⌜ register < 16 ⌝ }
     ensures { λ r. ⌜ r ≡ valueRead register inputs via ⌝ }
 {
@@ -60,24 +59,11 @@ fn value_read(via: Via, register: u8, inputs: Inputs) -> u8
 }
 
 // The flags after reading a register.
-fn flags_read(via: Via, register: u8) -> u8
+pub fn flags_read(via: Via, register: u8) -> u8
     ensures { λ r. ⌜ r ≡ flagsRead register via ⌝ }
 {
     let f = via.flags;
     let on8 = via_bits::pick(register == 8, f & !32, f);
     let on4 = via_bits::pick(register == 4, f & !64, on8);
     via_bits::pick(register == 1, f & !via_bits::port_a_flags(via.pcr), on4)
-}
-
-// A register is read, with these levels on the input lines.
-pub fn read(via: Via, register: u8, inputs: Inputs) -> Access
-    requires { ⌜ register < 16 ⌝ }
-    ensures { λ r. ⌜ r ≡ registerRead register inputs via ⌝ }
-{
-    let mut after = via;
-    after.flags = flags_read(via, register);
-    Access {
-        via: after,
-        value: value_read(via, register, inputs),
-    }
 }

@@ -1,2 +1,3 @@
 pub mod Closed
 pub mod Exact
+pub mod Counts

@@ -6,6 +6,7 @@ use Rattle.image.proofs.load.Reads as reads
 use Rattle.image.proofs.load.Lts as lts
 use Rattle.image_clock.proofs.clock.Reads as clock-reads
 use Rattle.image_drives.proofs.drives.Reads as drives-reads
+use Rattle.disk_lines.proofs.lines_of.Reads as lines-of-reads
 use Rattle.image_layout.proofs.inputs.Reads as inputs-reads
 use Rattle.image_layout.proofs.lines.Reads as lines-reads
 use Rattle.image_layout.proofs.sense.Reads as sense-reads
@@ -20,6 +21,9 @@ clock-requires c κs = search needs
 lines-requires : tie.Need-lines-requires
 lines-requires c κs = search needs
 
+lines-of-requires : tie.Need-lines-of-requires
+lines-of-requires c κs = search needs
+
 inputs-requires : tie.Need-inputs-requires
 inputs-requires c κs = search needs
 
@@ -31,7 +35,7 @@ drives-requires c κs = search needs
 
 returns : tie.Need-returns
 unfolding machineOf
-returns c = simp (c .before .before .before .before .before .via .ensures, c .before .before .before .before .clock .ensures, c .before .before .before .lines .ensures, c .before .before .inputs .ensures, c .before .sense .ensures, c .drives .ensures)
+returns c = simp (c .before .before .before .before .before .before .via .ensures, c .before .before .before .before .before .clock .ensures, c .before .before .before .lines-of .ensures, c .before .before .before .before .lines .ensures, c .before .before .inputs .ensures, c .before .sense .ensures, c .drives .ensures)
 
 pub load-spec : {M : Type 1} → statement M
 load-spec =
@@ -40,6 +44,7 @@ load-spec =
     via-requires
     clock-requires
     lines-requires
+    lines-of-requires
     inputs-requires
     sense-requires
     drives-requires

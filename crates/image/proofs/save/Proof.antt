@@ -1,7 +1,10 @@
 use mathlib.Core.Path.{_≡_, ap, _∙_}
 use lib.ListN.{length}
 use denote.Ref.{now}
-use Rattle.image_spec.specs.Layout.{linesLength, inputsLength, senseLength}
+use Prim.Native.Nat.{ℕ, _<_}
+use mathlib.Core.List.{List}
+use Rattle.octets.specs.Octets.{putAt}
+use Rattle.image_spec.specs.Layout.{inputsLength, senseLength, linesAt, inputsAt, senseAt}
 use Rattle.image_spec.specs.Image.{imageOf, machineOf, validImage, Typed}
 use Rattle.image_spec.proofs.Round.{image-saved, restore-saved, saved-valid}
 use borrow.Author.Needs.{needs}
@@ -9,6 +12,7 @@ use Rattle.image.proofs.save.Statement.{statement}
 use Rattle.image.proofs.save.Tie as tie
 use Rattle.image.proofs.save.Reads as reads
 use Rattle.image.proofs.save.Lts as lts
+use Rattle.disk_lines.proofs.levels.Reads as levels-reads
 use Rattle.image_clock.proofs.put_clock.Reads as put-clock-reads
 use Rattle.image_drives.proofs.put_drives.Reads as put-drives-reads
 use Rattle.image_layout.proofs.put_head.Reads as put-head-reads
@@ -16,8 +20,11 @@ use Rattle.image_layout.proofs.put_levels.Reads as put-levels-reads
 use Rattle.image_via.proofs.put_via.Reads as put-via-reads
 
 -- what the type of the machine handed in says of its levels
-levels : (c : tie.Start) → (length (c .args .m .disk .lines) ≡ linesLength) × (length (c .args .m .inputs) ≡ inputsLength) × (length (c .args .m .sense) ≡ senseLength)
+levels : (c : tie.Start) → (c .args .m .disk .lines < 256) × (length (c .args .m .inputs) ≡ inputsLength) × (length (c .args .m .sense) ≡ senseLength)
 levels c = (search needs, search needs, search needs)
+
+levels-requires : tie.Need-levels-requires
+levels-requires c κs = search needs
 
 put-head-requires : tie.Need-put-head-requires
 put-head-requires c κs = search needs
@@ -44,7 +51,8 @@ returns c =
     let k = l .before .before .before .before in
     let v = k .before .before .before .before in
     let h = v .before .before .before .before in
-    let start = h .before .before .before .before .before .before in
+    let lines = h .before .before .before .before in
+    let start = lines .before .before in
     let a = start .args in
     let t : Typed (a .m) =
     record {
@@ -58,13 +66,14 @@ returns c =
     } in
     let e : d .put-drives .last .0 ≡ imageOf (a .m) =
     image-saved (now (a .image)) (h .put-head .last .0) (v .put-via .last .0) (k .put-clock .last .0) (l .put-levels .last .0) (d .put-drives .last .0)
-    (a .m) (start .pre) t (h .put-head .ensures) (v .put-via .ensures .0) (k .put-clock .ensures .0) (l .put-levels .ensures) (d .put-drives .ensures .0) in
+    (a .m) (start .pre) t (h .put-head .ensures) (v .put-via .ensures .0) (k .put-clock .ensures .0) (l .put-levels .ensures ∙ ap (λ (x : List ℕ). putAt (putAt (putAt (k .put-clock .last .0) linesAt x) inputsAt (a .m .inputs)) senseAt (a .m .sense)) (lines .levels .ensures)) (d .put-drives .ensures .0) in
     (e, (ap machineOf e ∙ restore-saved (a .m) t, λ ok. ap validImage e ∙ saved-valid (a .m) t ok))
 
 pub save-spec : {M : Type 1} → statement M
 save-spec =
     tie.close
     (tie.spec
+    levels-requires
     put-head-requires
     put-via-requires
     put-clock-requires

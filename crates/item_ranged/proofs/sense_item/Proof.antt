@@ -7,6 +7,7 @@ use Rattle.item_ranged.proofs.sense_item.Tie as tie
 use Rattle.item_ranged.proofs.sense_item.Reads as reads
 use Rattle.item_ranged.proofs.sense_item.Lts as lts
 use Rattle.octets.proofs.le16.Reads as le16-reads
+use Rattle.item_ranged.proofs.is_retired.Reads as is-retired-reads
 
 returns : tie.Need-returns
 unfolding senseRecord
@@ -25,12 +26,19 @@ returns-2 : tie.Need-returns-2
 unfolding senseRecord
 returns-2 c = simp (eq-eqb _ _ (c .before .before .before .before .if1 .left), any3, c .if2 .taken)
 
-le16-requires : tie.Need-le16-requires
-le16-requires c κs = search needs
+is-retired-requires : tie.Need-is-retired-requires
+is-retired-requires c κs = search needs
 
 returns-3 : tie.Need-returns-3
 unfolding senseRecord
-returns-3 c = simp (eq-eqb _ _ (c .before .before .before .before .before .if1 .left), any3, c .before .if2 .left, ← c .le16 .ensures)
+returns-3 c = simp (eq-eqb _ _ (c .before .before .before .before .before .before .if1 .left), any3, c .before .before .if2 .left, ← c .before .is-retired .ensures, c .if3 .taken)
+
+le16-requires : tie.Need-le16-requires
+le16-requires c κs = search needs
+
+returns-4 : tie.Need-returns-4
+unfolding senseRecord
+returns-4 c = simp (eq-eqb _ _ (c .before .before .before .before .before .before .before .if1 .left), any3, c .before .before .before .if2 .left, ← c .before .before .is-retired .ensures, c .before .if3 .left, ← c .le16 .ensures)
 
 pub sense-item-spec : {M : Type 1} → statement M
 sense-item-spec =
@@ -41,5 +49,7 @@ sense-item-spec =
     shared-slice-read-register
     shared-slice-read-level
     returns-2
+    is-retired-requires
+    returns-3
     le16-requires
-    returns-3)
+    returns-4)

@@ -1,4 +1,4 @@
--- The invariant: the answer is that of the part that is left.
+-- The invariant: the answer is what was seen, and that of the parts that are left.
 use Prim.Native.Nat.{ℕ, _≤_, _<_, _+_, _-_}
 use mathlib.Core.Path.{_≡_, refl, sym, ap, _∙_}
 use mathlib.Core.Bool.{Bool, true, false, _&&_}
@@ -8,7 +8,6 @@ use native.Mathlib.Omega.{arith}
 use lib.ListN.{length, getD, drop, drop-of-length-le}
 use lib.Seq.{drop-cons}
 use lib.Dec.{ltb}
-use borrow.Author.Tests.{lt-ltb, le-ltb}
 use Rattle.levels.specs.Levels.{allLevels}
 use Rattle.levels.proofs.all_levels.Statement.{statement}
 use Rattle.levels.proofs.all_levels.Tie as tie
@@ -18,30 +17,25 @@ from : (s : List ℕ) (i : ℕ) → i < length s → allLevels (drop i s) ≡ (l
 unfolding allLevels
 from s i h = rw (add-one, drop-cons s i 0)
 
--- a number that is no level: the answer is false
-stops : (s : List ℕ) (i : ℕ) → i < length s → 2 ≤ getD s i 0 → allLevels (drop i s) ≡ false
-stops s i h high = from s i h ∙ simp (le-ltb _ _ high)
+assoc : (a b c : Bool) → (a && (b && c)) ≡ ((a && b) && c)
+assoc true b c = refl
+assoc false b c = refl
 
--- a level: the answer is that of the rest
-goes-on : (s : List ℕ) (i : ℕ) → i < length s → getD s i 0 < 2 → allLevels (drop i s) ≡ allLevels (drop (i + 1) s)
-goes-on s i h low = from s i h ∙ simp (lt-ltb _ _ low)
+whole : (a : Bool) → (a && true) ≡ a
+whole true = refl
+whole false = refl
 
 abbrev Inv-loop : tie.InvT-loop
-Inv-loop s i₀ i = (i ≤ length s) × (allLevels s ≡ allLevels (drop i s))
+Inv-loop s all₀ i₀ all i = (i ≤ length s) × (allLevels s ≡ (all && allLevels (drop i s)))
 
 abbrev μ-loop : tie.MeasureT-loop
-μ-loop s i₀ i = length s - i
+μ-loop s all₀ i₀ all i = length s - i
 
 loop-holds : tie.Need-loop-holds Inv-loop μ-loop
 loop-holds c = (omega arith, refl)
 
-shared-slice-read-if1 : tie.Need-shared-slice-read-if1 Inv-loop μ-loop
-shared-slice-read-if1 c = omega arith
-
-returns : tie.Need-returns Inv-loop μ-loop
-returns c =
-    let at-loop = c .before .before .before in
-    sym (at-loop .loop .inv .1 ∙ stops (at-loop .before .args .s .now) (at-loop .loop .i) (c .before .before .loop-test .taken) (c .if1 .taken))
+shared-slice-read-all : tie.Need-shared-slice-read-all Inv-loop μ-loop
+shared-slice-read-all c = omega arith
 
 add-i : tie.Need-add-i Inv-loop μ-loop
 add-i c = omega arith
@@ -51,23 +45,16 @@ loop-less c = omega arith
 
 loop-again : tie.Need-loop-again Inv-loop μ-loop
 loop-again c =
-    let at-loop = c .before .before .before in
-    (omega arith, at-loop .loop .inv .1 ∙ goes-on (at-loop .before .args .s .now) (at-loop .loop .i) (c .before .before .loop-test .taken) (c .if1 .left))
+    let l = c .before .before in
+    let s = l .before .args .s .now in
+    (omega arith, l .loop .inv .1 ∙ ap (λ (b : Bool). l .loop .all && b) (from s (l .loop .i) (c .before .loop-test .taken)) ∙ assoc (l .loop .all) _ _)
 
-returns-2 : tie.Need-returns-2 Inv-loop μ-loop
+returns : tie.Need-returns Inv-loop μ-loop
 unfolding allLevels
-returns-2 c = sym (c .before .loop .inv .1 ∙ ap allLevels (drop-of-length-le (c .before .before .args .s .now) (c .loop-test .left)))
+returns c =
+    let l = c .before in
+    sym (l .loop .inv .1 ∙ ap (λ (x : List ℕ). l .loop .all && allLevels x) (drop-of-length-le (l .before .args .s .now) (c .loop-test .left)) ∙ whole (l .loop .all))
 
 pub all-levels-spec : {M : Type 1} → statement M
 all-levels-spec =
-    tie.close
-    (tie.spec
-    Inv-loop
-    μ-loop
-    loop-holds
-    shared-slice-read-if1
-    returns
-    add-i
-    loop-less
-    loop-again
-    returns-2)
+    tie.close (tie.spec Inv-loop μ-loop loop-holds shared-slice-read-all add-i loop-less loop-again returns)

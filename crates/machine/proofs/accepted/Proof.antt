@@ -26,12 +26,6 @@ slice-aggregate-all-levels-2 c = search needs
 all-levels-requires-2 : tie.Need-all-levels-requires-2
 all-levels-requires-2 c κs = search needs
 
-slice-aggregate-all-levels-3 : tie.Need-slice-aggregate-all-levels-3
-slice-aggregate-all-levels-3 c = search needs
-
-all-levels-requires-3 : tie.Need-all-levels-requires-3
-all-levels-requires-3 c κs = search needs
-
 accepted-requires : tie.Need-accepted-requires
 accepted-requires c κs = search needs
 
@@ -49,7 +43,7 @@ unfolding acceptedOf
 returns c =
     let a = c .before .before in
     let b = a .before .before in
-    simp (c .accepted2 .ensures, c .before .watched .ensures, a .accepted-phase .ensures, a .before .accepted .ensures, b .all-levels3 .ensures, b .before .before .all-levels2 .ensures, b .before .before .before .before .all-levels .ensures, b .before .before .before .before .before .before .wires .ensures)
+    simp (c .accepted2 .ensures, c .before .watched .ensures, a .accepted-phase .ensures, a .before .accepted .ensures, b .all-levels2 .ensures, b .before .before .all-levels .ensures, b .before .before .before .before .wires .ensures)
 
 pub accepted-spec : {M : Type 1} → statement M
 accepted-spec =
@@ -60,8 +54,6 @@ accepted-spec =
     all-levels-requires
     slice-aggregate-all-levels-2
     all-levels-requires-2
-    slice-aggregate-all-levels-3
-    all-levels-requires-3
     accepted-requires
     accepted-phase-requires
     watched-requires

@@ -1,6 +1,7 @@
 use Rattle.image_spec.specs.Image.{imageLength, validImage}
 use lib.ListN.{length}
 use Rattle.image_spec.proofs.Round.{valid-is}
+use Rattle.machine_spec.specs.Machine.{acceptedOf}
 use mathlib.Core.Bool.{true, false}
 use Rattle.entry_spec.proofs.Entry as call
 use borrow.Author.Tests.{not-true, not-false, lt-ltb, le-ltb}
@@ -14,7 +15,7 @@ use Rattle.swarmtempo.proofs.swarmtempo_run.Lts as lts
 use Rattle.image.proofs.load.Reads as load-reads
 use Rattle.image.proofs.save.Reads as save-reads
 use Rattle.image.proofs.valid.Reads as valid-reads
-use Rattle.run.proofs.run.Reads as run-reads
+use Rattle.run.proofs.run_accepted.Reads as run-accepted-reads
 
 -- what the test of the image shows
 good : (c : tie.Else1) → validImage (now (c .before .before .before .before .before .before .args .image)) ≡ true
@@ -37,8 +38,8 @@ returns c =
 load-requires : tie.Need-load-requires
 load-requires c κs = whole (c .before)
 
-run-requires : tie.Need-run-requires
-run-requires c κs = search needs
+run-accepted-requires : tie.Need-run-accepted-requires
+run-accepted-requires c κs = ap acceptedOf (c .before .load .ensures) ∙ valid-is _ (good (c .before .before .before)) .accepted
 
 save-requires : tie.Need-save-requires
 save-requires c κs = whole (c .before .before .before .before .before .before .before)
@@ -53,7 +54,7 @@ returns-2 : tie.Need-returns-2
 returns-2 c =
     let a = c .before .before .before .before .before .before .before .before .before .before .before .before .before .before .before .before .args in
     call.ran (now (a .image)) (now (a .list)) (now (a .answers)) (good (c .before .before .before .before .before .before .before .before .before .before)) (c .before .before .before .before .before .before .before .before .load .result) (c .before .before .before .before .before .before .before .before .load .ensures)
-    (c .before .before .before .before .before .before .run .result) (c .before .before .before .before .before .before .run .ensures .0) (c .before .before .before .before .before .before .run .last .1 .1 .0) (c .before .before .before .before .before .before .run .ensures .1 .0)
+    (c .before .before .before .before .before .before .run-accepted .result) (c .before .before .before .before .before .before .run-accepted .ensures .0) (c .before .before .before .before .before .before .run-accepted .last .1 .1 .0) (c .before .before .before .before .before .before .run-accepted .ensures .1 .0)
     (c .before .before .save .last .0) (c .before .before .save .ensures .0) (c .before .before .save .ensures .1 .0) (c .before .before .save .ensures .1 .1)
 
 pub swarmtempo-run-spec : {M : Type 1} → statement M
@@ -64,7 +65,7 @@ swarmtempo-run-spec =
     same-length
     returns
     load-requires
-    run-requires
+    run-accepted-requires
     save-requires
     same-length-2
     same-length-3

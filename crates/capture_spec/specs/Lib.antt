@@ -1,0 +1,4 @@
+pub mod Capture
+pub mod Levels
+pub mod Convert
+pub mod Ticks

@@ -1,0 +1,79 @@
+-- Records and answers in samples: each kind with bytes that differ, each number of a refusal at the edges of its range. A record's bytes come after its length.
+use Prim.Native.Nat.{ℕ}
+use mathlib.Core.Path.{_≡_}
+use mathlib.Core.Bool.{true}
+use mathlib.Core.List.{List, [], _∷_}
+use Rattle.item_spec.specs.Record.{frameOf, answerBytes, noOf}
+use Rattle.item_spec.specs.Items.{refusalOf}
+use Rattle.item_spec.specs.Kinds.{decodedOf}
+use Rattle.item_spec.specs.declared.Item.{Item}
+use Rattle.item_spec.specs.declared.Item.the-variants.{ReadVia, ReadIwm, WriteVia, WriteIwm, Line, Sense, Power, Disk}
+use Rattle.item_spec.specs.declared.Decoded.the-variants.{Done}
+use Rattle.item_spec.specs.declared.Framed.the-variants.{Whole, Cut}
+
+-- The numbers of the refusals, 0 of an item.
+abbrev pub numbers : List (List ℕ) → List ℕ
+numbers [] = []
+numbers (s ∷ ss) = refusalOf (decodedOf s) ∷ numbers ss
+
+pub record Samples : Type 0 where
+  -- S2 and S4: RD $EFE1FE, WR $81 to $EFFDFE
+  pub s2 : decodedOf (0x52 ∷ 0x44 ∷ 0 ∷ 0 ∷ 0xfe ∷ 0xe1 ∷ 0xef ∷ 0 ∷ []) ≡ Done (ReadVia 0 0)
+  pub s4 : decodedOf (0x57 ∷ 0x52 ∷ 0 ∷ 0 ∷ 0xfe ∷ 0xfd ∷ 0xef ∷ 0 ∷ 0x81 ∷ []) ≡ Done (WriteVia 0 14 0x81)
+  -- ---- each kind, after a wait of 513 VIA ticks
+  -- RD, WR: $EFF3FE is VIA register 9, $DFEDFF IWM location 6
+  pub readVia : decodedOf (0x52 ∷ 0x44 ∷ 1 ∷ 2 ∷ 0xfe ∷ 0xf3 ∷ 0xef ∷ 0 ∷ []) ≡ Done (ReadVia 513 9)
+  pub readIwm : decodedOf (0x52 ∷ 0x44 ∷ 1 ∷ 2 ∷ 0xff ∷ 0xed ∷ 0xdf ∷ 0 ∷ []) ≡ Done (ReadIwm 513 6)
+  pub writeVia : decodedOf (0x57 ∷ 0x52 ∷ 1 ∷ 2 ∷ 0xfe ∷ 0xf3 ∷ 0xef ∷ 0 ∷ 0xa7 ∷ []) ≡ Done (WriteVia 513 9 0xa7)
+  pub writeIwm : decodedOf (0x57 ∷ 0x52 ∷ 1 ∷ 2 ∷ 0xff ∷ 0xed ∷ 0xdf ∷ 0 ∷ 0xa7 ∷ []) ≡ Done (WriteIwm 513 6 0xa7)
+  -- VB, SE, RS
+  pub blank : decodedOf (0x56 ∷ 0x42 ∷ 1 ∷ 2 ∷ []) ≡ Done (Item.Blank 513)
+  pub second : decodedOf (0x53 ∷ 0x45 ∷ 1 ∷ 2 ∷ []) ≡ Done (Item.Second 513)
+  pub reset : decodedOf (0x52 ∷ 0x53 ∷ 1 ∷ 2 ∷ []) ≡ Done (Item.Reset 513)
+  -- IN: line, level
+  pub line : decodedOf (0x49 ∷ 0x4e ∷ 1 ∷ 2 ∷ 6 ∷ 1 ∷ []) ≡ Done (Line 513 6 1)
+  -- SN: drive, register, level
+  pub sense : decodedOf (0x53 ∷ 0x4e ∷ 1 ∷ 2 ∷ 1 ∷ 14 ∷ 0 ∷ []) ≡ Done (Sense 513 1 14 0)
+  -- PW: $07060504 seconds off
+  pub power : decodedOf (0x50 ∷ 0x57 ∷ 1 ∷ 2 ∷ 4 ∷ 5 ∷ 6 ∷ 7 ∷ []) ≡ Done (Power 513 0x07060504)
+  -- DI: drive, insert, locked, double-sided
+  pub insert : decodedOf (0x44 ∷ 0x49 ∷ 1 ∷ 2 ∷ 0 ∷ 1 ∷ 1 ∷ 0 ∷ []) ≡ Done (Disk 513 0 1 1 0)
+  pub remove : decodedOf (0x44 ∷ 0x49 ∷ 1 ∷ 2 ∷ 1 ∷ 0 ∷ 0 ∷ 1 ∷ []) ≡ Done (Disk 513 1 0 0 1)
+  -- ---- refusals
+  -- 2: "ZZ", "rd", "RE", "WD", "BV", "ST", whatever their length
+  pub kinds : numbers ((0x5a ∷ 0x5a ∷ 1 ∷ []) ∷ (0x72 ∷ 0x64 ∷ 0 ∷ 0 ∷ 0xfe ∷ 0xe1 ∷ 0xef ∷ 0 ∷ []) ∷ (0x52 ∷ 0x45 ∷ 0 ∷ 0 ∷ []) ∷ (0x57 ∷ 0x44 ∷ 0 ∷ 0 ∷ []) ∷ (0x42 ∷ 0x56 ∷ 0 ∷ 0 ∷ []) ∷ (0x53 ∷ 0x54 ∷ 0 ∷ 0 ∷ []) ∷ [])
+      ≡ 2 ∷ 2 ∷ 2 ∷ 2 ∷ 2 ∷ 2 ∷ []
+  -- 3: each kind a byte too short and a byte too long, before 4 and 5; a kind alone
+  pub reads : numbers ((0x52 ∷ 0x44 ∷ 0 ∷ 0 ∷ 0xfe ∷ 0xe1 ∷ 0xef ∷ []) ∷ (0x52 ∷ 0x44 ∷ 0 ∷ 0 ∷ 0xff ∷ 0xe1 ∷ 0xef ∷ 0 ∷ 0 ∷ []) ∷ []) ≡ 3 ∷ 3 ∷ []
+  pub writes : numbers ((0x57 ∷ 0x52 ∷ 0 ∷ 0 ∷ 0xfe ∷ 0xe1 ∷ 0xef ∷ 0 ∷ []) ∷ (0x57 ∷ 0x52 ∷ 0 ∷ 0 ∷ 0xff ∷ 0xe1 ∷ 0xef ∷ 0 ∷ 0 ∷ 0 ∷ []) ∷ []) ≡ 3 ∷ 3 ∷ []
+  pub blanks : numbers ((0x56 ∷ 0x42 ∷ 0 ∷ []) ∷ (0x56 ∷ 0x42 ∷ 0 ∷ 0 ∷ 0 ∷ []) ∷ []) ≡ 3 ∷ 3 ∷ []
+  pub seconds : numbers ((0x53 ∷ 0x45 ∷ 0 ∷ []) ∷ (0x53 ∷ 0x45 ∷ 0 ∷ 0 ∷ 0 ∷ []) ∷ (0x53 ∷ 0x45 ∷ []) ∷ []) ≡ 3 ∷ 3 ∷ 3 ∷ []
+  pub resets : numbers ((0x52 ∷ 0x53 ∷ 0 ∷ []) ∷ (0x52 ∷ 0x53 ∷ 0 ∷ 0 ∷ 0 ∷ []) ∷ []) ≡ 3 ∷ 3 ∷ []
+  pub lines : numbers ((0x49 ∷ 0x4e ∷ 0 ∷ 0 ∷ 7 ∷ []) ∷ (0x49 ∷ 0x4e ∷ 0 ∷ 0 ∷ 7 ∷ 0 ∷ 0 ∷ []) ∷ []) ≡ 3 ∷ 3 ∷ []
+  pub senses : numbers ((0x53 ∷ 0x4e ∷ 0 ∷ 0 ∷ 2 ∷ 0 ∷ []) ∷ (0x53 ∷ 0x4e ∷ 0 ∷ 0 ∷ 2 ∷ 0 ∷ 0 ∷ 0 ∷ []) ∷ []) ≡ 3 ∷ 3 ∷ []
+  pub powers : numbers ((0x50 ∷ 0x57 ∷ 0 ∷ 0 ∷ 0 ∷ 0 ∷ 0 ∷ []) ∷ (0x50 ∷ 0x57 ∷ 0 ∷ 0 ∷ 0 ∷ 0 ∷ 0 ∷ 0 ∷ 0 ∷ []) ∷ []) ≡ 3 ∷ 3 ∷ []
+  pub disks : numbers ((0x44 ∷ 0x49 ∷ 0 ∷ 0 ∷ 2 ∷ 0 ∷ 0 ∷ []) ∷ (0x44 ∷ 0x49 ∷ 0 ∷ 0 ∷ 2 ∷ 0 ∷ 0 ∷ 0 ∷ 0 ∷ []) ∷ []) ≡ 3 ∷ 3 ∷ []
+  -- 4: $EFE1FD, $EFE1FF, $EFDFFE, $F001FE, $01EFE1FE, and $DFE1FE, $DFDFFF, $E001FF
+  pub addresses : numbers ((0x52 ∷ 0x44 ∷ 0 ∷ 0 ∷ 0xfd ∷ 0xe1 ∷ 0xef ∷ 0 ∷ []) ∷ (0x52 ∷ 0x44 ∷ 0 ∷ 0 ∷ 0xff ∷ 0xe1 ∷ 0xef ∷ 0 ∷ []) ∷ (0x52 ∷ 0x44 ∷ 0 ∷ 0 ∷ 0xfe ∷ 0xdf ∷ 0xef ∷ 0 ∷ []) ∷ (0x52 ∷ 0x44 ∷ 0 ∷ 0 ∷ 0xfe ∷ 0x01 ∷ 0xf0 ∷ 0 ∷ []) ∷ (0x52 ∷ 0x44 ∷ 0 ∷ 0 ∷ 0xfe ∷ 0xe1 ∷ 0xef ∷ 1 ∷ []) ∷ (0x57 ∷ 0x52 ∷ 0 ∷ 0 ∷ 0xfe ∷ 0xe1 ∷ 0xdf ∷ 0 ∷ 0 ∷ []) ∷ (0x57 ∷ 0x52 ∷ 0 ∷ 0 ∷ 0xff ∷ 0xdf ∷ 0xdf ∷ 0 ∷ 0 ∷ []) ∷ (0x57 ∷ 0x52 ∷ 0 ∷ 0 ∷ 0xff ∷ 0x01 ∷ 0xe0 ∷ 0 ∷ 0 ∷ []) ∷ [])
+      ≡ 4 ∷ 4 ∷ 4 ∷ 4 ∷ 4 ∷ 4 ∷ 4 ∷ 4 ∷ []
+  -- 5: IN lines 6 and 7, level 2
+  pub lineRange : numbers ((0x49 ∷ 0x4e ∷ 0 ∷ 0 ∷ 6 ∷ 0 ∷ []) ∷ (0x49 ∷ 0x4e ∷ 0 ∷ 0 ∷ 7 ∷ 0 ∷ []) ∷ (0x49 ∷ 0x4e ∷ 0 ∷ 0 ∷ 0 ∷ 2 ∷ []) ∷ []) ≡ 0 ∷ 5 ∷ 5 ∷ []
+  -- SN drive 2, register 16, level 2
+  pub senseRange : numbers ((0x53 ∷ 0x4e ∷ 0 ∷ 0 ∷ 1 ∷ 14 ∷ 1 ∷ []) ∷ (0x53 ∷ 0x4e ∷ 0 ∷ 0 ∷ 2 ∷ 0 ∷ 0 ∷ []) ∷ (0x53 ∷ 0x4e ∷ 0 ∷ 0 ∷ 0 ∷ 16 ∷ 0 ∷ []) ∷ (0x53 ∷ 0x4e ∷ 0 ∷ 0 ∷ 0 ∷ 0 ∷ 2 ∷ []) ∷ []) ≡ 0 ∷ 5 ∷ 5 ∷ 5 ∷ []
+  -- W-214: SN on registers 0, 5, 12 and 15 is 9, on 6, 11 and 13 it stays; on 15 with level 2 it is 5, with a byte missing 3
+  pub retired : numbers ((0x53 ∷ 0x4e ∷ 0 ∷ 0 ∷ 0 ∷ 0 ∷ 1 ∷ []) ∷ (0x53 ∷ 0x4e ∷ 0 ∷ 0 ∷ 0 ∷ 5 ∷ 1 ∷ []) ∷ (0x53 ∷ 0x4e ∷ 0 ∷ 0 ∷ 0 ∷ 6 ∷ 1 ∷ []) ∷ (0x53 ∷ 0x4e ∷ 0 ∷ 0 ∷ 0 ∷ 11 ∷ 1 ∷ []) ∷ (0x53 ∷ 0x4e ∷ 0 ∷ 0 ∷ 1 ∷ 12 ∷ 0 ∷ []) ∷ (0x53 ∷ 0x4e ∷ 0 ∷ 0 ∷ 1 ∷ 13 ∷ 0 ∷ []) ∷ (0x53 ∷ 0x4e ∷ 0 ∷ 0 ∷ 1 ∷ 15 ∷ 0 ∷ []) ∷ (0x53 ∷ 0x4e ∷ 0 ∷ 0 ∷ 1 ∷ 15 ∷ 2 ∷ []) ∷ (0x53 ∷ 0x4e ∷ 0 ∷ 0 ∷ 1 ∷ 15 ∷ []) ∷ [])
+      ≡ 9 ∷ 9 ∷ 0 ∷ 0 ∷ 9 ∷ 0 ∷ 9 ∷ 5 ∷ 3 ∷ []
+  -- DI with 2 at each place, in a removal too
+  pub diskRange : numbers ((0x44 ∷ 0x49 ∷ 0 ∷ 0 ∷ 1 ∷ 1 ∷ 1 ∷ 1 ∷ []) ∷ (0x44 ∷ 0x49 ∷ 0 ∷ 0 ∷ 2 ∷ 0 ∷ 0 ∷ 0 ∷ []) ∷ (0x44 ∷ 0x49 ∷ 0 ∷ 0 ∷ 0 ∷ 2 ∷ 0 ∷ 0 ∷ []) ∷ (0x44 ∷ 0x49 ∷ 0 ∷ 0 ∷ 0 ∷ 0 ∷ 2 ∷ 0 ∷ []) ∷ (0x44 ∷ 0x49 ∷ 0 ∷ 0 ∷ 0 ∷ 0 ∷ 0 ∷ 2 ∷ []) ∷ [])
+      ≡ 0 ∷ 5 ∷ 5 ∷ 5 ∷ 5 ∷ []
+  -- ---- framed, and answers
+  -- The length counts what follows it, low byte first, and is 2 or more.
+  pub whole : frameOf (3 ∷ 0 ∷ 1 ∷ 2 ∷ 3 ∷ 4 ∷ []) ≡ Whole 5
+  pub least : frameOf (2 ∷ 0 ∷ 1 ∷ 2 ∷ []) ≡ Whole 4
+  pub low : frameOf (1 ∷ 0 ∷ 1 ∷ 2 ∷ []) ≡ Cut
+  pub short : frameOf (3 ∷ 0 ∷ 1 ∷ 2 ∷ []) ≡ Cut
+  pub high : frameOf (2 ∷ 1 ∷ 1 ∷ 2 ∷ []) ≡ Cut
+  pub stray : frameOf (2 ∷ []) ≡ Cut
+  -- value, level, disk lines, SEL; the refusal's number
+  pub answer : answerBytes (record { ok = true; value = 0xa7; level = 5; lines = 0x93; sel = 1 }) ≡ 6 ∷ 0 ∷ 0x4f ∷ 0x4b ∷ 0xa7 ∷ 5 ∷ 0x93 ∷ 1 ∷ []
+  pub refusal : answerBytes (noOf 8) ≡ 6 ∷ 0 ∷ 0x4e ∷ 0x4f ∷ 8 ∷ 0 ∷ 0 ∷ 0 ∷ []

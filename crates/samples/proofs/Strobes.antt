@@ -1,0 +1,51 @@
+-- Strobes and DI, computed.
+use mathlib.Core.Path.{refl}
+use Rattle.levels.specs.Levels.{allLevels}
+use Rattle.octets.specs.Octets.{le16Of, le32Of, replace}
+use Rattle.via_bits.specs.Bytes.{portAFlags, enabledBy}
+use Rattle.via.specs.Via.{freshVia, portLevel, latchOf, tickOf, ticks, raisedOf, asking, levelOf, resetOf, acceptedVia}
+use Rattle.via.specs.Writes.{portsWritten, timer1Written, timer2Written, flagsWritten, viaWritten}
+use Rattle.via.specs.Registers.{flagsByte, valueRead, flagsRead, registerRead}
+use Rattle.clock_spec.specs.Command.{named, decode}
+use Rattle.clock_spec.specs.Store.{fetch, put, act}
+use Rattle.clock_spec.specs.Phase.{between, shownLevel, acceptedPhase}
+use Rattle.clock.specs.Step.{next, acts, stepWires}
+use Rattle.disk_lines.specs.Lines.{linesOff, afterAccess, withLevel, lineLevels, linesOf, senseAt, readLine}
+use Rattle.disk_spec.specs.Watched.{watchedOf, heldStill, unspoilt, registerOf}
+use Rattle.disk_spec.specs.Drive.{neighbour, tickDrive, driveTicks}
+use Rattle.disk_spec.specs.Control.{registerWritten}
+use Rattle.disk_spec.specs.Sense.{isDriveSense, driveSense, senseShown, acceptedDrive}
+use Rattle.disk_spec.specs.Strobe.{tickStrobe, strobeTicks, strobeAfter, longEnough, strobeWrites, acceptedStrobe}
+use Rattle.disk_spec.specs.Drives.{drivesTicks, drivesDiskMoved, placeRefused, drivesPowered, drivesAfter, drivesShown, acceptedDrives}
+use Rattle.item_spec.specs.Record.{frameOf, answerBytes, noOf}
+use Rattle.machine_spec.specs.Machine.{acceptedOf}
+use Rattle.machine_spec.specs.Accesses.{viaRead, iwmRead}
+use Rattle.machine_spec.specs.Action.{eventOf, actedOf}
+use Rattle.machine_spec.specs.Stages.{refusesOf, itemWait}
+use Rattle.machine_spec.specs.Step.{stepOf, answerOf}
+use Rattle.machine_spec.specs.Pins.{wiresOf, selOf}
+use Rattle.machine_spec.specs.Wiring.{inputsOf, interruptLevel}
+use Rattle.samples.specs.Strobes.{StrobeSamples}
+
+pub strobeSamples : StrobeSamples
+unfolding allLevels le16Of le32Of replace portAFlags enabledBy freshVia portLevel latchOf tickOf ticks raisedOf asking levelOf resetOf acceptedVia
+    portsWritten timer1Written timer2Written flagsWritten viaWritten flagsByte valueRead flagsRead registerRead named decode fetch put act between
+    shownLevel acceptedPhase next acts stepWires linesOff afterAccess withLevel lineLevels linesOf senseAt readLine watchedOf heldStill unspoilt registerOf neighbour
+    tickDrive driveTicks registerWritten isDriveSense driveSense senseShown acceptedDrive tickStrobe strobeTicks strobeAfter longEnough strobeWrites
+    acceptedStrobe drivesTicks drivesDiskMoved placeRefused drivesPowered drivesAfter drivesShown acceptedDrives frameOf answerBytes noOf acceptedOf
+    viaRead iwmRead eventOf actedOf refusesOf itemWait stepOf answerOf wiresOf selOf inputsOf interruptLevel
+strobeSamples =
+    record {
+      internal = refl;
+      external = refl;
+      ejected = refl;
+      unlocked = refl;
+      otherStays = refl;
+      lengths = refl;
+      ejectLengths = refl;
+      heading = refl;
+      spoilt = refl;
+      inserted = refl;
+      insertedToo = refl;
+      removed = refl;
+    }

@@ -1,0 +1,83 @@
+use borrow.Author.Needs.{needs}
+use denote.Ref.{now}
+use lib.ListN.{length}
+use Rattle.sheet_compact.proofs.Leaves.{Counted, counted-first, counted-end, counted-next}
+use Rattle.sheet_compact.proofs.measure.Statement.{statement}
+use Rattle.sheet_compact.proofs.measure.Tie as tie
+use Rattle.sheet_compact.proofs.measure.Reads as reads
+use Rattle.sheet_compact.proofs.measure.Lts as lts
+use Rattle.sheet_compact.proofs.keep.Reads as keep-reads
+use Rattle.sheet_record.proofs.first.Reads as first-reads
+
+abbrev Inv-loop : tie.InvT-loop
+Inv-loop sheet starts rest₀ n₀ rest n = Counted sheet rest n
+
+abbrev μ-loop : tie.MeasureT-loop
+μ-loop sheet starts rest₀ n₀ rest n = length rest
+
+-- src/lib.rt:87:5
+loop-holds : tie.Need-loop-holds Inv-loop μ-loop
+loop-holds c = counted-first (now (c .before .before .args .sheet))
+
+-- src/lib.rt:88:13
+first-requires : tie.Need-first-requires Inv-loop μ-loop
+first-requires c κs = search needs
+
+-- src/lib.rt:90:13
+returns : tie.Need-returns Inv-loop μ-loop
+returns c = counted-end (now (c .before .before .before .before .before .args .sheet)) (now (c .before .before .loop .rest)) (now (c .before .first .result)) (c .before .before .loop .n) (c .before .first .ensures .0) (c .before .before .loop .inv) (c .if1 .taken)
+
+-- src/lib.rt:92:21
+sub-start : tie.Need-sub-start Inv-loop μ-loop
+sub-start c = search needs
+
+-- src/lib.rt:92:21
+add-start : tie.Need-add-start Inv-loop μ-loop
+add-start c = search needs
+
+-- src/lib.rt:93:14
+keep-requires : tie.Need-keep-requires Inv-loop μ-loop
+keep-requires c κs = search needs
+
+-- src/lib.rt:93:9
+add-n : tie.Need-add-n Inv-loop μ-loop
+add-n c = search needs
+
+-- src/lib.rt:94:16
+sub-rest : tie.Need-sub-rest Inv-loop μ-loop
+sub-rest c = search needs
+
+-- src/lib.rt:94:16
+part-rest-start : tie.Need-part-rest-start Inv-loop μ-loop
+part-rest-start c = search needs
+
+-- src/lib.rt:94:16
+part-rest-end : tie.Need-part-rest-end Inv-loop μ-loop
+part-rest-end c = search needs
+
+-- src/lib.rt:87:5
+loop-less : tie.Need-loop-less Inv-loop μ-loop
+loop-less c = search needs
+
+-- src/lib.rt:87:5
+loop-again : tie.Need-loop-again Inv-loop μ-loop
+loop-again c = counted-next (now (c .before .before .before .before .before .before .before .args .sheet)) (now (c .before .before .before .before .loop .rest)) (now (c .before .before .before .first .result)) (c .before .before .before .before .loop .n) (c .before .before .before .first .ensures .0) (c .before .before .before .before .loop .inv) (c .before .before .before .first .ensures .1) (c .before .before .if1 .left) (now (c .before .before .before .before .before .before .before .args .starts)) (now (c .before .keep .result)) (c .before .before .before .before .before .before .before .pre) (c .before .keep .ensures .1 .1) (c .before .keep .ensures .0) (c .before .keep .ensures .1 .0)
+
+pub measure-spec : {M : Type 1} → statement M
+measure-spec =
+    tie.close
+    (tie.spec
+    Inv-loop
+    μ-loop
+    loop-holds
+    first-requires
+    returns
+    sub-start
+    add-start
+    keep-requires
+    add-n
+    sub-rest
+    part-rest-start
+    part-rest-end
+    loop-less
+    loop-again)
