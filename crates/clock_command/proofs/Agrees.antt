@@ -7,7 +7,7 @@ use lib.Dec.{ltb, eqb}
 use borrow.Author.Tests.{ltb-true}
 use Rattle.levels.proofs.Laws.{both}
 use Rattle.clock_spec.specs.Command.{either, Legal}
-use Rattle.clock_spec.specs.Patterns.{secondMarks, bitsOf, fits, digits, meant, secondMeant}
+use Rattle.clock_spec.specs.Patterns.{secondMarks, bitsHighFirst, fits, digits, meant, secondMeant}
 use Rattle.clock_spec.proofs.Commands.{listed, at-each}
 use Rattle.clock_spec.proofs.CommandRange.{meant-legal}
 use Rattle.clock_spec.specs.declared.Chip.{Chip}
@@ -31,22 +31,22 @@ abbrev taken : ℕ → Bool
 taken d = ltb d 128 && eqb (d % 4) 0
 
 abbrev fitting : ℕ → Bool
-fitting d = fits secondMarks (bitsOf 8 d)
+fitting d = fits secondMarks (bitsHighFirst 8 d)
 
 takings : listed taken 256 ≡ listed fitting 256
 takings = refl
 
 -- Their digits, after those of the first byte.
 abbrev own : ℕ → ℕ
-own d = digits 0 secondMarks (bitsOf 8 d)
+own d = digits 0 secondMarks (bitsHighFirst 8 d)
 
 owns : listed own 256 ≡ listed (λ (d : ℕ). d / 4 % 32) 256
 owns = refl
 
-after-first : (a d : ℕ) → digits a secondMarks (bitsOf 8 d) ≡ 32 * a + own d
+after-first : (a d : ℕ) → digits a secondMarks (bitsHighFirst 8 d) ≡ 32 * a + own d
 after-first a d = omega arith
 
-digits-are : (a d : ℕ) → d < 256 → taken d ≡ true → digits a secondMarks (bitsOf 8 d) ≡ 32 * a + d / 4
+digits-are : (a d : ℕ) → d < 256 → taken d ≡ true → digits a secondMarks (bitsHighFirst 8 d) ≡ 32 * a + d / 4
 digits-are a d l e =
     omega (
     arith,
@@ -58,10 +58,10 @@ pub second-agrees : (z : Bool) (a d : ℕ) → d < 256 → secondOf z a d ≡ se
 unfolding secondOf secondMeant
 second-agrees z a d l =
     go (taken d) refl
-    ∙ ap (λ (t : Bool). cond t (either z (Cell (digits a secondMarks (bitsOf 8 d)))) Illegal) (at-each taken fitting 256 takings d l)
+    ∙ ap (λ (t : Bool). cond t (either z (Cell (digits a secondMarks (bitsHighFirst 8 d)))) Illegal) (at-each taken fitting 256 takings d l)
   where
     go : (t : Bool) → taken d ≡ t
-        → cond t (either z (Cell (32 * a + d / 4))) Illegal ≡ cond t (either z (Cell (digits a secondMarks (bitsOf 8 d)))) Illegal
+        → cond t (either z (Cell (32 * a + d / 4))) Illegal ≡ cond t (either z (Cell (digits a secondMarks (bitsHighFirst 8 d)))) Illegal
     go true e = ap (λ (i : ℕ). either z (Cell i)) (sym (digits-are a d l e))
     go false e = refl
 

@@ -7,10 +7,10 @@ use Prim.Native.Nat.{ℕ, _+_, _*_, _/_, _%_, _^_, _≤_, _<_}
 use native.Mathlib.Omega.{arith}
 use lib.Dec.{eqb}
 use mir.Val.{boolByte}
-use Rattle.clock_spec.specs.Command.{cellsOf, either, bit, InRange, Legal}
+use Rattle.clock_spec.specs.Command.{cellsOf, either, bitNumber, TargetInRange, Legal}
 use Rattle.clock_spec.specs.Patterns.{Row, rows, extendedRow, rowsOf, secondMarks, fits, readBit, digits, among, meant, secondMeant, extend}
 use Rattle.clock_spec.specs.Shared.{Written}
-use Rattle.clock_spec.specs.Phase.{byFirst, bySecond, byThird, hear, written}
+use Rattle.clock_spec.specs.Phase.{byFirst, bySecond, byThird, hear, writeOf}
 use Rattle.clock_spec.specs.declared.Chip.{Chip}
 use Rattle.clock_spec.specs.declared.Chip.the-variants.{First, Later}
 use Rattle.clock_spec.specs.declared.Target.{Target}
@@ -22,12 +22,12 @@ use Rattle.clock_spec.specs.declared.Bytes.the-variants.{Nothing, One, T
 use Rattle.clock_spec.specs.declared.Verdict.{Verdict}
 use Rattle.clock_spec.specs.declared.Verdict.the-variants.{More, Reads, Writes, Ignored}
 
-pub bit-le : (b : Bool) → bit b ≤ 1
+pub bit-le : (b : Bool) → bitNumber b ≤ 1
 bit-le true = omega arith
 bit-le false = omega arith
 
 -- A level cast to a byte.
-pub cast : (b : Bool) → boolByte b ≡ bit b
+pub cast : (b : Bool) → boolByte b ≡ bitNumber b
 cast true = refl
 cast false = refl
 
@@ -45,7 +45,7 @@ pub cells-most : (k : Chip) → cellsOf k ≤ 256
 cells-most First = omega arith
 cells-most Later = omega arith
 
-either-legal : (k : Chip) (z : Bool) (t : Target) → InRange k t → Legal k (either z t)
+either-legal : (k : Chip) (z : Bool) (t : Target) → TargetInRange k t → Legal k (either z t)
 either-legal k true t h = h
 either-legal k false t h = h
 
@@ -72,8 +72,8 @@ rows-legal k b7 b6 b5 b4 b3 b2 b1 b0 =
     (either-legal k b7 (Seconds 3) (omega arith),
     (tt,
     (tt,
-    (either-legal k b7 (Cell (16 + (2 * (2 * 0 + bit b3) + bit b2))) (omega (arith, cells-least k, bit-le b3, bit-le b2)),
-    (either-legal k b7 (Cell (2 * (2 * (2 * (2 * 0 + bit b5) + bit b4) + bit b3) + bit b2)) (omega (arith, cells-least k, bit-le b5, bit-le b4, bit-le b3, bit-le b2)),
+    (either-legal k b7 (Cell (16 + (2 * (2 * 0 + bitNumber b3) + bitNumber b2))) (omega (arith, cells-least k, bit-le b3, bit-le b2)),
+    (either-legal k b7 (Cell (2 * (2 * (2 * (2 * 0 + bitNumber b5) + bitNumber b4) + bitNumber b3) + bitNumber b2)) (omega (arith, cells-least k, bit-le b5, bit-le b4, bit-le b3, bit-le b2)),
     tt))))))))
 
 bits-legal : (k : Chip) (b7 b6 b5 b4 b3 b2 b1 b0 : Bool) → Legal k (among (rowsOf k) (b7 ∷ b6 ∷ b5 ∷ b4 ∷ b3 ∷ b2 ∷ b1 ∷ b0 ∷ []))
@@ -112,8 +112,8 @@ extend-legal k Illegal d h = tt
 -- The same of what the bytes of a transaction come to.
 abbrev pub Sound : Chip → Verdict → Type 0
 Sound k More = Unit {0}
-Sound k (Reads t) = InRange k t
-Sound k (Writes t) = InRange k t
+Sound k (Reads t) = TargetInRange k t
+Sound k (Writes t) = TargetInRange k t
 Sound k Ignored = Unit {0}
 
 first-sound : (k : Chip) (c : Command) → Legal k c → Sound k (byFirst c)
@@ -143,9 +143,9 @@ hear-sound k (Two c d) b = third-sound k (extend (meant k c) d) (extend-legal k 
 -- And of a write that is complete.
 abbrev pub Ranged : Chip → Option Written → Type 0
 Ranged k none = Unit {0}
-Ranged k (some w) = InRange k (w .to)
+Ranged k (some w) = TargetInRange k (w .to)
 
-pub written-ranged : (k : Chip) (v : Verdict) (b : ℕ) → Sound k v → Ranged k (written v b)
+pub written-ranged : (k : Chip) (v : Verdict) (b : ℕ) → Sound k v → Ranged k (writeOf v b)
 written-ranged k More b h = tt
 written-ranged k (Reads t) b h = tt
 written-ranged k (Writes t) b h = h

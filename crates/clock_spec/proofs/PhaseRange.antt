@@ -8,7 +8,7 @@ use native.Mathlib.Nat.{div-eq-of-lt, lt-mul-div-succ}
 use lib.Pow.{pow-pos}
 use borrow.Author.Tests.{ltb-true, ltb-false, eq-eqb, ne-eqb}
 use Rattle.levels.proofs.Laws.{both}
-use Rattle.clock_spec.specs.Phase.{fewBits, followed, acceptedPhase, counts}
+use Rattle.clock_spec.specs.Phase.{fewBits, moreFollows, acceptedPhase, counts}
 use Rattle.clock_spec.specs.declared.Chip.{Chip}
 use Rattle.clock_spec.specs.declared.Phase.{Phase}
 use Rattle.clock_spec.specs.declared.Phase.the-variants.{Idle, Listening, Sending, Ignoring}
@@ -47,6 +47,6 @@ pub accepted-counts : (k : Chip) (p : Phase) (e : Bool) → acceptedPhase k p e 
 unfolding acceptedPhase
 accepted-counts k Idle e h = refl
 accepted-counts k (Listening bs n v) e h =
-    both (followed k bs) (fewBits n v) (both (not e) (followed k bs && fewBits n v) h .1) .1
+    both (moreFollows k bs) (fewBits n v) (both (not e) (moreFollows k bs && fewBits n v) h .1) .1
 accepted-counts k (Sending y n) e h = both (not e) (ltb n 9) h .1
 accepted-counts k Ignoring e h = refl

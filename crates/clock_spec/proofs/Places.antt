@@ -9,7 +9,7 @@ use lib.ListN.{length, getD, set}
 use lib.Seq.{getD-set-same, getD-set-other, drop-set-lt}
 use borrow.Author.Tests.{eqb-true, eqb-false}
 use Rattle.levels.specs.Levels.{allBelow}
-use Rattle.clock_spec.specs.Command.{cellsOf, InRange}
+use Rattle.clock_spec.specs.Command.{cellsOf, TargetInRange}
 use Rattle.clock_spec.specs.Shared.{Written}
 use Rattle.clock_spec.specs.Writable.{writable}
 use Rattle.clock_spec.specs.Store.{unusedClear, put, act}
@@ -43,7 +43,7 @@ act-chip none s = refl
 act-chip (some w) s =
     cond-case (λ (r : Store). r .chip ≡ s .chip) (writable (w .to) (s .protect)) (λ e. put-chip (w .to) (w .byte) s) (λ e. refl)
 
-put-unused : (t : Target) (b : ℕ) (s : Store) → InRange (s .chip) t → unusedClear (put t b s) ≡ unusedClear s
+put-unused : (t : Target) (b : ℕ) (s : Store) → TargetInRange (s .chip) t → unusedClear (put t b s) ≡ unusedClear s
 unfolding put unusedClear
 put-unused (Seconds n) b s r = refl
 put-unused Test b s r = refl

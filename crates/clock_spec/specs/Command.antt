@@ -21,24 +21,24 @@ abbrev pub either : Bool → Target → Command
 either z t = cond z (Read t) (Write t)
 
 -- A bit as a number.
-abbrev pub bit : Bool → ℕ
-bit b = cond b 1 0
+abbrev pub bitNumber : Bool → ℕ
+bitNumber b = cond b 1 0
 
 -- Bits, the newest first, as a number: "bits go high-order first".
 abbrev pub num : List Bool → ℕ
 num [] = 0
-num (b ∷ bs) = 2 * num bs + bit b
+num (b ∷ bs) = 2 * num bs + bitNumber b
 
 -- A seconds byte 0 to 3, a cell that the chip has.
-abbrev pub InRange : Chip → Target → Type 0
-InRange k (Seconds n) = n < 4
-InRange k Test = Unit {0}
-InRange k Protect = Unit {0}
-InRange k (Cell i) = i < cellsOf k
+abbrev pub TargetInRange : Chip → Target → Type 0
+TargetInRange k (Seconds n) = n < 4
+TargetInRange k Test = Unit {0}
+TargetInRange k Protect = Unit {0}
+TargetInRange k (Cell i) = i < cellsOf k
 
 -- A command whose target is in range, if it names one.
 abbrev pub Legal : Chip → Command → Type 0
-Legal k (Write t) = InRange k t
-Legal k (Read t) = InRange k t
+Legal k (Write t) = TargetInRange k t
+Legal k (Read t) = TargetInRange k t
 Legal k (Extended z a) = (k ≡ Later) × (a < 8)
 Legal k Illegal = Unit {0}

@@ -3,7 +3,7 @@ use mathlib.Core.Bool.{Bool, true, false, cond, not, _&&_}
 use mathlib.Core.List.{List, [], _∷_, _++_}
 use Prim.Native.Nat.{ℕ, zero, suc, _+_, _*_, _/_, _%_, _^_}
 use lib.Dec.{eqb}
-use Rattle.clock_spec.specs.Command.{either, bit}
+use Rattle.clock_spec.specs.Command.{either, bitNumber}
 use Rattle.clock_spec.specs.declared.Chip.{Chip}
 use Rattle.clock_spec.specs.declared.Chip.the-variants.{First, Later}
 use Rattle.clock_spec.specs.declared.Target.the-variants.{Seconds, Test, Protect, Cell}
@@ -50,9 +50,9 @@ rowsOf First = rows
 rowsOf Later = rows ++ (extendedRow ∷ [])
 
 -- The n low bits of a number, the highest first.
-abbrev pub bitsOf : ℕ → ℕ → List Bool
-bitsOf zero c = []
-bitsOf (suc n) c = eqb (c / 2 ^ n % 2) 1 ∷ bitsOf n c
+abbrev pub bitsHighFirst : ℕ → ℕ → List Bool
+bitsHighFirst zero c = []
+bitsHighFirst (suc n) c = eqb (c / 2 ^ n % 2) 1 ∷ bitsHighFirst n c
 
 -- Whether a bit may stand at a place.
 abbrev pub may : Mark → Bool → Bool
@@ -79,7 +79,7 @@ readBit (A ∷ ms) (b ∷ bs) = readBit ms bs
 abbrev pub digits : ℕ → List Mark → List Bool → ℕ
 digits v [] bs = v
 digits v (m ∷ ms) [] = v
-digits v (A ∷ ms) (b ∷ bs) = digits (2 * v + bit b) ms bs
+digits v (A ∷ ms) (b ∷ bs) = digits (2 * v + bitNumber b) ms bs
 digits v (O ∷ ms) (b ∷ bs) = digits v ms bs
 digits v (I ∷ ms) (b ∷ bs) = digits v ms bs
 digits v (Z ∷ ms) (b ∷ bs) = digits v ms bs
@@ -91,11 +91,11 @@ among (r ∷ rs) bs = cond (fits (r .marks) bs) (r .asks (readBit (r .marks) bs)
 
 -- What a command byte asks of a chip.
 unfoldable pub meant : Chip → ℕ → Command
-meant k c = among (rowsOf k) (bitsOf 8 c)
+meant k c = among (rowsOf k) (bitsHighFirst 8 c)
 
 -- What a second byte makes of the first one's z and abc: its digits go on where abc ends.
 unfoldable pub secondMeant : Bool → ℕ → ℕ → Command
-secondMeant z a d = cond (fits secondMarks (bitsOf 8 d)) (either z (Cell (digits a secondMarks (bitsOf 8 d)))) Illegal
+secondMeant z a d = cond (fits secondMarks (bitsHighFirst 8 d)) (either z (Cell (digits a secondMarks (bitsHighFirst 8 d)))) Illegal
 
 -- The command that a first byte and a second one make: "a second byte of another form is ignored".
 abbrev pub extend : Command → ℕ → Command

@@ -77,35 +77,35 @@ withByte (Two c d) b = Two c d
 -- ---- the phase
 
 -- At the last bit of the byte b: "after that the chip ignores".
-abbrev pub judged : Store → Bytes → ℕ → Verdict → Phase
-judged s bs b More = Listening (withByte bs b) 0 0
-judged s bs b (Reads t) = Sending (fetch t s) 0
-judged s bs b (Writes t) = Ignoring
-judged s bs b Ignored = Ignoring
+abbrev pub bytePhase : Store → Bytes → ℕ → Verdict → Phase
+bytePhase s bs b More = Listening (withByte bs b) 0 0
+bytePhase s bs b (Reads t) = Sending (fetch t s) 0
+bytePhase s bs b (Writes t) = Ignoring
+bytePhase s bs b Ignored = Ignoring
 
 -- The write that is complete there.
-abbrev pub written : Verdict → ℕ → Option Written
-written More b = none
-written (Reads t) b = none
-written (Writes t) b = some (record { to = t; byte = b })
-written Ignored b = none
+abbrev pub writeOf : Verdict → ℕ → Option Written
+writeOf More b = none
+writeOf (Reads t) b = none
+writeOf (Writes t) b = some (record { to = t; byte = b })
+writeOf Ignored b = none
 
 -- A rise while bits are taken; v is their value with the new one.
-abbrev pub listened : Store → Bytes → ℕ → ℕ → Phase
-listened s bs n v = cond (eqb n 7) (judged s bs v (hear (s .chip) bs v)) (Listening bs (n + 1) v)
+abbrev pub bitPhase : Store → Bytes → ℕ → ℕ → Phase
+bitPhase s bs n v = cond (eqb n 7) (bytePhase s bs v (hear (s .chip) bs v)) (Listening bs (n + 1) v)
 
 -- A fall while sending: the next eight show bits 7 to 0; at the ninth "the chip turns to ignoring".
-abbrev pub shifted : ℕ → ℕ → Phase
-shifted y n = cond (eqb n 8) Ignoring (Sending y (n + 1))
+abbrev pub fallPhase : ℕ → ℕ → Phase
+fallPhase y n = cond (eqb n 8) Ignoring (Sending y (n + 1))
 
 -- ---- the data line
 
 -- The level that the chip gives the data line: fall n shows bit 8-n; "the line is undriven before the first and from the ninth", and undriven is 1.
-unfoldable pub shown : Phase → Bool
-shown Idle = true
-shown (Listening bs n v) = true
-shown (Sending y n) = cond (eqb n 0) true (eqb (y / 2 ^ (8 - n) % 2) 1)
-shown Ignoring = true
+unfoldable pub shownLevel : Phase → Bool
+shownLevel Idle = true
+shownLevel (Listening bs n v) = true
+shownLevel (Sending y n) = cond (eqb n 0) true (eqb (y / 2 ^ (8 - n) % 2) 1)
+shownLevel Ignoring = true
 
 -- ---- accepted states
 
@@ -120,16 +120,16 @@ isMore (Writes t) = false
 isMore Ignored = false
 
 -- Whole bytes that another one follows: none, "a legal write command"; W-206: the first byte of an extended command, or an extended write command.
-unfoldable pub followed : Chip → Bytes → Bool
-followed k Nothing = true
-followed k (One c) = ltb c 256 && isMore (hear k Nothing c)
-followed k (Two c d) = (ltb c 256 && ltb d 256) && isMore (hear k (One c) d)
+unfoldable pub moreFollows : Chip → Bytes → Bool
+moreFollows k Nothing = true
+moreFollows k (One c) = ltb c 256 && isMore (hear k Nothing c)
+moreFollows k (Two c d) = (ltb c 256 && ltb d 256) && isMore (hear k (One c) d)
 
 -- "The chip is idle exactly while enable is 1, and otherwise it has taken 0 to 7 command bits, or a legal write command and 0 to 7 data bits,
 -- or has a read byte and 0 to 8 falls, or ignores."
 unfoldable pub acceptedPhase : Chip → Phase → Bool → Bool
 acceptedPhase k Idle e = e
-acceptedPhase k (Listening bs n v) e = not e && (followed k bs && fewBits n v)
+acceptedPhase k (Listening bs n v) e = not e && (moreFollows k bs && fewBits n v)
 acceptedPhase k (Sending y n) e = not e && ltb n 9
 acceptedPhase k Ignoring e = not e
 

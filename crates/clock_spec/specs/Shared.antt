@@ -23,14 +23,14 @@ abbrev pub stops : ℕ → Bool
 stops test = leb 64 test
 
 -- So many seconds more, unless the test byte stops them.
-abbrev pub added : Bool → ℕ → ℕ → ℕ
-added stopped n s = cond stopped s (wrap (s + n))
+abbrev pub advance : Bool → ℕ → ℕ → ℕ
+advance stopped n s = cond stopped s (wrap (s + n))
 
 -- The seconds after an event: "SE adds one to the seconds", "the seconds grow by the time off".
 abbrev pub elapse : Bool → Event → ℕ → ℕ
 elapse stopped quiet s = s
-elapse stopped second s = added stopped 1 s
-elapse stopped (off n) s = added stopped n s
+elapse stopped second s = advance stopped 1 s
+elapse stopped (off n) s = advance stopped n s
 
 -- A write: what it goes to, and its byte.
 pub record Written : Type 0 where

@@ -60,5 +60,5 @@ act none s = s
 act (some w) s = cond (writable (w .to) (s .protect)) (put (w .to) (w .byte) s) s
 
 -- SE and the time off move the seconds, as the test byte lets them, and nothing else of the store.
-abbrev pub counted : Event → Store → Store
-counted e s = withSeconds s (elapse (stops (s .test)) e (s .seconds))
+abbrev pub withEvent : Event → Store → Store
+withEvent e s = withSeconds s (elapse (stops (s .test)) e (s .seconds))

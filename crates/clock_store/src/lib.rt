@@ -4,8 +4,8 @@ ghost use mathlib.Core.Option.{some};
 ghost use Prim.Native.Nat.{_≤_};
 ghost use lib.ListN.{length, drop};
 ghost use Rattle.levels.specs.Levels.{allBelow};
-ghost use Rattle.clock_spec.specs.Command.{InRange};
-ghost use Rattle.clock_spec.specs.Shared.{added, stops};
+ghost use Rattle.clock_spec.specs.Command.{TargetInRange};
+ghost use Rattle.clock_spec.specs.Shared.{advance, stops};
 ghost use Rattle.clock_spec.specs.Writable.{writable};
 ghost use Rattle.clock_spec.specs.Store.{withSeconds, unusedClear, fetch, put, act};
 use clock_spec::Store;
@@ -13,7 +13,7 @@ use clock_spec::Target;
 
 // The seconds grow by so many, modulo 2^32, unless test bit 7 or 6 stops them.
 pub fn add_seconds(store: Store, seconds: u32) -> Store
-    ensures { λ r. ⌜ r ≡ withSeconds store (added (stops (store .test)) seconds (store .seconds)) ⌝ }
+    ensures { λ r. ⌜ r ≡ withSeconds store (advance (stops (store .test)) seconds (store .seconds)) ⌝ }
 {
     if 64 <= store.test {
         return store;
@@ -26,7 +26,7 @@ pub fn add_seconds(store: Store, seconds: u32) -> Store
 
 // The byte that a legal read takes.
 pub fn fetch(store: Store, t: Target) -> u8
-    requires { ⌜ InRange (store .chip) t ⌝ }
+    requires { ⌜ TargetInRange (store .chip) t ⌝ }
     ensures { λ r. ⌜ r ≡ fetch t store ⌝ }
 {
     match t {
@@ -42,7 +42,7 @@ pub fn fetch(store: Store, t: Target) -> u8
 
 // A byte put where it goes, whatever protect is.
 pub fn put(store: Store, t: Target, b: u8) -> Store
-    requires { ⌜ InRange (store .chip) t ⌝ }
+    requires { ⌜ TargetInRange (store .chip) t ⌝ }
     ensures { λ r. ⌜ r ≡ put t b store ⌝ }
 {
     let mut s = store;
@@ -82,7 +82,7 @@ fn may_write(t: Target, protect: bool) -> bool
 
 // A complete write: it acts unless protect forbids it.
 pub fn act(store: Store, t: Target, b: u8) -> Store
-    requires { ⌜ InRange (store .chip) t ⌝ }
+    requires { ⌜ TargetInRange (store .chip) t ⌝ }
     ensures { λ r. ⌜ r ≡ act (some (record { to = t; byte = b })) store ⌝ }
 {
     if may_write(t, store.protect) {

@@ -1,6 +1,6 @@
 use native.Mathlib.Omega.{arith}
 use mathlib.Core.Path.{ap}
-use Rattle.clock_spec.specs.Command.{bit}
+use Rattle.clock_spec.specs.Command.{bitNumber}
 use borrow.Author.Needs.{needs}
 use Rattle.clock_phase.proofs.pushed.Statement.{statement}
 use Rattle.clock_phase.proofs.pushed.Tie as tie
@@ -15,10 +15,10 @@ mul-result-2 : tie.Need-mul-result-2
 mul-result-2 c = search needs
 
 returns : tie.Need-returns
-returns c = omega (arith, ap bit (c .if1 .taken))
+returns c = omega (arith, ap bitNumber (c .if1 .taken))
 
 returns-2 : tie.Need-returns-2
-returns-2 c = omega (arith, ap bit (c .if1 .left))
+returns-2 c = omega (arith, ap bitNumber (c .if1 .left))
 
 pub pushed-spec : {M : Type 1} → statement M
 pushed-spec = tie.close (tie.spec mul-result add-result mul-result-2 returns returns-2)

@@ -1,5 +1,5 @@
 use mathlib.Core.Path.{subst}
-use Rattle.clock_spec.specs.Command.{InRange}
+use Rattle.clock_spec.specs.Command.{TargetInRange}
 use Rattle.clock_spec.specs.Store.{fetch}
 use borrow.Author.Needs.{needs}
 use Rattle.clock_store.proofs.fetch.Statement.{statement}
@@ -9,7 +9,7 @@ enum-known-t : tie.Need-enum-known-t
 enum-known-t c = search needs
 
 byte-at-requires : tie.Need-byte-at-requires
-byte-at-requires c κs = subst (InRange _) (c .before .t .given .1) (c .before .before .before .pre)
+byte-at-requires c κs = subst (TargetInRange _) (c .before .t .given .1) (c .before .before .before .pre)
 
 enum-told : tie.Need-enum-told
 enum-told c = search needs

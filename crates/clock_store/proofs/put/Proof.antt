@@ -1,5 +1,5 @@
 use mathlib.Core.Path.{subst}
-use Rattle.clock_spec.specs.Command.{InRange}
+use Rattle.clock_spec.specs.Command.{TargetInRange}
 use Rattle.clock_spec.specs.Store.{put}
 use borrow.Author.Needs.{needs}
 use Rattle.clock_store.proofs.put.Statement.{statement}
@@ -9,7 +9,7 @@ enum-known-t : tie.Need-enum-known-t
 enum-known-t c = search needs
 
 replaced-requires : tie.Need-replaced-requires
-replaced-requires c κs = subst (InRange _) (c .before .t .given .1) (c .before .before .before .pre)
+replaced-requires c κs = subst (TargetInRange _) (c .before .t .given .1) (c .before .before .before .pre)
 
 enum-told : tie.Need-enum-told
 enum-told c = search needs
