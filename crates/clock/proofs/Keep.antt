@@ -7,10 +7,10 @@ use native.Mathlib.Omega.{arith}
 use native.Mathlib.Numerals.{add-one}
 use lib.Dec.{ltb, eqb}
 use borrow.Author.Tests.{ltb-true, lt-ltb, eqb-false}
-use Rattle.clock_spec.specs.Command.{decode, bit, isWrite}
+use Rattle.clock_spec.specs.Command.{decode, bitNumber, isWrite}
 use Rattle.clock_spec.specs.Shared.{Written}
 use Rattle.clock_spec.specs.Store.{act}
-use Rattle.clock_spec.specs.Phase.{edgeOf, between, judged, fewBits, acceptedPhase}
+use Rattle.clock_spec.specs.Phase.{edgeOf, between, commandPhase, fewBits, acceptedPhase}
 use Rattle.clock.specs.Step.{next, acts, stepWires}
 use Rattle.clock_spec.specs.declared.Command.{Command}
 use Rattle.clock_spec.specs.declared.Command.the-variants.{Write, Read, Illegal}
@@ -23,33 +23,33 @@ use Rattle.clock_spec.proofs.CommandRange.{bit-le}
 use Rattle.clock_spec.proofs.PhaseRange.{few-count, few-value}
 use Rattle.levels.proofs.Laws.{both, joined}
 
-judged-ok : (N : ℕ) (s : Store) (v : ℕ) (c : Command) → decode N v ≡ c → acceptedPhase N (judged s v c) false ≡ true
+judged-ok : (N : ℕ) (s : Store) (v : ℕ) (c : Command) → decode N v ≡ c → acceptedPhase N (commandPhase s v c) false ≡ true
 unfolding acceptedPhase
 judged-ok N s v (Write t) e = joined (isWrite (decode N v)) true (ap isWrite e) refl
 judged-ok N s v (Read t) e = refl
 judged-ok N s v Illegal e = refl
 
 -- One bit more.
-few-more : (n v : ℕ) (b : Bool) → fewBits n v ≡ true → eqb n 7 ≡ false → fewBits (n + 1) (2 * v + bit b) ≡ true
+few-more : (n v : ℕ) (b : Bool) → fewBits n v ≡ true → eqb n 7 ≡ false → fewBits (n + 1) (2 * v + bitNumber b) ≡ true
 few-more n v b h e =
     let l : n < 8 = few-count n v h in
     let u : v < 2 ^ n = few-value n v h in
-    let x : 2 * v + bit b < 2 ^ suc n = omega (arith, bit-le b) in
-    joined (ltb (n + 1) 8) (ltb (2 * v + bit b) (2 ^ (n + 1))) (lt-ltb (n + 1) 8 (omega (arith, eqb-false n 7 e)))
-    (lt-ltb (2 * v + bit b) (2 ^ (n + 1)) (rw add-one x))
+    let x : 2 * v + bitNumber b < 2 ^ suc n = omega (arith, bit-le b) in
+    joined (ltb (n + 1) 8) (ltb (2 * v + bitNumber b) (2 ^ (n + 1))) (lt-ltb (n + 1) 8 (omega (arith, eqb-false n 7 e)))
+    (lt-ltb (2 * v + bitNumber b) (2 ^ (n + 1)) (rw add-one x))
 
 listened-ok : (N : ℕ) (s : Store) (n v : ℕ) (b t : Bool) → eqb n 7 ≡ t → fewBits n v ≡ true
-    → acceptedPhase N (cond t (judged s (2 * v + bit b) (decode N (2 * v + bit b))) (Listening (n + 1) (2 * v + bit b))) false ≡ true
+    → acceptedPhase N (cond t (commandPhase s (2 * v + bitNumber b) (decode N (2 * v + bitNumber b))) (Listening (n + 1) (2 * v + bitNumber b))) false ≡ true
 unfolding acceptedPhase
-listened-ok N s n v b true e h = judged-ok N s (2 * v + bit b) (decode N (2 * v + bit b)) refl
+listened-ok N s n v b true e h = judged-ok N s (2 * v + bitNumber b) (decode N (2 * v + bitNumber b)) refl
 listened-ok N s n v b false e h = few-more n v b h e
 
 taken-ok : (N c n v : ℕ) (b t : Bool) → eqb n 7 ≡ t → (isWrite (decode N c) && fewBits n v) ≡ true
-    → acceptedPhase N (cond t Ignoring (Taking c (n + 1) (2 * v + bit b))) false ≡ true
+    → acceptedPhase N (cond t Ignoring (Taking c (n + 1) (2 * v + bitNumber b))) false ≡ true
 unfolding acceptedPhase
 taken-ok N c n v b true e h = refl
 taken-ok N c n v b false e h =
-    joined (isWrite (decode N c)) (fewBits (n + 1) (2 * v + bit b)) (both (isWrite (decode N c)) (fewBits n v) h .0)
+    joined (isWrite (decode N c)) (fewBits (n + 1) (2 * v + bitNumber b)) (both (isWrite (decode N c)) (fewBits n v) h .0)
     (few-more n v b (both (isWrite (decode N c)) (fewBits n v) h .1) e)
 
 shifted-ok : (N y n : ℕ) (t : Bool) → eqb n 8 ≡ t → ltb n 9 ≡ true → acceptedPhase N (cond t Ignoring (Sending y (n + 1))) false ≡ true

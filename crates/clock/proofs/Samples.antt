@@ -5,7 +5,7 @@ use mathlib.Core.List.{List, [], _∷_, _++_}
 use Prim.Native.Nat.{ℕ, _/_}
 use lib.ListN.{getD}
 use Rattle.clock_spec.specs.Command.{decode, named}
-use Rattle.clock_spec.specs.Patterns.{bitsOf}
+use Rattle.clock_spec.specs.Patterns.{bitsHighFirst}
 use Rattle.octets.specs.Octets.{replace}
 use Rattle.clock_spec.specs.Store.{fetch, put, act}
 use Rattle.clock_spec.specs.Phase.{between}
@@ -38,11 +38,11 @@ end = levels true true true ∷ []
 
 -- A command and a data byte in one enable.
 abbrev write : ℕ → ℕ → List Wires
-write c b = start ++ sent (bitsOf 8 c) ++ sent (bitsOf 8 b) ++ end
+write c b = start ++ sent (bitsHighFirst 8 c) ++ sent (bitsHighFirst 8 b) ++ end
 
 -- A command, and so many falls after it.
 abbrev ask : ℕ → List Wires
-ask c = start ++ sent (bitsOf 8 c)
+ask c = start ++ sent (bitsHighFirst 8 c)
 
 abbrev fall : List Wires
 fall = levels false false true ∷ levels false true true ∷ []
@@ -52,7 +52,7 @@ pub record Samples : Type 0 where
   pub s7-protected : getD (from-fresh (write 0x35 0x80 ++ write 0x41 0xAA) .store .cells) 0 0 ≡ 0
   pub s7-cleared : getD (from-fresh (write 0x35 0x80 ++ write 0x35 0x7F ++ write 0x41 0xAA) .store .cells) 0 0 ≡ 0xAA
   pub test-protected : from-fresh (write 0x35 0x80 ++ write 0x31 0x55) .store .test ≡ 0
-  pub s8 : from-fresh (start ++ sent (bitsOf 8 0x41) ++ sent (bitsOf 7 (0xAA / 2)) ++ end) ≡ freshClock 20
+  pub s8 : from-fresh (start ++ sent (bitsHighFirst 8 0x41) ++ sent (bitsHighFirst 7 (0xAA / 2)) ++ end) ≡ freshClock 20
   pub s9-b5 : from-fresh (ask 0xB5) .phase ≡ Ignoring
   pub s9-b1 : from-fresh (ask 0xB1) .phase ≡ Ignoring
   pub s10 : from-fresh (levels true false true ∷ levels false true true ∷ []) .phase ≡ Listening 0 0

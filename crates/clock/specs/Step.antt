@@ -4,11 +4,11 @@ use mathlib.Core.Option.{Option, none}
 use Prim.Native.Nat.{ℕ, _+_, _*_}
 use lib.Dec.{eqb}
 use lib.ListN.{replicate}
-use Rattle.clock_spec.specs.Command.{decode, bit}
+use Rattle.clock_spec.specs.Command.{decode, bitNumber}
 use Rattle.clock_spec.specs.Shared.{Event, Written, writeBy}
-use Rattle.clock_spec.specs.Store.{act, counted}
+use Rattle.clock_spec.specs.Store.{act, withEvent}
 use Rattle.clock_spec.specs.declared.Store.{Store}
-use Rattle.clock_spec.specs.Phase.{between, shifted, listened, taken}
+use Rattle.clock_spec.specs.Phase.{between, fallPhase, commandBitPhase, dataBitPhase}
 use Rattle.clock_spec.specs.declared.Phase.{Phase}
 use Rattle.clock_spec.specs.declared.Phase.the-variants.{Idle, Listening, Taking, Sending, Ignoring}
 use Rattle.clock_spec.specs.declared.Edge.{Edge}
@@ -38,11 +38,11 @@ next N s p Still = p
 next N s Idle Fall = Idle
 next N s (Listening n v) Fall = Listening n v
 next N s (Taking c n v) Fall = Taking c n v
-next N s (Sending y n) Fall = shifted y n
+next N s (Sending y n) Fall = fallPhase y n
 next N s Ignoring Fall = Ignoring
 next N s Idle (Rise b) = Idle
-next N s (Listening n v) (Rise b) = listened N s n (2 * v + bit b)
-next N s (Taking c n v) (Rise b) = taken c n (2 * v + bit b)
+next N s (Listening n v) (Rise b) = commandBitPhase N s n (2 * v + bitNumber b)
+next N s (Taking c n v) (Rise b) = dataBitPhase c n (2 * v + bitNumber b)
 next N s (Sending y n) (Rise b) = Sending y n
 next N s Ignoring (Rise b) = Ignoring
 
@@ -56,7 +56,7 @@ acts N p Still = none
 acts N p Fall = none
 acts N Idle (Rise b) = none
 acts N (Listening n v) (Rise b) = none
-acts N (Taking c n v) (Rise b) = cond (eqb n 7) (writeBy (decode N c) (2 * v + bit b)) none
+acts N (Taking c n v) (Rise b) = cond (eqb n 7) (writeBy (decode N c) (2 * v + bitNumber b)) none
 acts N (Sending y n) (Rise b) = none
 acts N Ignoring (Rise b) = none
 
@@ -70,8 +70,8 @@ stepWires N c w w′ =
     }
 
 abbrev pub stepClock : ℕ → Event → Clock → Wires → Wires → Clock
-stepClock N e c w w′ = stepWires N (withStore c (counted e (c .store))) w w′
+stepClock N e c w w′ = stepWires N (withStore c (withEvent e (c .store))) w w′
 
 -- The clock after an edge.
-unfoldable pub edged : ℕ → Clock → Edge → Clock
-edged N c e = record { phase = next N (c .store) (c .phase) e; store = act (acts N (c .phase) e) (c .store) }
+unfoldable pub afterEdge : ℕ → Clock → Edge → Clock
+afterEdge N c e = record { phase = next N (c .store) (c .phase) e; store = act (acts N (c .phase) e) (c .store) }

@@ -2,7 +2,7 @@
 ghost use mathlib.Core.Path.{_≡_};
 ghost use mathlib.Core.Bool.{true};
 ghost use Rattle.clock_spec.specs.Phase.{counts, fewBits, acceptedPhase};
-ghost use Rattle.clock.specs.Step.{withPhase, freshClock, edged, stepWires};
+ghost use Rattle.clock.specs.Step.{withPhase, freshClock, afterEdge, stepWires};
 use clock_spec::Edge;
 use clock_spec::Phase;
 use clock_spec::Store;
@@ -32,7 +32,7 @@ impl Clock {
     // A rise while data bits are taken: the last one completes the write.
     fn take(self, command: u8, n: u8, v: u8, b: bool) -> Clock
         requires { ⌜ fewBits n v ≡ true ⌝ }
-        ensures { λ r. ⌜ r ≡ edged 20 (withPhase self (Phase.Taking command n v)) (Edge.Rise b) ⌝ }
+        ensures { λ r. ⌜ r ≡ afterEdge 20 (withPhase self (Phase.Taking command n v)) (Edge.Rise b) ⌝ }
     {
         let w = clock_phase::pushed(v, b);
         let s = self.store;
@@ -55,7 +55,7 @@ impl Clock {
 
     fn rise(self, b: bool) -> Clock
         requires { ⌜ counts (self .phase) ≡ true ⌝ }
-        ensures { λ r. ⌜ r ≡ edged 20 self (Edge.Rise b) ⌝ }
+        ensures { λ r. ⌜ r ≡ afterEdge 20 self (Edge.Rise b) ⌝ }
     {
         let p = self.phase;
         match p {
@@ -75,7 +75,7 @@ impl Clock {
 
     fn fall(self) -> Clock
         requires { ⌜ counts (self .phase) ≡ true ⌝ }
-        ensures { λ r. ⌜ r ≡ edged 20 self Edge.Fall ⌝ }
+        ensures { λ r. ⌜ r ≡ afterEdge 20 self Edge.Fall ⌝ }
     {
         let p = self.phase;
         match p {

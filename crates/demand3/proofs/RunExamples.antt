@@ -7,11 +7,11 @@ use Rattle.levels.specs.Levels.{allLevels}
 use Rattle.octets.specs.Octets.{le16Of, le32Of}
 use Rattle.item_spec.specs.Record.{frameOf}
 use Rattle.via.specs.Via.{freshVia, ticks, acceptedVia}
-use Rattle.via.specs.Writes.{written, portsWritten}
+use Rattle.via.specs.Writes.{viaWritten, portsWritten}
 use Rattle.clock_spec.specs.Command.{named, decode}
 use Rattle.octets.specs.Octets.{replace}
 use Rattle.clock_spec.specs.Store.{fetch, put, act}
-use Rattle.clock_spec.specs.Phase.{between, shown, acceptedPhase}
+use Rattle.clock_spec.specs.Phase.{between, shownLevel, acceptedPhase}
 use Rattle.clock.specs.Step.{next, acts, stepWires}
 use Rattle.clock_spec.specs.declared.Target.the-variants.{Cell}
 use Rattle.disk_lines.specs.Lines.{linesOff}
@@ -19,20 +19,20 @@ use Rattle.disk_spec.specs.Sense.{acceptedDrive}
 use Rattle.disk_spec.specs.Strobe.{acceptedStrobe}
 use Rattle.disk_spec.specs.Drives.{acceptedDrives}
 use Rattle.item_spec.specs.Addresses.{placeFrom, foundOf}
-use Rattle.item_spec.specs.Items.{writeOf, powerOf}
+use Rattle.item_spec.specs.Items.{writeRecord, powerRecord}
 use Rattle.item_spec.specs.Kinds.{isKind, decodedOf}
 use Rattle.machine_spec.specs.declared.Machine.{Machine}
 use Rattle.machine_spec.specs.Pins.{wiresOf}
 use Rattle.machine_spec.specs.Machine.{acceptedOf, freshMachine}
 use Rattle.machine_spec.specs.Action.{eventOf, actedOf}
-use Rattle.machine_spec.specs.Stages.{waitOf, refusesOf}
+use Rattle.machine_spec.specs.Stages.{itemWait, refusesOf}
 use Rattle.machine_spec.specs.Step.{stepOf}
 use Rattle.run_spec.specs.Turn.{turnOf}
 use Rattle.run_spec.specs.Outcome.{cut, piecesFrom, onto, onPiece, runPieces, runOf}
-use Rattle.history.specs.History.{History, wiresAt, rises, ended, protectAt, endedClear, last, secondsAt}
+use Rattle.history.specs.History.{History, wiresAt, rises, endingAt, protectAt, endingClear, last, secondsAt}
 use Rattle.history.specs.Start.{freshStart}
 use Rattle.history.specs.Items.{stateAfter, historyOf}
-use Rattle.demand3.specs.Runs.{answeredAfter, answered, historyMet}
+use Rattle.demand3.specs.Runs.{answeredAfter, answeredPieces, historyOfPieces}
 
 -- WR of v to register 2, direction B, with no wait.
 abbrev direct : ℕ → List ℕ
@@ -80,7 +80,7 @@ abbrev ran : List ℕ → ℕ → Machine
 ran l room = runOf freshMachine l room .machine
 
 abbrev told : List ℕ → ℕ → History
-told l room = historyMet freshMachine (answered l room)
+told l room = historyOfPieces freshMachine (answeredPieces l room)
 
 abbrev Cell-0-is : List ℕ → ℕ → ℕ → Type 0
 Cell-0-is l room b = (getD (ran l room .clock .store .cells) 0 0 ≡ b) × (last 20 (freshStart 20) (Cell 0) 0 (told l room) ≡ b)
@@ -98,10 +98,10 @@ pub record RunExamples : Type 0 where
   pub noRoomForIt : Cell-0-is (send 0x41 0xAA) (8 * 48 - 1) 0
 
 pub runExamples : RunExamples
-unfolding runOf runPieces onPiece onto piecesFrom cut turnOf frameOf le16Of le32Of decodedOf isKind writeOf powerOf foundOf placeFrom
-    stepOf waitOf eventOf actedOf refusesOf acceptedOf acceptedDrives acceptedDrive acceptedStrobe allLevels linesOff acceptedVia freshVia ticks written portsWritten wiresOf
-    acceptedPhase shown stepWires between next acts act put decode named fetch replace
-    answeredAfter stateAfter historyOf wiresAt rises ended protectAt endedClear last secondsAt
+unfolding runOf runPieces onPiece onto piecesFrom cut turnOf frameOf le16Of le32Of decodedOf isKind writeRecord powerRecord foundOf placeFrom
+    stepOf itemWait eventOf actedOf refusesOf acceptedOf acceptedDrives acceptedDrive acceptedStrobe allLevels linesOff acceptedVia freshVia ticks viaWritten portsWritten wiresOf
+    acceptedPhase shownLevel stepWires between next acts act put decode named fetch replace
+    answeredAfter stateAfter historyOf wiresAt rises endingAt protectAt endingClear last secondsAt
 runExamples = record {
   write = (refl, refl);
   fifteenRises = (refl, refl);

@@ -11,8 +11,8 @@ use Rattle.via.specs.declared.Ports.{Ports}
 use Rattle.via.specs.Via.{freshVia, acceptedVia}
 use Rattle.disk_lines.specs.Lines.{linesOff}
 use Rattle.clock_spec.specs.Shared.{quiet}
-use Rattle.clock_spec.specs.Store.{counted}
-use Rattle.clock_spec.specs.Phase.{shown, acceptedPhase}
+use Rattle.clock_spec.specs.Store.{withEvent}
+use Rattle.clock_spec.specs.Phase.{shownLevel, acceptedPhase}
 use Rattle.clock.specs.Step.{withStore, stepWires, stepClock}
 use Rattle.clock.proofs.Line.{settled-step}
 use Rattle.clock_spec.specs.declared.Wires.{Wires}
@@ -30,24 +30,24 @@ use Rattle.machine_spec.specs.Pins.{pin, wiresOf}
 use Rattle.machine_spec.specs.Machine.{cellCount, wires, acceptedOf, freshMachine}
 use Rattle.machine_spec.specs.Accesses.{viaRead, iwmRead}
 use Rattle.machine_spec.specs.Action.{eventOf, actedOf}
-use Rattle.machine_spec.specs.Stages.{waitOf, waited, refusesOf}
+use Rattle.machine_spec.specs.Stages.{itemWait, afterWait, refusesOf}
 use Rattle.machine_spec.specs.Step.{stepOf}
 use Rattle.machine_spec.proofs.MachineLaws.{parts}
 use Rattle.machine_spec.proofs.Drives.{disk-wires}
-use Rattle.run_spec.specs.Turn.{refused, carriedOut, turnBy, turnOf}
+use Rattle.run_spec.specs.Turn.{refusedTurn, doneTurn, turnBy, turnOf}
 use Rattle.run_spec.specs.Outcome.{Piece, whole, broken, pieces, halt, onto, onPiece, runPieces, runOf}
 use Rattle.history.specs.History.{wiresAt}
 use Rattle.history.specs.Start.{Accepted, freshStart}
 use Rattle.history.specs.Demand3.{clockAfter}
-use Rattle.history.specs.Items.{stateAfter, Drives}
-use Rattle.demand3.specs.Runs.{metBy, eventBy, eventAt, traceOf, answeredAfter, answered, startMet, Run3}
+use Rattle.history.specs.Items.{stateAfter, FollowsEntries}
+use Rattle.demand3.specs.Runs.{afterPiece, eventBy, eventAt, traceOf, answeredAfter, answeredPieces, startOfRun, Run3}
 use Rattle.history.proofs.Keeps.{step-still}
 use Rattle.history.proofs.Driven.{machine3}
 
 -- ---- one item
 
 -- Before the wires are compared an item has moved the clock's seconds by its event, and nothing else of the clock.
-acted-clock : (m : Machine) (i : Item) → actedOf m i .machine .clock ≡ withStore (m .clock) (counted (eventOf i) (m .clock .store))
+acted-clock : (m : Machine) (i : Item) → actedOf m i .machine .clock ≡ withStore (m .clock) (withEvent (eventOf i) (m .clock .store))
 unfolding actedOf eventOf viaRead iwmRead
 acted-clock m (ReadVia w r) = refl
 acted-clock m (ReadIwm w k) = refl
@@ -63,7 +63,7 @@ acted-clock m (Disk w d i l b) = refl
 
 -- The step by the wires with the data line as it was shown before is the step by the wires as they are after.
 settled-wires : (p : Ports) (c : Clock) (w : Wires)
-    → stepWires cellCount c w (wiresOf p (shown (c .phase))) ≡ stepWires cellCount c w (wiresOf p (shown (stepWires cellCount c w (wiresOf p (shown (c .phase))) .phase)))
+    → stepWires cellCount c w (wiresOf p (shownLevel (c .phase))) ≡ stepWires cellCount c w (wiresOf p (shownLevel (stepWires cellCount c w (wiresOf p (shownLevel (c .phase))) .phase)))
 unfolding wiresOf
 settled-wires p c w = sym (settled-step cellCount c w (wiresOf p true) (pin (p .outb) (p .dirb) 1))
 
@@ -71,13 +71,13 @@ settled-wires p c w = sym (settled-step cellCount c w (wiresOf p true) (pin (p .
 done-is : (m : Machine) (i : Item) → stepOf m i .machine .clock ≡ stepClock cellCount (eventOf i) (m .clock) (wires m) (wires (stepOf m i .machine))
 unfolding stepOf
 done-is m i =
-    let a : Machine = actedOf (waited (waitOf i) m) i .machine in
+    let a : Machine = actedOf (afterWait (itemWait i) m) i .machine in
     settled-wires (a .via .ports) (a .clock) (wires m)
-    ∙ ap (λ (c : Clock). stepWires cellCount c (wires m) (wires (stepOf m i .machine))) (acted-clock (waited (waitOf i) m) i)
+    ∙ ap (λ (c : Clock). stepWires cellCount c (wires m) (wires (stepOf m i .machine))) (acted-clock (afterWait (itemWait i) m) i)
 
 -- A DI done leaves the whole clock as it is.
 pub disk-still : (m : Machine) (w d i l b : ℕ) → Accepted cellCount (m .clock) (wires m) → stepOf m (Disk w d i l b) .machine .clock ≡ m .clock
-unfolding stepOf waitOf actedOf
+unfolding stepOf itemWait actedOf
 disk-still m w d i l b ok =
     ap (stepWires cellCount (m .clock) (wires m)) (disk-wires m w d i l b) ∙ step-still cellCount (m .clock) (wires m) ok
 
@@ -91,48 +91,48 @@ turn-is m (Refused n) ok = refused-is m ok
 turn-is m (Done x) ok = go (eqb (refusesOf m x) 0)
   where
     turn : Bool → Machine
-    turn t = cond t (carriedOut (stepOf m x)) (refused m (refusesOf m x)) .machine
+    turn t = cond t (doneTurn (stepOf m x)) (refusedTurn m (refusesOf m x)) .machine
 
     go : (t : Bool) → turn t .clock ≡ stepClock cellCount (cond t (eventOf x) quiet) (m .clock) (wires m) (wires (turn t))
     go true = done-is m x
     go false = refused-is m ok
 
 met-is : (p : Piece) (m : Machine) → Accepted cellCount (m .clock) (wires m)
-    → metBy p m .clock ≡ stepClock cellCount (eventAt p m) (m .clock) (wires m) (wires (metBy p m))
+    → afterPiece p m .clock ≡ stepClock cellCount (eventAt p m) (m .clock) (wires m) (wires (afterPiece p m))
 unfolding turnOf
 met-is (whole s) m ok = turn-is m (decodedOf s) ok
 met-is broken m ok = refused-is m ok
 
-pub drives : Drives cellCount (λ (m : Machine). m .clock) wires metBy traceOf
+pub drives : FollowsEntries cellCount (λ (m : Machine). m .clock) wires afterPiece traceOf
 unfolding clockAfter wiresAt
 drives = record { clock-is = met-is; wires-are = λ p m ok. refl }
 
 -- ---- the run
 
 ran-pieces : (m : Machine) (before ps : List Piece) (room : ℕ)
-    → runPieces (stateAfter metBy m before) ps room .machine ≡ stateAfter metBy m (answeredAfter before ps room)
+    → runPieces (stateAfter afterPiece m before) ps room .machine ≡ stateAfter afterPiece m (answeredAfter before ps room)
 unfolding runPieces onPiece onto answeredAfter stateAfter
 ran-pieces m before [] room = refl
 ran-pieces m before (broken ∷ ps) room = go (ltb room 8)
   where
     M : Machine
-    M = stateAfter metBy m before
+    M = stateAfter afterPiece m before
 
-    go : (t : Bool) → cond t (halt M 6) (onPiece M broken (λ m₁. runPieces m₁ ps (room - 8))) .machine ≡ stateAfter metBy m (cond t before (broken ∷ before))
+    go : (t : Bool) → cond t (halt M 6) (onPiece M broken (λ m₁. runPieces m₁ ps (room - 8))) .machine ≡ stateAfter afterPiece m (cond t before (broken ∷ before))
     go true = refl
     go false = refl
 ran-pieces m before (whole s ∷ ps) room = go (ran-pieces m (whole s ∷ before) ps (room - 8)) (ltb room 8)
   where
     M : Machine
-    M = stateAfter metBy m before
+    M = stateAfter afterPiece m before
 
-    go : runPieces (turnOf M s .machine) ps (room - 8) .machine ≡ stateAfter metBy m (answeredAfter (whole s ∷ before) ps (room - 8)) → (t : Bool)
-        → cond t (halt M 6) (onPiece M (whole s) (λ m₁. runPieces m₁ ps (room - 8))) .machine ≡ stateAfter metBy m (cond t before (answeredAfter (whole s ∷ before) ps (room - 8)))
+    go : runPieces (turnOf M s .machine) ps (room - 8) .machine ≡ stateAfter afterPiece m (answeredAfter (whole s ∷ before) ps (room - 8)) → (t : Bool)
+        → cond t (halt M 6) (onPiece M (whole s) (λ m₁. runPieces m₁ ps (room - 8))) .machine ≡ stateAfter afterPiece m (cond t before (answeredAfter (whole s ∷ before) ps (room - 8)))
     go q true = refl
     go q false = q
 
 -- What a run hands back is the state after the pieces answered.
-pub ran-is : (m : Machine) → acceptedOf m ≡ true → (list : List ℕ) (room : ℕ) → runOf m list room .machine ≡ stateAfter metBy m (answered list room)
+pub ran-is : (m : Machine) → acceptedOf m ≡ true → (list : List ℕ) (room : ℕ) → runOf m list room .machine ≡ stateAfter afterPiece m (answeredPieces list room)
 unfolding runOf stateAfter
 ran-is m a list room = ap (λ (t : Bool). cond t (runPieces m (pieces list) room) (halt m 7) .machine) a ∙ ran-pieces m [] (pieces list) room
 
@@ -144,9 +144,9 @@ accepted-clock m a l u = record { phase = parts m a .phase; cells = l; seconds =
 
 pub run3 : (m : Machine) → acceptedOf m ≡ true → Accepted cellCount (m .clock) (wires m) → (list : List ℕ) (room : ℕ) → Run3 m list room (runOf m list room .machine)
 run3 m a ok list room =
-    let is : List Piece = answered list room in
+    let is : List Piece = answeredPieces list room in
     let r = ran-is m a list room in
-    let d = machine3 cellCount (λ (m : Machine). m .clock) wires metBy traceOf drives m ok in
+    let d = machine3 cellCount (λ (m : Machine). m .clock) wires afterPiece traceOf drives m ok in
     record {
       cells = λ i l. ap (λ (x : Machine). getD (x .clock .store .cells) i 0) r ∙ d is .cells i l;
       seconds = ap (λ (x : Machine). x .clock .store .seconds) r ∙ d is .seconds;
@@ -156,12 +156,12 @@ run3 m a ok list room =
     }
 
 -- The fresh machine, and what its history starts from: cells, seconds, protect and test 0, wires 1, no stretch open.
-pub start-fresh : startMet freshMachine ≡ freshStart cellCount
-unfolding freshVia wiresOf shown
+pub start-fresh : startOfRun freshMachine ≡ freshStart cellCount
+unfolding freshVia wiresOf shownLevel
 start-fresh = refl
 
 pub fresh-ok : acceptedOf freshMachine ≡ true
-unfolding acceptedOf freshVia linesOff acceptedVia allLevels acceptedPhase wiresOf shown acceptedDrive acceptedStrobe acceptedDrives
+unfolding acceptedOf freshVia linesOff acceptedVia allLevels acceptedPhase wiresOf shownLevel acceptedDrive acceptedStrobe acceptedDrives
 fresh-ok = refl
 
 pub run3-fresh : (list : List ℕ) (room : ℕ) → Run3 freshMachine list room (runOf freshMachine list room .machine)

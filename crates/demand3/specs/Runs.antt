@@ -16,14 +16,14 @@ use Rattle.machine_spec.specs.Action.{eventOf}
 use Rattle.machine_spec.specs.Stages.{refusesOf}
 use Rattle.run_spec.specs.Turn.{turnOf}
 use Rattle.run_spec.specs.Outcome.{Piece, whole, broken, pieces}
-use Rattle.history.specs.History.{Start, Entry, History, cellAt, testAt, protectAt, secondsAt, gained, Kept}
+use Rattle.history.specs.History.{Start, Entry, History, cellAt, testAt, protectAt, secondsAt, gainSince, Kept}
 use Rattle.history.specs.Start.{startOf}
 use Rattle.history.specs.Items.{stateAfter, historyOf, entriesSince}
 
 -- The state after one piece of the list: a record, done or refused; bytes that are no record, refused with 1, which leave it as it is.
-abbrev pub metBy : Piece → Machine → Machine
-metBy (whole s) m = turnOf m s .machine
-metBy broken m = m
+abbrev pub afterPiece : Piece → Machine → Machine
+afterPiece (whole s) m = turnOf m s .machine
+afterPiece broken m = m
 
 -- "An SE done adds 1 and a PW done its seconds off": a refused record has no event.
 abbrev pub eventBy : Machine → Decoded → Event
@@ -36,7 +36,7 @@ eventAt broken m = quiet
 
 -- "An entry .. for each item answered: enable, data-clock and data after it."
 abbrev pub traceOf : Piece → Machine → List Entry
-traceOf p m = record { wires = wires (metBy p m); event = eventAt p m } ∷ []
+traceOf p m = record { wires = wires (afterPiece p m); event = eventAt p m } ∷ []
 
 -- The pieces answered, the newest first, after those before, as far as the run goes. Bytes refused with 1 are answered: they have an entry, which
 -- changes nothing, and are the last. The item at which the run stops with 6 is not answered and has none.
@@ -45,30 +45,30 @@ answeredAfter before [] room = before
 answeredAfter before (broken ∷ ps) room = cond (ltb room 8) before (broken ∷ before)
 answeredAfter before (whole s ∷ ps) room = cond (ltb room 8) before (answeredAfter (whole s ∷ before) ps (room - 8))
 
-abbrev pub answered : List ℕ → ℕ → List Piece
-answered list room = answeredAfter [] (pieces list) room
+abbrev pub answeredPieces : List ℕ → ℕ → List Piece
+answeredPieces list room = answeredAfter [] (pieces list) room
 
 -- The clock after some pieces, from the machine m; their history; the entries of later ones.
-abbrev pub clockMet : Machine → List Piece → Clock
-clockMet m is = stateAfter metBy m is .clock
+abbrev pub clockAfterPieces : Machine → List Piece → Clock
+clockAfterPieces m is = stateAfter afterPiece m is .clock
 
-abbrev pub historyMet : Machine → List Piece → History
-historyMet m is = historyOf metBy traceOf m is
+abbrev pub historyOfPieces : Machine → List Piece → History
+historyOfPieces m is = historyOf afterPiece traceOf m is
 
-abbrev pub entriesMet : Machine → List Piece → List Piece → List Entry
-entriesMet m is js = entriesSince metBy traceOf m is js
+abbrev pub entriesOfPieces : Machine → List Piece → List Piece → List Entry
+entriesOfPieces m is js = entriesSince afterPiece traceOf m is js
 
-abbrev pub startMet : Machine → Start
-startMet m = startOf (m .clock) (wires m)
+abbrev pub startOfRun : Machine → Start
+startOfRun m = startOf (m .clock) (wires m)
 
 -- Demand 3 of a run of the list from the machine m, with so much room, that hands back the machine r.
 pub record Run3 (m : Machine) (list : List ℕ) (room : ℕ) (r : Machine) : Type 0 where
-  pub cells : (i : ℕ) → i < cellCount → getD (r .clock .store .cells) i 0 ≡ cellAt cellCount (startMet m) i (historyMet m (answered list room))
-  pub seconds : r .clock .store .seconds ≡ secondsAt cellCount (startMet m) (historyMet m (answered list room))
-  pub protect : r .clock .store .protect ≡ protectAt cellCount (startMet m) (historyMet m (answered list room))
-  pub test : r .clock .store .test ≡ testAt cellCount (startMet m) (historyMet m (answered list room))
+  pub cells : (i : ℕ) → i < cellCount → getD (r .clock .store .cells) i 0 ≡ cellAt cellCount (startOfRun m) i (historyOfPieces m (answeredPieces list room))
+  pub seconds : r .clock .store .seconds ≡ secondsAt cellCount (startOfRun m) (historyOfPieces m (answeredPieces list room))
+  pub protect : r .clock .store .protect ≡ protectAt cellCount (startOfRun m) (historyOfPieces m (answeredPieces list room))
+  pub test : r .clock .store .test ≡ testAt cellCount (startOfRun m) (historyOfPieces m (answeredPieces list room))
   -- "From the start or an item", after the items is, "up to any later item", after js too; ls are those after it.
-  pub underProtect : (is js ls : List Piece) → ls ++ (js ++ is) ≡ answered list room → clockMet m is .store .protect ≡ true
-      → Kept cellCount (startMet m) (historyMet m is) (entriesMet m is js)
-      → (clockMet m (js ++ is) .store .cells ≡ clockMet m is .store .cells)
-      × (clockMet m (js ++ is) .store .seconds ≡ wrap (clockMet m is .store .seconds + gained cellCount (startMet m) (historyMet m is) (entriesMet m is js)))
+  pub underProtect : (is js ls : List Piece) → ls ++ (js ++ is) ≡ answeredPieces list room → clockAfterPieces m is .store .protect ≡ true
+      → Kept cellCount (startOfRun m) (historyOfPieces m is) (entriesOfPieces m is js)
+      → (clockAfterPieces m (js ++ is) .store .cells ≡ clockAfterPieces m is .store .cells)
+      × (clockAfterPieces m (js ++ is) .store .seconds ≡ wrap (clockAfterPieces m is .store .seconds + gainSince cellCount (startOfRun m) (historyOfPieces m is) (entriesOfPieces m is js)))

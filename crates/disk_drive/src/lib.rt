@@ -2,7 +2,7 @@
 ghost use mathlib.Core.Path.{_≡_};
 ghost use mathlib.Core.Bool.{true, false};
 ghost use Prim.Native.Nat.{_<_};
-ghost use Rattle.disk_spec.specs.Drive.{freshDrive, inserted, removed, neighbour, driveTicks, powered};
+ghost use Rattle.disk_spec.specs.Drive.{freshDrive, withDiskIn, withDiskOut, neighbour, driveTicks, afterPowerCut};
 ghost use Rattle.disk_spec.specs.Control.{diskMoved, registerWritten};
 use disk_spec::Drive;
 
@@ -39,7 +39,7 @@ pub fn fresh() -> Drive
 
 // A disk comes: DI with insert 1.
 pub fn insert(drive: Drive, locked: bool, sides: bool) -> Drive
-    ensures { λ r. ⌜ r ≡ inserted locked sides drive ⌝ }
+    ensures { λ r. ⌜ r ≡ withDiskIn locked sides drive ⌝ }
 {
     Drive {
         disk: true,
@@ -51,7 +51,7 @@ pub fn insert(drive: Drive, locked: bool, sides: bool) -> Drive
 
 // The disk leaves: DI with insert 0, and an eject.
 pub fn remove(drive: Drive) -> Drive
-    ensures { λ r. ⌜ r ≡ removed drive ⌝ }
+    ensures { λ r. ⌜ r ≡ withDiskOut drive ⌝ }
 {
     Drive {
         disk: false,
@@ -87,7 +87,7 @@ pub fn wait(drive: Drive, ticks: u16) -> Drive
 
 // PW: the motor stops and a pending step is dropped.
 pub fn power_cut(drive: Drive) -> Drive
-    ensures { λ r. ⌜ r ≡ powered drive ⌝ }
+    ensures { λ r. ⌜ r ≡ afterPowerCut drive ⌝ }
 {
     Drive {
         motor: false, // stopped
@@ -98,10 +98,10 @@ pub fn power_cut(drive: Drive) -> Drive
 }
 
 // DI: a disk comes or leaves.
-pub fn move_disk(d: Drive, insert: bool, locked: bool, sides: bool) -> Drive
-    ensures { λ r. ⌜ r ≡ diskMoved insert locked sides d ⌝ }
+pub fn move_disk(d: Drive, comes: bool, locked: bool, sides: bool) -> Drive
+    ensures { λ r. ⌜ r ≡ diskMoved comes locked sides d ⌝ }
 {
-    if insert {
+    if comes {
         return insert(d, locked, sides);
     }
     remove(d)

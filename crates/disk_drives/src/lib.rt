@@ -1,9 +1,9 @@
 // The two drives and their strobe: time, disks and power; what the disk lines write to them and show of them.
 ghost use mathlib.Core.Path.{_≡_};
-ghost use Rattle.disk_spec.specs.Drives.{freshDrives, drivesTicks, placed, placeRefused, drivesPowered, drivesAfter, drivesShown, acceptedDrives};
+ghost use Rattle.disk_spec.specs.Drives.{freshDrives, drivesTicks, drivesDiskMoved, placeRefused, drivesPowered, drivesAfter, drivesShown, acceptedDrives};
 use disk_drive::move_disk;
-use disk_spec::Drives;
 use disk_drive::write_register;
+use disk_spec::Drives;
 use disk_spec::Watched;
 
 pub fn fresh() -> Drives
@@ -29,7 +29,7 @@ pub fn wait(drives: Drives, ticks: u16) -> Drives
 
 // DI: a disk comes or leaves.
 pub fn place(drives: Drives, external: bool, insert: bool, locked: bool, sides: bool) -> Drives
-    ensures { λ r. ⌜ r ≡ placed external insert locked sides drives ⌝ }
+    ensures { λ r. ⌜ r ≡ drivesDiskMoved external insert locked sides drives ⌝ }
 {
     let mut next = drives;
     if external {
@@ -97,5 +97,6 @@ pub fn shown(d: Drives, place: u8, stored: u8) -> u8
 pub fn accepted(d: Drives, levels: Watched) -> bool
     ensures { λ r. ⌜ r ≡ acceptedDrives levels d ⌝ }
 {
-    disk_sense::accepted(d.internal) & (disk_sense::accepted(d.external) & disk_strobe::accepted(d.strobe, levels))
+    disk_sense::accepted(d.internal)
+        & (disk_sense::accepted(d.external) & disk_strobe::accepted(d.strobe, levels))
 }

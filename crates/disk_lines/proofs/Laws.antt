@@ -6,19 +6,19 @@ use native.Mathlib.Omega.{arith}
 use lib.ListN.{length, length-set}
 use Rattle.levels.specs.Levels.{allLevels}
 use Rattle.levels.proofs.Laws.{set-levels, level-at}
-use Rattle.disk_lines.specs.Lines.{linesOff, accessed, senseAt}
+use Rattle.disk_lines.specs.Lines.{linesOff, afterAccess, senseAt}
 use Rattle.disk_lines.specs.declared.DiskLines.{DiskLines}
 
 pub off-levels : allLevels (linesOff .lines) ≡ true
 unfolding linesOff allLevels
 off-levels = refl
 
-pub access-levels : (k : ℕ) (d : DiskLines) → allLevels (d .lines) ≡ true → allLevels (accessed k d .lines) ≡ true
-unfolding accessed
+pub access-levels : (k : ℕ) (d : DiskLines) → allLevels (d .lines) ≡ true → allLevels (afterAccess k d .lines) ≡ true
+unfolding afterAccess
 access-levels k d h = set-levels (d .lines) (k / 2) (k % 2) h (omega arith)
 
-pub access-length : (k : ℕ) (d : DiskLines) → length (accessed k d .lines) ≡ length (d .lines)
-unfolding accessed
+pub access-length : (k : ℕ) (d : DiskLines) → length (afterAccess k d .lines) ≡ length (d .lines)
+unfolding afterAccess
 access-length k d = simp length-set
 
 pub sense-below : (d : DiskLines) (sel : ℕ) → allLevels (d .lines) ≡ true → sel < 2 → senseAt d sel < 32

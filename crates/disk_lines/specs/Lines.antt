@@ -1,5 +1,4 @@
 -- The disk lines: document 01, "Disk lines". A line is 0 (off) or 1 (on).
--- The code of `lineByteOf` and `senseAt` is in linebytes.
 use Prim.Native.Nat.{ℕ, _+_, _*_, _/_, _%_}
 use mathlib.Core.Bool.{Bool, cond, _&&_}
 use mathlib.Core.List.{List}
@@ -40,8 +39,8 @@ unfoldable pub linesOff : DiskLines
 linesOff = record { lines = replicate 8 0 }
 
 -- "Any access, read or write, first sets line k/2 to off for even k, on for odd."
-unfoldable pub accessed : ℕ → DiskLines → DiskLines
-accessed k d = withLines d (set (d .lines) (k / 2) (k % 2))
+unfoldable pub afterAccess : ℕ → DiskLines → DiskLines
+afterAccess k d = withLines d (set (d .lines) (k / 2) (k % 2))
 
 -- "The disk-line byte has CA0, CA1, CA2, LSTRB, ENABLE, SELECT, Q6, Q7 in bits 0 to 7."
 unfoldable pub lineByteOf : DiskLines → ℕ
@@ -53,9 +52,9 @@ unfoldable pub senseAt : DiskLines → ℕ → ℕ
 senseAt d sel = 16 * select d + (8 * ca2 d + 4 * ca1 d + 2 * ca0 d + sel)
 
 -- "Or 1 while ENABLE is off."
-abbrev pub senseOf : ℕ → DiskLines → ℕ
-senseOf sense d = cond (eqb (enable d) 0) 1 sense
+abbrev pub senseLine : ℕ → DiskLines → ℕ
+senseLine sense d = cond (eqb (enable d) 0) 1 sense
 
 -- "A read of k=14 with Q6 on gives the sense in bit 7 and zeros; every other IWM read gives $FF." The lines are those after the access.
 unfoldable pub readLine : ℕ → ℕ → DiskLines → ℕ
-readLine k sense d = cond (eqb k 14 && eqb (q6 d) 1) (128 * senseOf sense d) 255
+readLine k sense d = cond (eqb k 14 && eqb (q6 d) 1) (128 * senseLine sense d) 255

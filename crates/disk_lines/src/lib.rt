@@ -1,7 +1,7 @@
 // The IWM as eight lines and a sense bit; the lines as numbers: the byte of an answer, the sense register that they address.
 ghost use mathlib.Core.Path.{_≡_};
 ghost use Prim.Native.Nat.{_<_, _+_, _*_};
-ghost use Rattle.disk_lines.specs.Lines.{linesOff, accessed, readLine, lineByteOf, senseAt};
+ghost use Rattle.disk_lines.specs.Lines.{linesOff, afterAccess, readLine, lineByteOf, senseAt};
 ghost use mathlib.Core.Bool.{true};
 ghost use Rattle.levels.specs.Levels.{allLevels};
 
@@ -20,7 +20,7 @@ impl DiskLines {
     // An access of location 0 to 15, read or write.
     pub fn access(self, location: u8) -> DiskLines
         requires { ⌜ location < 16 ⌝ }
-        ensures { λ r. ⌜ r ≡ accessed location self ⌝ }
+        ensures { λ r. ⌜ r ≡ afterAccess location self ⌝ }
     {
         let mut d = self;
         let i = (location / 2) as usize;

@@ -1,19 +1,19 @@
 // What a drive's sense registers show, and whether a drive is in its ranges.
 ghost use mathlib.Core.Path.{_≡_};
 ghost use mathlib.Core.Bool.{false};
-ghost use Rattle.disk_spec.specs.Sense.{level, drivesSense, senseOf, shownOf, acceptedDrive};
+ghost use Rattle.disk_spec.specs.Sense.{level, isDriveSense, driveSense, senseShown, acceptedDrive};
 use disk_spec::Drive;
 
 // Whether a sense register comes from the drive, and not from SN.
 pub fn drives_sense(register: u8) -> bool
-    ensures { λ r. ⌜ r ≡ drivesSense register ⌝ }
+    ensures { λ r. ⌜ r ≡ isDriveSense register ⌝ }
 {
     (register < 6) | ((register == 12) | (register == 15))
 }
 
 // Whether one of the drive's sense registers is at level 1.
 fn senses(d: Drive, register: u8) -> bool
-    ensures { λ r. ⌜ level r ≡ senseOf register d ⌝ }
+    ensures { λ r. ⌜ level r ≡ driveSense register d ⌝ }
 {
     match register {
         0 => d.direction,
@@ -29,14 +29,14 @@ fn senses(d: Drive, register: u8) -> bool
 
 // The level of one of the drive's sense registers.
 pub fn sense(d: Drive, register: u8) -> u8
-    ensures { λ r. ⌜ r ≡ senseOf register d ⌝ }
+    ensures { λ r. ⌜ r ≡ driveSense register d ⌝ }
 {
     if senses(d, register) { 1 } else { 0 }
 }
 
 // The level of any sense register; `stored` is the level that SN gave it.
 pub fn shown(d: Drive, register: u8, stored: u8) -> u8
-    ensures { λ r. ⌜ r ≡ shownOf register stored d ⌝ }
+    ensures { λ r. ⌜ r ≡ senseShown register stored d ⌝ }
 {
     if drives_sense(register) {
         return sense(d, register);

@@ -7,7 +7,7 @@ use borrow.Author.Tests.{ltb-true, le-leb, leb-true}
 use lib.Dec.{eqb, ltb, leb}
 use Rattle.levels.proofs.Laws.{no, both}
 use Rattle.disk_spec.specs.Watched.{heldStill, unspoilt}
-use Rattle.disk_spec.specs.Strobe.{quiet, tickBy, tickStrobe, strobeTicks, afterBy, strobeAfter, acceptedStrobe}
+use Rattle.disk_spec.specs.Strobe.{noStrobe, strobeTickBy, tickStrobe, strobeTicks, afterBy, strobeAfter, acceptedStrobe}
 use Rattle.disk_spec.specs.declared.Strobe.{Strobe}
 use Rattle.disk_spec.specs.declared.Watched.{Watched}
 
@@ -31,14 +31,14 @@ unfolding acceptedStrobe
 in-ranges w s r = simp (le-leb (s .ticks) 391680 (r .counting), r .resting, r .lit)
 
 -- No strobe is in its ranges, whatever the levels are.
-pub quiet-accepted : (w : Watched) → acceptedStrobe w quiet ≡ true
+pub quiet-accepted : (w : Watched) → acceptedStrobe w noStrobe ≡ true
 unfolding acceptedStrobe
 quiet-accepted w = refl
 
 -- ---- time
 
 tickBy-ranges : (lstrb enable steady grows : Bool) (s : Strobe) → s .steady ≡ steady → ltb (s .ticks) 391680 ≡ grows
-    → Ranges lstrb enable s → Ranges lstrb enable (tickBy steady grows s)
+    → Ranges lstrb enable s → Ranges lstrb enable (strobeTickBy steady grows s)
 tickBy-ranges lstrb enable true true s e g r =
     record {
       counting = omega (arith, ltb-true (s .ticks) 391680 g);
@@ -61,7 +61,7 @@ strobeTicks-accepted n w s h = in-ranges w (strobeTicks n s) (strobeTicks-ranges
 
 -- ---- an item
 
-quiet-ranges : (lstrb enable : Bool) → Ranges lstrb enable quiet
+quiet-ranges : (lstrb enable : Bool) → Ranges lstrb enable noStrobe
 quiet-ranges lstrb enable = record { counting = omega arith; resting = refl; lit = refl }
 
 -- LSTRB rises: the strobe is steady where ENABLE is on.

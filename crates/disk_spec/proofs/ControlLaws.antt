@@ -3,8 +3,8 @@ use mathlib.Core.Path.{_≡_, refl}
 use mathlib.Core.Bool.{Bool, true, false, cond, not, _&&_, _||_}
 use lib.Dec.{eqb}
 use Rattle.disk_spec.specs.declared.Drive.{Drive}
-use Rattle.disk_spec.specs.Drive.{withMotor, withStep, removed}
-use Rattle.disk_spec.specs.Control.{stepAsked, stepWritten, motorOn, motorWritten, ejected, ejectWritten}
+use Rattle.disk_spec.specs.Drive.{withMotor, withStep, withDiskOut}
+use Rattle.disk_spec.specs.Control.{stepAsked, stepWritten, motorOn, motorWritten, ejectIf, ejectWritten}
 
 asks : (idle : Bool) (d : Drive) → cond idle (withStep d 9401 (d .direction)) d ≡ stepAsked idle d
 asks true d = refl
@@ -22,10 +22,10 @@ pub motor-at-once : (v : Bool) (d : Drive) → withMotor d (not v && (d .disk ||
 motor-at-once true d = refl
 motor-at-once false d = turns (d .disk) d
 
-ejects : (there : Bool) (d : Drive) → cond there (removed d) d ≡ ejected there d
+ejects : (there : Bool) (d : Drive) → cond there (withDiskOut d) d ≡ ejectIf there d
 ejects true d = refl
 ejects false d = refl
 
-pub eject-at-once : (v : Bool) (d : Drive) → cond (v && d .disk) (removed d) d ≡ ejectWritten v d
+pub eject-at-once : (v : Bool) (d : Drive) → cond (v && d .disk) (withDiskOut d) d ≡ ejectWritten v d
 eject-at-once true d = ejects (d .disk) d
 eject-at-once false d = refl

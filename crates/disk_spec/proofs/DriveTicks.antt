@@ -6,7 +6,7 @@ use native.Mathlib.Nat.{add-zero, add-suc, zero-add}
 use native.Mathlib.Omega.{arith}
 use borrow.Author.Tests.{eq-eqb, ne-eqb}
 use lib.Dec.{eqb}
-use Rattle.disk_spec.specs.Drive.{withStep, moved, tickBy, tickDrive, driveTicks}
+use Rattle.disk_spec.specs.Drive.{withStep, afterStep, driveTickBy, tickDrive, driveTicks}
 use Rattle.disk_spec.specs.declared.Drive.{Drive}
 
 -- ---- waiting a ticks and then b, for all whole numbers
@@ -21,7 +21,7 @@ driveTicks-add a (suc b) d = ap (λ (k : ℕ). driveTicks k d) (add-suc a b) ∙
 pub idle : (n : ℕ) (d : Drive) → d .pending ≡ 0 → driveTicks n d ≡ d
 unfolding driveTicks tickDrive
 idle zero d e = refl
-idle (suc n) d e = ap tickDrive (idle n d e) ∙ ap (λ (z : Bool). tickBy z (eqb (d .pending) 1) d) (eq-eqb (d .pending) 0 e)
+idle (suc n) d e = ap tickDrive (idle n d e) ∙ ap (λ (z : Bool). driveTickBy z (eqb (d .pending) 1) d) (eq-eqb (d .pending) 0 e)
 
 -- A tick that is not the last.
 counted : (k : ℕ) (d : Drive) → tickDrive (withStep d (suc (suc k)) (d .heading)) ≡ withStep d (suc k) (d .heading)
@@ -50,12 +50,12 @@ early n d h =
     ∙ ap (λ (m : ℕ). withStep d m (d .heading)) f
 
 -- The last tick.
-last : (d : Drive) → tickDrive (withStep d 1 (d .heading)) ≡ moved d
+last : (d : Drive) → tickDrive (withStep d 1 (d .heading)) ≡ afterStep d
 unfolding tickDrive
 last d = refl
 
 -- At a step's end, and after it.
-pub late : (n : ℕ) (d : Drive) → (d .pending ≡ 0 → ⊥) → d .pending ≤ n → driveTicks n d ≡ moved d
+pub late : (n : ℕ) (d : Drive) → (d .pending ≡ 0 → ⊥) → d .pending ≤ n → driveTicks n d ≡ afterStep d
 unfolding driveTicks
 late n d z h =
     let a = d .pending - 1 in
@@ -66,4 +66,4 @@ late n d z h =
     ∙ driveTicks-add (suc a) r d
     ∙ ap (driveTicks r)
     (ap tickDrive (early a d (omega (arith, z)) ∙ ap (λ (m : ℕ). withStep d m (d .heading)) o) ∙ last d)
-    ∙ idle r (moved d) refl
+    ∙ idle r (afterStep d) refl

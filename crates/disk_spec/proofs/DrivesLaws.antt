@@ -7,7 +7,7 @@ use lib.Dec.{eqb}
 use Rattle.levels.proofs.Laws.{both}
 use Rattle.disk_spec.specs.declared.Drive.{Drive}
 use Rattle.disk_spec.specs.Control.{diskMoved, registerWritten}
-use Rattle.disk_spec.specs.Sense.{level, drivesSense, senseOf, shownOf, acceptedDrive}
+use Rattle.disk_spec.specs.Sense.{level, isDriveSense, driveSense, senseShown, acceptedDrive}
 use Rattle.disk_spec.proofs.DriveTicks.{driveTicks-add}
 use Rattle.disk_spec.proofs.Ranges.{fresh-accepted, inserted-accepted, removed-accepted, powered-accepted, registerWritten-accepted, driveTicks-accepted}
 use Rattle.disk_spec.specs.declared.Watched.{Watched}
@@ -17,7 +17,7 @@ use Rattle.disk_spec.proofs.StrobeTicks.{strobeTicks-add}
 use Rattle.disk_spec.proofs.Pulses.{level-writes-nothing, untouched}
 use Rattle.disk_spec.proofs.Bounds.{quiet-accepted, strobeTicks-accepted, strobeAfter-accepted}
 use Rattle.disk_spec.specs.declared.Drives.{Drives}
-use Rattle.disk_spec.specs.Drives.{withStrobe, selected, withSelected, freshDrives, drivesTicks, placed, drivesPowered, writtenBy, drivesAfter, drivesShown, acceptedDrives}
+use Rattle.disk_spec.specs.Drives.{withStrobe, driveAt, withDriveAt, freshDrives, drivesTicks, drivesDiskMoved, drivesPowered, drivesWritten, drivesAfter, drivesShown, acceptedDrives}
 
 -- Waiting a ticks and then b, for all whole numbers.
 pub drivesTicks-add : (a b : ℕ) (d : Drives) → drivesTicks (a + b) d ≡ drivesTicks b (drivesTicks a d)
@@ -65,11 +65,11 @@ drivesTicks-accepted n w d h =
     })
 
 -- The selected drive, and another put in its place.
-selected-accepted : (e : Bool) (w : Watched) (d : Drives) → Parts w d → acceptedDrive (selected e d) ≡ true
+selected-accepted : (e : Bool) (w : Watched) (d : Drives) → Parts w d → acceptedDrive (driveAt e d) ≡ true
 selected-accepted true w d p = p .outside
 selected-accepted false w d p = p .inside
 
-withSelected-parts : (e : Bool) (w : Watched) (d : Drives) (x : Drive) → acceptedDrive x ≡ true → Parts w d → Parts w (withSelected e d x)
+withSelected-parts : (e : Bool) (w : Watched) (d : Drives) (x : Drive) → acceptedDrive x ≡ true → Parts w d → Parts w (withDriveAt e d x)
 withSelected-parts true w d x h p = record { inside = p .inside; outside = h; strobing = p .strobing }
 withSelected-parts false w d x h p = record { inside = h; outside = p .outside; strobing = p .strobing }
 
@@ -78,13 +78,13 @@ diskMoved-accepted true locked sides d h = inserted-accepted locked sides d h
 diskMoved-accepted false locked sides d h = removed-accepted d h
 
 pub placed-accepted : (e insert locked sides : Bool) (w : Watched) (d : Drives) → acceptedDrives w d ≡ true
-    → acceptedDrives w (placed e insert locked sides d) ≡ true
-unfolding placed
+    → acceptedDrives w (drivesDiskMoved e insert locked sides d) ≡ true
+unfolding drivesDiskMoved
 placed-accepted e insert locked sides w d h =
     let p = parts w d h in
-    whole w (placed e insert locked sides d)
-    (withSelected-parts e w d (diskMoved insert locked sides (selected e d))
-    (diskMoved-accepted insert locked sides (selected e d) (selected-accepted e w d p))
+    whole w (drivesDiskMoved e insert locked sides d)
+    (withSelected-parts e w d (diskMoved insert locked sides (driveAt e d))
+    (diskMoved-accepted insert locked sides (driveAt e d) (selected-accepted e w d p))
     p)
 
 pub drivesPowered-accepted : (w : Watched) (d : Drives) → acceptedDrives w d ≡ true → acceptedDrives w (drivesPowered d) ≡ true
@@ -98,10 +98,10 @@ drivesPowered-accepted w d h =
       strobing = p .strobing;
     })
 
-writtenBy-parts : (acts : Bool) (w v : Watched) (d : Drives) → Parts w d → Parts w (writtenBy acts v d)
+writtenBy-parts : (acts : Bool) (w v : Watched) (d : Drives) → Parts w d → Parts w (drivesWritten acts v d)
 writtenBy-parts true w v d p =
-    withSelected-parts (v .select) w d (registerWritten (registerOf v) (v .ca2) (selected (v .select) d))
-    (registerWritten-accepted (registerOf v) (v .ca2) (selected (v .select) d) (selected-accepted (v .select) w d p))
+    withSelected-parts (v .select) w d (registerWritten (registerOf v) (v .ca2) (driveAt (v .select) d))
+    (registerWritten-accepted (registerOf v) (v .ca2) (driveAt (v .select) d) (selected-accepted (v .select) w d p))
     p
 writtenBy-parts false w v d p = p
 
@@ -123,7 +123,7 @@ drivesAfter-accepted before after d h =
 pub drives-untouched : (w : Watched) (d : Drives) → acceptedDrives w d ≡ true → drivesAfter w w d ≡ d
 unfolding drivesAfter
 drives-untouched w d h =
-    ap (λ (b : Bool). withStrobe (writtenBy b w d) (strobeAfter w w (d .strobe))) (level-writes-nothing w w (d .strobe) refl)
+    ap (λ (b : Bool). withStrobe (drivesWritten b w d) (strobeAfter w w (d .strobe))) (level-writes-nothing w w (d .strobe) refl)
     ∙ ap (withStrobe d) (untouched w (d .strobe) (parts w d h .strobing))
 
 -- ---- the sense
@@ -136,8 +136,8 @@ pick-below : (t : Bool) (x y : ℕ) → x < 2 → y < 2 → cond t x y < 2
 pick-below true x y h k = h
 pick-below false x y h k = k
 
-sense-below : (register : ℕ) (d : Drive) → senseOf register d < 2
-unfolding senseOf
+sense-below : (register : ℕ) (d : Drive) → driveSense register d < 2
+unfolding driveSense
 sense-below r d =
     pick-below (eqb r 0) _ _ (level-below (d .direction))
     (pick-below (eqb r 1) _ _ (level-below (not (d .disk)))
@@ -148,6 +148,6 @@ sense-below r d =
 
 -- What a sense register shows is a level, where SN stored one.
 pub shown-below : (place stored : ℕ) (d : Drives) → stored < 2 → drivesShown place stored d < 2
-unfolding drivesShown shownOf
+unfolding drivesShown senseShown
 shown-below place stored d h =
-    pick-below (drivesSense (place % 16)) _ stored (sense-below (place % 16) (selected (eqb (place / 16) 1) d)) h
+    pick-below (isDriveSense (place % 16)) _ stored (sense-below (place % 16) (driveAt (eqb (place / 16) 1) d)) h

@@ -10,7 +10,7 @@ use Rattle.levels.proofs.Laws.{no}
 use Rattle.disk_spec.proofs.StrobeTicks.{unsteady, counts}
 use Rattle.disk_spec.proofs.Bounds.{Ranges, ranges}
 use Rattle.disk_spec.specs.Watched.{heldStill, unspoilt, registerOf}
-use Rattle.disk_spec.specs.Strobe.{quiet, withTicks, strobeTicks, afterBy, strobeAfter, longEnough, strobeWrites, acceptedStrobe}
+use Rattle.disk_spec.specs.Strobe.{noStrobe, withTicks, strobeTicks, afterBy, strobeAfter, longEnough, strobeWrites, acceptedStrobe}
 use Rattle.disk_spec.specs.declared.Strobe.{Strobe}
 use Rattle.disk_spec.specs.declared.Watched.{Watched}
 
@@ -55,28 +55,28 @@ pulse n w s h =
 
 -- While LSTRB is on, an item that turns ENABLE off or moves another level.
 pub spoils : (before after : Watched) (s : Strobe) → before .lstrb ≡ true → after .lstrb ≡ true → unspoilt before after ≡ false
-    → strobeAfter before after s ≡ quiet
+    → strobeAfter before after s ≡ noStrobe
 unfolding strobeAfter
 spoils before after s b a e = simp (b, a, e)
 
 -- A spoilt strobe stays so while LSTRB is on, also where the level comes back.
-pub spoilt-stays : (n : ℕ) (before after : Watched) → before .lstrb ≡ true → strobeAfter before after (strobeTicks n quiet) ≡ quiet
+pub spoilt-stays : (n : ℕ) (before after : Watched) → before .lstrb ≡ true → strobeAfter before after (strobeTicks n noStrobe) ≡ noStrobe
 unfolding strobeAfter
 spoilt-stays n before after b =
-    ap (strobeAfter before after) (unsteady n quiet refl)
-    ∙ ap (λ (x : Bool). afterBy (after .lstrb) x (unspoilt before after) (after .enable) quiet) b
+    ap (strobeAfter before after) (unsteady n noStrobe refl)
+    ∙ ap (λ (x : Bool). afterBy (after .lstrb) x (unspoilt before after) (after .enable) noStrobe) b
     ∙ rests (after .lstrb) (unspoilt before after) (after .enable)
   where
-    rests : (on fine enable : Bool) → afterBy on true fine enable quiet ≡ quiet
+    rests : (on fine enable : Bool) → afterBy on true fine enable noStrobe ≡ noStrobe
     rests false fine enable = refl
     rests true true enable = refl
     rests true false enable = refl
 
 -- It writes nothing.
-pub spoilt-writes-nothing : (n : ℕ) (before after : Watched) → strobeWrites before after (strobeTicks n quiet) ≡ false
+pub spoilt-writes-nothing : (n : ℕ) (before after : Watched) → strobeWrites before after (strobeTicks n noStrobe) ≡ false
 unfolding strobeWrites
 spoilt-writes-nothing n before after =
-    ap (strobeWrites before after) (unsteady n quiet refl) ∙ and-false (before .lstrb && not (after .lstrb))
+    ap (strobeWrites before after) (unsteady n noStrobe refl) ∙ and-false (before .lstrb && not (after .lstrb))
 
 -- RS and PW turn ENABLE off with LSTRB: no write.
 pub reset-writes-nothing : (before after : Watched) (s : Strobe) → after .enable ≡ false → strobeWrites before after s ≡ false
@@ -89,7 +89,7 @@ unfolding strobeWrites
 level-writes-nothing before after s e = simp (e, and-not-self (after .lstrb))
 
 -- An item that leaves every level as it is spoils nothing and does not begin anew.
-quiet-is : (s : Strobe) → s .steady ≡ false → (s .steady || eqb (s .ticks) 0) ≡ true → s ≡ quiet
+quiet-is : (s : Strobe) → s .steady ≡ false → (s .steady || eqb (s .ticks) 0) ≡ true → s ≡ noStrobe
 quiet-is s e r =
     let z : s .ticks ≡ 0 = eqb-true (s .ticks) 0 (sym (ap (λ (b : Bool). b || eqb (s .ticks) 0) e) ∙ r) in
     ap (λ (b : Bool). record { ticks = s .ticks; steady = b }) e ∙ ap (λ (n : ℕ). record { ticks = n; steady = false }) z
@@ -105,7 +105,7 @@ untouched w s h = go (w .lstrb) (w .enable) refl refl
     r : Ranges (w .lstrb) (w .enable) s
     r = ranges w s h
 
-    off : (w .lstrb && w .enable) ≡ false → quiet ≡ s
+    off : (w .lstrb && w .enable) ≡ false → noStrobe ≡ s
     off e = sym (quiet-is s (dark (s .steady) (w .lstrb) (w .enable) e (r .lit)) (r .resting))
 
     go : (l e : Bool) → w .lstrb ≡ l → w .enable ≡ e → afterBy l l (e && heldStill w w) e s ≡ s

@@ -6,8 +6,8 @@ use native.Mathlib.Omega.{arith}
 use borrow.Author.Tests.{lt-ltb, ltb-true, le-leb, leb-true, eqb-false, ne-eqb}
 use lib.Dec.{eqb, ltb, leb}
 use Rattle.levels.proofs.Laws.{both}
-use Rattle.disk_spec.specs.Drive.{withDirection, withMotor, withStep, moved, tickBy, tickDrive, driveTicks, neighbour, inserted, removed, powered, freshDrive}
-use Rattle.disk_spec.specs.Control.{stepAsked, stepWritten, motorOn, motorWritten, ejected, ejectWritten, registerWritten}
+use Rattle.disk_spec.specs.Drive.{withDirection, withMotor, withStep, afterStep, driveTickBy, tickDrive, driveTicks, neighbour, withDiskIn, withDiskOut, afterPowerCut, freshDrive}
+use Rattle.disk_spec.specs.Control.{stepAsked, stepWritten, motorOn, motorWritten, ejectIf, ejectWritten, registerWritten}
 use Rattle.disk_spec.specs.Sense.{acceptedDrive}
 use Rattle.disk_spec.specs.declared.Drive.{Drive}
 
@@ -46,10 +46,10 @@ pub fresh-accepted : acceptedDrive freshDrive ≡ true
 unfolding acceptedDrive
 fresh-accepted = refl
 
-pub inserted-accepted : (locked sides : Bool) (d : Drive) → acceptedDrive d ≡ true → acceptedDrive (inserted locked sides d) ≡ true
+pub inserted-accepted : (locked sides : Bool) (d : Drive) → acceptedDrive d ≡ true → acceptedDrive (withDiskIn locked sides d) ≡ true
 inserted-accepted locked sides d h =
     let r = ranges d h in
-    in-ranges (inserted locked sides d)
+    in-ranges (withDiskIn locked sides d)
     (record {
       tracks = r .tracks;
       ticks = r .ticks;
@@ -58,15 +58,15 @@ inserted-accepted locked sides d h =
       stepping = r .stepping;
     })
 
-pub removed-accepted : (d : Drive) → acceptedDrive d ≡ true → acceptedDrive (removed d) ≡ true
+pub removed-accepted : (d : Drive) → acceptedDrive d ≡ true → acceptedDrive (withDiskOut d) ≡ true
 removed-accepted d h =
     let r = ranges d h in
-    in-ranges (removed d) (record { tracks = r .tracks; ticks = r .ticks; turning = refl; locking = refl; stepping = r .stepping })
+    in-ranges (withDiskOut d) (record { tracks = r .tracks; ticks = r .ticks; turning = refl; locking = refl; stepping = r .stepping })
 
-pub powered-accepted : (d : Drive) → acceptedDrive d ≡ true → acceptedDrive (powered d) ≡ true
+pub powered-accepted : (d : Drive) → acceptedDrive d ≡ true → acceptedDrive (afterPowerCut d) ≡ true
 powered-accepted d h =
     let r = ranges d h in
-    in-ranges (powered d) (record { tracks = r .tracks; ticks = omega arith; turning = refl; locking = r .locking; stepping = refl })
+    in-ranges (afterPowerCut d) (record { tracks = r .tracks; ticks = omega arith; turning = refl; locking = r .locking; stepping = refl })
 
 -- ---- a register written
 
@@ -93,7 +93,7 @@ motorOn-accepted : (there : Bool) (d : Drive) → there ≡ d .disk → accepted
 motorOn-accepted true d e h = withMotor-accepted true d (sym e) h
 motorOn-accepted false d e h = h
 
-ejected-accepted : (there : Bool) (d : Drive) → acceptedDrive d ≡ true → acceptedDrive (ejected there d) ≡ true
+ejected-accepted : (there : Bool) (d : Drive) → acceptedDrive d ≡ true → acceptedDrive (ejectIf there d) ≡ true
 ejected-accepted true d h = removed-accepted d h
 ejected-accepted false d h = h
 
@@ -141,10 +141,10 @@ neighbour-range false track h = go (ltb track 79) refl
     go true e = omega (arith, ltb-true track 79 e)
     go false e = omega arith
 
-moved-accepted : (d : Drive) → acceptedDrive d ≡ true → acceptedDrive (moved d) ≡ true
+moved-accepted : (d : Drive) → acceptedDrive d ≡ true → acceptedDrive (afterStep d) ≡ true
 moved-accepted d h =
     let r = ranges d h in
-    in-ranges (moved d)
+    in-ranges (afterStep d)
     (record {
       tracks = neighbour-range (d .heading) (d .track) (r .tracks);
       ticks = omega arith;
@@ -154,7 +154,7 @@ moved-accepted d h =
     })
 
 tickBy-accepted : (idle last : Bool) (d : Drive) → eqb (d .pending) 0 ≡ idle → eqb (d .pending) 1 ≡ last
-    → acceptedDrive d ≡ true → acceptedDrive (tickBy idle last d) ≡ true
+    → acceptedDrive d ≡ true → acceptedDrive (driveTickBy idle last d) ≡ true
 tickBy-accepted true last d e f h = h
 tickBy-accepted false true d e f h = moved-accepted d h
 tickBy-accepted false false d e f h =

@@ -6,9 +6,9 @@ use native.Mathlib.Omega.{arith}
 use borrow.Author.Tests.{eq-eqb, ne-eqb, lt-ltb}
 use lib.Dec.{eqb}
 use Rattle.disk_spec.proofs.DriveTicks.{driveTicks-add, early, late}
-use Rattle.disk_spec.specs.Drive.{withDirection, withStep, withTrack, tickBy, tickDrive, driveTicks, neighbour, removed, powered, freshDrive}
-use Rattle.disk_spec.specs.Control.{motorOn, ejected, registerWritten}
-use Rattle.disk_spec.specs.Sense.{senseOf}
+use Rattle.disk_spec.specs.Drive.{withDirection, withStep, withTrack, driveTickBy, tickDrive, driveTicks, neighbour, withDiskOut, afterPowerCut, freshDrive}
+use Rattle.disk_spec.specs.Control.{motorOn, ejectIf, registerWritten}
+use Rattle.disk_spec.specs.Sense.{driveSense}
 use Rattle.disk_spec.specs.declared.Drive.{Drive}
 
 -- ---- the neighbouring track, within 0 to 79
@@ -50,22 +50,22 @@ step-done d e =
     ∙ late 9401 (withStep d 9401 (d .direction)) (λ (z : 9401 ≡ 0). omega arith) (omega arith)
 
 -- STEP senses 1 then, so that a new step is taken.
-pub step-done-senses : (d : Drive) → d .pending ≡ 0 → senseOf 2 (driveTicks 9401 (registerWritten 1 false d)) ≡ 1
-unfolding senseOf
-step-done-senses d e = ap (senseOf 2) (step-done d e)
+pub step-done-senses : (d : Drive) → d .pending ≡ 0 → driveSense 2 (driveTicks 9401 (registerWritten 1 false d)) ≡ 1
+unfolding driveSense
+step-done-senses d e = ap (driveSense 2) (step-done d e)
 
 -- Before that the track is the old one, and STEP senses 0.
 pub step-not-yet : (n : ℕ) (d : Drive) → d .pending ≡ 0 → n < 9401
-    → (driveTicks n (registerWritten 1 false d) .track ≡ d .track) × (senseOf 2 (driveTicks n (registerWritten 1 false d)) ≡ 0)
-unfolding senseOf
+    → (driveTicks n (registerWritten 1 false d) .track ≡ d .track) × (driveSense 2 (driveTicks n (registerWritten 1 false d)) ≡ 0)
+unfolding driveSense
 step-not-yet n d e h =
     let w : driveTicks n (registerWritten 1 false d) ≡ withStep d (9401 - n) (d .direction) =
     ap (driveTicks n) (asked d e) ∙ early n (withStep d 9401 (d .direction)) h in
     let z : eqb (9401 - n) 0 ≡ false = ne-eqb (9401 - n) 0 (λ (z : 9401 - n ≡ 0). omega arith) in
-    (ap (λ (x : Drive). x .track) w, ap (senseOf 2) w ∙ simp z)
+    (ap (λ (x : Drive). x .track) w, ap (driveSense 2) w ∙ simp z)
 
 -- A direction written meanwhile shows at once, and the step keeps its own.
-turned-tick : (idle last v : Bool) (d : Drive) → tickBy idle last (withDirection d v) ≡ withDirection (tickBy idle last d) v
+turned-tick : (idle last v : Bool) (d : Drive) → driveTickBy idle last (withDirection d v) ≡ withDirection (driveTickBy idle last d) v
 turned-tick true last v d = refl
 turned-tick false true v d = refl
 turned-tick false false v d = refl
@@ -94,22 +94,22 @@ no-disk-no-motor d e = ap (λ (b : Bool). motorOn b d) e
 
 pub no-disk-no-eject : (v : Bool) (d : Drive) → d .disk ≡ false → registerWritten 3 v d ≡ d
 unfolding registerWritten
-no-disk-no-eject true d e = ap (λ (b : Bool). ejected b d) e
+no-disk-no-eject true d e = ap (λ (b : Bool). ejectIf b d) e
 no-disk-no-eject false d e = refl
 
 -- An eject is a removal; a leaving disk stops the motor and clears locked, and the drive keeps its sides.
-pub eject-removes : (d : Drive) → d .disk ≡ true → registerWritten 3 true d ≡ removed d
+pub eject-removes : (d : Drive) → d .disk ≡ true → registerWritten 3 true d ≡ withDiskOut d
 unfolding registerWritten
-eject-removes d e = ap (λ (b : Bool). ejected b d) e
+eject-removes d e = ap (λ (b : Bool). ejectIf b d) e
 
 pub leaves : (d : Drive)
-    → (removed d .disk ≡ false) × (removed d .motor ≡ false) × (removed d .locked ≡ false) × (removed d .sides ≡ d .sides)
+    → (withDiskOut d .disk ≡ false) × (withDiskOut d .motor ≡ false) × (withDiskOut d .locked ≡ false) × (withDiskOut d .sides ≡ d .sides)
 leaves d = (refl, refl, refl, refl)
 
 -- "PW stops motors, drops pending steps and keeps the rest of each drive."
 pub power-cut : (d : Drive)
-    → (powered d .motor ≡ false) × (powered d .pending ≡ 0) × (powered d .heading ≡ false) × (powered d .track ≡ d .track) × (powered d .direction ≡ d .direction)
-    × (powered d .disk ≡ d .disk) × (powered d .locked ≡ d .locked) × (powered d .sides ≡ d .sides)
+    → (afterPowerCut d .motor ≡ false) × (afterPowerCut d .pending ≡ 0) × (afterPowerCut d .heading ≡ false) × (afterPowerCut d .track ≡ d .track) × (afterPowerCut d .direction ≡ d .direction)
+    × (afterPowerCut d .disk ≡ d .disk) × (afterPowerCut d .locked ≡ d .locked) × (afterPowerCut d .sides ≡ d .sides)
 power-cut d = (refl, refl, refl, refl, refl, refl, refl, refl)
 
 -- ---- a seek: n steps, each with its ticks

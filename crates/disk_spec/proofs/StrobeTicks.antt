@@ -6,7 +6,7 @@ use native.Mathlib.Nat.{add-zero, add-suc}
 use native.Mathlib.Omega.{arith}
 use borrow.Author.Tests.{lt-ltb, le-ltb}
 use lib.Dec.{ltb}
-use Rattle.disk_spec.specs.Strobe.{withTicks, tickBy, tickStrobe, strobeTicks}
+use Rattle.disk_spec.specs.Strobe.{withTicks, strobeTickBy, tickStrobe, strobeTicks}
 use Rattle.disk_spec.specs.declared.Strobe.{Strobe}
 
 -- ---- waiting a ticks and then b, for all whole numbers
@@ -21,9 +21,9 @@ strobeTicks-add a (suc b) s = ap (λ (k : ℕ). strobeTicks k s) (add-suc a b) �
 pub unsteady : (n : ℕ) (s : Strobe) → s .steady ≡ false → strobeTicks n s ≡ s
 unfolding strobeTicks tickStrobe
 unsteady zero s e = refl
-unsteady (suc n) s e = ap tickStrobe (unsteady n s e) ∙ ap (λ (b : Bool). tickBy b (ltb (s .ticks) 391680) s) e
+unsteady (suc n) s e = ap tickStrobe (unsteady n s e) ∙ ap (λ (b : Bool). strobeTickBy b (ltb (s .ticks) 391680) s) e
 
-full-tick : (steady : Bool) (s : Strobe) → tickBy steady false s ≡ s
+full-tick : (steady : Bool) (s : Strobe) → strobeTickBy steady false s ≡ s
 full-tick true s = refl
 full-tick false s = refl
 
@@ -33,7 +33,7 @@ unfolding strobeTicks tickStrobe
 full zero s h = refl
 full (suc n) s h =
     ap tickStrobe (full n s h)
-    ∙ ap (λ (b : Bool). tickBy (s .steady) b s) (le-ltb (s .ticks) 391680 h)
+    ∙ ap (λ (b : Bool). strobeTickBy (s .steady) b s) (le-ltb (s .ticks) 391680 h)
     ∙ full-tick (s .steady) s
 
 -- Up to 391,680 each tick counts.
@@ -44,8 +44,8 @@ counts (suc n) s e h =
     let l : ltb (s .ticks + n) 391680 ≡ true = lt-ltb (s .ticks + n) 391680 (omega arith) in
     let m : s .ticks + n + 1 ≡ s .ticks + suc n = omega arith in
     ap tickStrobe (counts n s e (omega arith))
-    ∙ ap (λ (b : Bool). tickBy b (ltb (s .ticks + n) 391680) (withTicks s (s .ticks + n))) e
-    ∙ ap (λ (b : Bool). tickBy true b (withTicks s (s .ticks + n))) l
+    ∙ ap (λ (b : Bool). strobeTickBy b (ltb (s .ticks + n) 391680) (withTicks s (s .ticks + n))) e
+    ∙ ap (λ (b : Bool). strobeTickBy true b (withTicks s (s .ticks + n))) l
     ∙ ap (withTicks s) m
 
 -- Past that it stops there.

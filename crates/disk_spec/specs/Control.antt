@@ -3,12 +3,12 @@ use Prim.Native.Nat.{ℕ}
 use mathlib.Core.Bool.{Bool, true, false, cond}
 use lib.Dec.{eqb}
 use Rattle.disk_spec.specs.declared.Drive.{Drive}
-use Rattle.disk_spec.specs.Drive.{withDirection, withMotor, withStep, inserted, removed}
+use Rattle.disk_spec.specs.Drive.{withDirection, withMotor, withStep, withDiskIn, withDiskOut}
 
 -- DI: insert 1 or remove 0, locked, double-sided.
 abbrev pub diskMoved : Bool → Bool → Bool → Drive → Drive
-diskMoved true locked sides d = inserted locked sides d
-diskMoved false locked sides d = removed d
+diskMoved true locked sides d = withDiskIn locked sides d
+diskMoved false locked sides d = withDiskOut d
 
 -- ---- a register written
 
@@ -38,13 +38,13 @@ motorWritten true d = withMotor d false
 motorWritten false d = motorOn (d .disk) d
 
 -- ".. or ejecting does nothing without a disk". Whether there is a disk.
-abbrev pub ejected : Bool → Drive → Drive
-ejected true d = removed d
-ejected false d = d
+abbrev pub ejectIf : Bool → Drive → Drive
+ejectIf true d = withDiskOut d
+ejectIf false d = d
 
 -- Document 004: "Writing 1 to EJECT ejects the disk"; "an eject written 0 do nothing".
 abbrev pub ejectWritten : Bool → Drive → Drive
-ejectWritten true d = ejected (d .disk) d
+ejectWritten true d = ejectIf (d .disk) d
 ejectWritten false d = d
 
 -- What a write that acts does: registers 0 to 3 are direction, step, motor and eject, by CA1 and CA0.

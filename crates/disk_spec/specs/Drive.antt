@@ -60,8 +60,8 @@ withTrack d x =
     }
 
 -- The disk: whether there is one, whether it is locked, and the drive's sides with it.
-abbrev pub withDisk : Drive → Bool → Bool → Bool → Drive
-withDisk d there locked sides =
+abbrev pub withDiskState : Drive → Bool → Bool → Bool → Drive
+withDiskState d there locked sides =
     record {
       track = d .track;
       direction = d .direction;
@@ -90,12 +90,12 @@ freshDrive =
 -- ---- the disk comes and goes
 
 -- DI with insert 1: "locked 1, double-sided 1, the last two used on insertion only".
-abbrev pub inserted : Bool → Bool → Drive → Drive
-inserted locked sides d = withDisk d true locked sides
+abbrev pub withDiskIn : Bool → Bool → Drive → Drive
+withDiskIn locked sides d = withDiskState d true locked sides
 
 -- DI with insert 0, and an eject: "a leaving disk stops the motor and clears locked".
-abbrev pub removed : Drive → Drive
-removed d = withMotor (withDisk d false false (d .sides)) false
+abbrev pub withDiskOut : Drive → Drive
+withDiskOut d = withMotor (withDiskState d false false (d .sides)) false
 
 -- ---- time
 
@@ -105,17 +105,17 @@ neighbour true track = cond (eqb track 0) 0 (track - 1)
 neighbour false track = cond (ltb track 79) (track + 1) 79
 
 -- The step's end: it "moves the track at their end in the direction set when it was asked".
-abbrev pub moved : Drive → Drive
-moved d = withStep (withTrack d (neighbour (d .heading) (d .track))) 0 false
+abbrev pub afterStep : Drive → Drive
+afterStep d = withStep (withTrack d (neighbour (d .heading) (d .track))) 0 false
 
 -- One tick, given whether no step is pending, and whether this is a step's last tick.
-abbrev pub tickBy : Bool → Bool → Drive → Drive
-tickBy true last d = d
-tickBy false true d = moved d
-tickBy false false d = withStep d (d .pending - 1) (d .heading)
+abbrev pub driveTickBy : Bool → Bool → Drive → Drive
+driveTickBy true last d = d
+driveTickBy false true d = afterStep d
+driveTickBy false false d = withStep d (d .pending - 1) (d .heading)
 
 unfoldable pub tickDrive : Drive → Drive
-tickDrive d = tickBy (eqb (d .pending) 0) (eqb (d .pending) 1) d
+tickDrive d = driveTickBy (eqb (d .pending) 0) (eqb (d .pending) 1) d
 
 -- n ticks, one after the other.
 unfoldable pub driveTicks : ℕ → Drive → Drive
@@ -123,5 +123,5 @@ driveTicks zero d = d
 driveTicks (suc n) d = tickDrive (driveTicks n d)
 
 -- "PW stops motors, drops pending steps and keeps the rest of each drive."
-abbrev pub powered : Drive → Drive
-powered d = withStep (withMotor d false) 0 false
+abbrev pub afterPowerCut : Drive → Drive
+afterPowerCut d = withStep (withMotor d false) 0 false

@@ -7,8 +7,8 @@ use Rattle.disk_spec.specs.declared.Watched.{Watched}
 use Rattle.disk_spec.specs.Watched.{unspoilt, registerOf}
 
 -- No strobe, or one that is spoilt.
-abbrev pub quiet : Strobe
-quiet = record { ticks = 0; steady = false }
+abbrev pub noStrobe : Strobe
+noStrobe = record { ticks = 0; steady = false }
 
 abbrev pub withTicks : Strobe → ℕ → Strobe
 withTicks s n = record { ticks = n; steady = s .steady }
@@ -16,13 +16,13 @@ withTicks s n = record { ticks = n; steady = s .steady }
 -- ---- time
 
 -- One tick, given whether the strobe is steady, and whether its count still grows: eject asks for no more than 391,680.
-abbrev pub tickBy : Bool → Bool → Strobe → Strobe
-tickBy true true s = withTicks s (s .ticks + 1)
-tickBy true false s = s
-tickBy false grows s = s
+abbrev pub strobeTickBy : Bool → Bool → Strobe → Strobe
+strobeTickBy true true s = withTicks s (s .ticks + 1)
+strobeTickBy true false s = s
+strobeTickBy false grows s = s
 
 unfoldable pub tickStrobe : Strobe → Strobe
-tickStrobe s = tickBy (s .steady) (ltb (s .ticks) 391680) s
+tickStrobe s = strobeTickBy (s .steady) (ltb (s .ticks) 391680) s
 
 -- n ticks, one after the other.
 unfoldable pub strobeTicks : ℕ → Strobe → Strobe
@@ -33,10 +33,10 @@ strobeTicks (suc n) s = tickStrobe (strobeTicks n s)
 
 -- LSTRB after and before, whether nothing spoilt the strobe, and ENABLE after. LSTRB's rise begins a strobe, with ENABLE on.
 abbrev pub afterBy : Bool → Bool → Bool → Bool → Strobe → Strobe
-afterBy false was fine enable s = quiet
+afterBy false was fine enable s = noStrobe
 afterBy true false fine enable s = record { ticks = 0; steady = enable }
 afterBy true true true enable s = s
-afterBy true true false enable s = quiet
+afterBy true true false enable s = noStrobe
 
 unfoldable pub strobeAfter : Watched → Watched → Strobe → Strobe
 strobeAfter before after s = afterBy (after .lstrb) (before .lstrb) (unspoilt before after) (after .enable) s

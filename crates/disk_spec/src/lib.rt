@@ -1,5 +1,5 @@
-// The drives behind the disk lines and their strobe: types, what request W-203 says of them (specs/) and the laws of that (proofs/). The code is in watched,
-// drive, control, sense, strobe, drives and drivelines; the lines themselves are in iwm.
+// The drives behind the disk lines and their strobe: types, what request W-203 says of them (specs/) and the laws of that (proofs/). The code is in
+// disk_drive, disk_sense, disk_strobe and disk_drives; the lines themselves are in disk_lines.
 
 // The levels that a strobe goes by: SEL is the VIA's line, the others are the disk lines.
 pub struct Watched {

@@ -2,10 +2,10 @@
 ghost use mathlib.Core.Path.{_≡_};
 ghost use Rattle.disk_spec.specs.Watched.{watchedOf, registerOf, unspoilt};
 ghost use mathlib.Core.Bool.{false};
-ghost use Rattle.disk_spec.specs.Strobe.{quiet, strobeTicks, strobeAfter, longEnough, strobeWrites, acceptedStrobe};
-use disk_spec::Watched;
+ghost use Rattle.disk_spec.specs.Strobe.{noStrobe, strobeTicks, strobeAfter, longEnough, strobeWrites, acceptedStrobe};
 use disk_lines::DiskLines;
 use disk_spec::Strobe;
+use disk_spec::Watched;
 
 pub fn watched_of(d: DiskLines, sel: u8) -> Watched
     ensures { λ r. ⌜ r ≡ watchedOf d sel ⌝ }
@@ -61,7 +61,7 @@ fn long_enough(register: u8, ticks: u32) -> bool
 
 // LSTRB is off.
 pub fn off() -> Strobe
-    ensures { λ r. ⌜ r ≡ quiet ⌝ }
+    ensures { λ r. ⌜ r ≡ noStrobe ⌝ }
 {
     Strobe {
         ticks: 0,

@@ -9,11 +9,11 @@ use lib.Dec.{eqb}
 use lib.ListN.{length, take, drop, length-append}
 use lib.Seq.{append-snoc, drop-at}
 use borrow.Author.Tests.{eqb-true, eqb-false, eq-eqb, ne-eqb}
-use Rattle.clock_spec.specs.Command.{decode, bit, num}
+use Rattle.clock_spec.specs.Command.{decode, bitNumber, num}
 use Rattle.clock_spec.specs.Shared.{writeBy}
 use Rattle.clock_spec.proofs.CommandRange.{bit-le}
 use Rattle.history.specs.History.{complete}
-use Rattle.history.specs.Start.{bitsOf}
+use Rattle.history.specs.Start.{bitsNewestFirst}
 
 pub num-bound : (n : ℕ) (bs : List Bool) → num (take n bs) < 2 ^ n
 num-bound zero bs = omega arith
@@ -21,15 +21,15 @@ num-bound (suc n) [] = omega (arith, num-bound n [])
 num-bound (suc n) (b ∷ bs) = omega (arith, num-bound n bs, bit-le b)
 
 -- The bits of a number are its own.
-pub bits-length : (n v : ℕ) → length (bitsOf n v) ≡ n
+pub bits-length : (n v : ℕ) → length (bitsNewestFirst n v) ≡ n
 bits-length zero v = refl
 bits-length (suc n) v = ap suc (bits-length n (v / 2))
 
-low-bit : (v : ℕ) (t : Bool) → eqb (v % 2) 1 ≡ t → bit t ≡ v % 2
+low-bit : (v : ℕ) (t : Bool) → eqb (v % 2) 1 ≡ t → bitNumber t ≡ v % 2
 low-bit v true e = sym (eqb-true (v % 2) 1 e)
 low-bit v false e = omega (arith, eqb-false (v % 2) 1 e)
 
-pub bits-num : (n v : ℕ) → v < 2 ^ n → num (bitsOf n v) ≡ v
+pub bits-num : (n v : ℕ) → v < 2 ^ n → num (bitsNewestFirst n v) ≡ v
 bits-num zero v h = omega arith
 bits-num (suc n) v h = omega (arith, bits-num n (v / 2) (omega arith), low-bit v (eqb (v % 2) 1) refl)
 

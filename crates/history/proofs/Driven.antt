@@ -7,10 +7,10 @@ use Rattle.clock_spec.specs.Shared.{wrap}
 use Rattle.clock.specs.Step.{stepClock}
 use Rattle.clock_spec.specs.declared.Wires.{Wires}
 use Rattle.clock.specs.declared.Clock.{Clock}
-use Rattle.history.specs.History.{Entry, History, wiresAt, gained}
+use Rattle.history.specs.History.{Entry, History, wiresAt, gainSince}
 use Rattle.history.specs.Start.{startOf, Accepted}
 use Rattle.history.specs.Demand3.{clockAfter}
-use Rattle.history.specs.Items.{stateAfter, historyOf, entriesSince, Drives, Machine3}
+use Rattle.history.specs.Items.{stateAfter, historyOf, entriesSince, FollowsEntries, Machine3}
 use Rattle.history.proofs.Holds.{demand3}
 use Rattle.history.proofs.Keeps.{accepted-after}
 
@@ -38,7 +38,7 @@ history-since step trace m is (j ∷ js) =
     ∙ sym (append-assoc t (entriesSince step trace m is js) (historyOf step trace m is))
 
 module _ {M I : Type 0} (N : ℕ) (clock : M → Clock) (wires : M → Wires) (step : I → M → M) (trace : I → M → List Entry)
-    (D : Drives N clock wires step trace) where
+    (D : FollowsEntries N clock wires step trace) where
   pub ok-step : (i : I) (m : M) → Accepted N (clock m) (wires m) → Accepted N (clock (step i m)) (wires (step i m))
   ok-step i m ok =
       subst (λ (c : Clock). Accepted N c (wires (step i m))) (sym (D .clock-is i m ok))
@@ -82,6 +82,6 @@ module _ {M I : Type 0} (N : ℕ) (clock : M → Clock) (wires : M → Wires) (s
             driven m ok (js ++ is) .0 ∙ ap (clockAfter N (clock m) (wires m)) (history-since step trace m is js) in
             let u = d .underProtect es (sym (d .protect) ∙ sym (ap (λ (c : Clock). c .store .protect) r) ∙ p) k in (
               ap (λ (c : Clock). c .store .cells) q ∙ u .0 ∙ sym (ap (λ (c : Clock). c .store .cells) r),
-              ap (λ (c : Clock). c .store .seconds) q ∙ u .1 ∙ sym (ap (λ (c : Clock). wrap (c .store .seconds + gained N (startOf (clock m) (wires m)) h es)) r),
+              ap (λ (c : Clock). c .store .seconds) q ∙ u .1 ∙ sym (ap (λ (c : Clock). wrap (c .store .seconds + gainSince N (startOf (clock m) (wires m)) h es)) r),
             );
       }

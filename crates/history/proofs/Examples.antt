@@ -15,7 +15,7 @@ use Rattle.clock.specs.Step.{freshClock, next, acts, stepWires}
 use Rattle.clock_spec.specs.declared.Phase.the-variants.{Taking}
 use Rattle.clock_spec.specs.declared.Wires.{Wires}
 use Rattle.clock.specs.declared.Clock.{Clock}
-use Rattle.history.specs.History.{Entry, History, wiresAt, rises, ended, protectAt, endedClear, last, cellAt, testAt, secondsAt}
+use Rattle.history.specs.History.{Entry, History, wiresAt, rises, endingAt, protectAt, endingClear, last, cellAt, testAt, secondsAt}
 use Rattle.history.specs.Start.{startOf, undriven, freshStart}
 use Rattle.history.specs.Demand3.{clockAfter, storeAfter}
 
@@ -112,7 +112,7 @@ pub record Examples : Type 0 where
   pub amidTest : (storeAfter 20 amid low goesOn .test ≡ 0x11) × (testAt 20 (startOf amid low) goesOn ≡ 0x11)
 
 pub examples : Examples
-unfolding clockAfter stepWires between next acts act put decode named fetch wiresAt rises ended protectAt endedClear last secondsAt replace
+unfolding clockAfter stepWires between next acts act put decode named fetch wiresAt rises endingAt protectAt endingClear last secondsAt replace
 examples = record {
   write = (refl, refl);
   fifteenRises = (refl, refl);

@@ -15,7 +15,7 @@ use Rattle.clock_spec.specs.Shared.{Written, writeBy, bit7}
 use Rattle.clock_spec.specs.declared.Target.{Target}
 use Rattle.clock_spec.specs.declared.Target.the-variants.{Seconds, Test, Protect, Cell}
 use Rattle.clock_spec.specs.declared.Wires.{Wires}
-use Rattle.history.specs.History.{Start, Entry, History, push, complete, protectBy, same, byteTo, wiresAt, rises, ended, protectAt, endedClear, last}
+use Rattle.history.specs.History.{Start, Entry, History, push, complete, protectBy, sameTarget, byteTo, wiresAt, rises, endingAt, protectAt, endingClear, last}
 use Rattle.history.specs.Start.{freshStart}
 use Rattle.history.proofs.Bits.{is-16}
 
@@ -121,13 +121,13 @@ held-is N more bs h =
 -- No complete write to t ends with protect clear in the entries es after h.
 abbrev goesTo : Target → Option Written → Bool
 goesTo t none = false
-goesTo t (some w) = same t (w .to)
+goesTo t (some w) = sameTarget t (w .to)
 
 not-to : (t : Target) (o : Option Written) (d : ℕ) → goesTo t o ≡ false → byteTo t o d ≡ d
 not-to t none d q = refl
 not-to t (some w) d q = ap (λ (x : Bool). cond x (w .byte) d) q
 
-same-self : (t : Target) → same t t ≡ true
+same-self : (t : Target) → sameTarget t t ≡ true
 same-self (Seconds k) = eq-eqb k k refl
 same-self Test = refl
 same-self Protect = refl
@@ -136,16 +136,16 @@ same-self (Cell i) = eq-eqb i i refl
 module _ (N : ℕ) (S : Start) where
   abbrev pub NoneTo : Target → History → List Entry → Type 0
   NoneTo t h [] = Unit {0}
-  NoneTo t h (e ∷ es) = (goesTo t (endedClear N S (e ∷ (es ++ h))) ≡ false) × NoneTo t h es
+  NoneTo t h (e ∷ es) = (goesTo t (endingClear N S (e ∷ (es ++ h))) ≡ false) × NoneTo t h es
 
   last-since : (t : Target) (d : ℕ) (h : History) (es : List Entry) → NoneTo t h es → last N S t d (es ++ h) ≡ last N S t d h
   unfolding last
   last-since t d h [] q = refl
-  last-since t d h (e ∷ es) (q, k) = not-to t (endedClear N S (e ∷ (es ++ h))) (last N S t d (es ++ h)) q ∙ last-since t d h es k
+  last-since t d h (e ∷ es) (q, k) = not-to t (endingClear N S (e ∷ (es ++ h))) (last N S t d (es ++ h)) q ∙ last-since t d h es k
 
   -- A write of b to t that ended at an entry with protect clear, and none such since: b is the byte of the last.
   pub last-is : (t : Target) (d b : ℕ) (e : Entry) (h : History) (es : List Entry)
-      → endedClear N S (e ∷ h) ≡ some (record { to = t; byte = b }) → NoneTo t (e ∷ h) es → last N S t d (es ++ (e ∷ h)) ≡ b
+      → endingClear N S (e ∷ h) ≡ some (record { to = t; byte = b }) → NoneTo t (e ∷ h) es → last N S t d (es ++ (e ∷ h)) ≡ b
   unfolding last
   last-is t d b e h es q k =
       last-since t d (e ∷ h) es k ∙ ap (λ (o : Option Written). byteTo t o (last N S t d h)) q ∙ ap (λ (x : Bool). cond x b (last N S t d h)) (same-self t)
@@ -161,7 +161,7 @@ not-protect : (o : Option Written) (p : Bool) → goesTo Protect o ≡ false →
 not-protect none p q = refl
 not-protect (some w) p q = go (w .to) q
   where
-    go : (t : Target) → same Protect t ≡ false → protectBy (some (record { to = t; byte = w .byte })) p ≡ p
+    go : (t : Target) → sameTarget Protect t ≡ false → protectBy (some (record { to = t; byte = w .byte })) p ≡ p
     go (Seconds k) q = refl
     go Test q = refl
     go Protect q = absurd (false≢true (sym q))
@@ -171,16 +171,16 @@ module _ (N : ℕ) (S : Start) where
   -- No complete write to protect ends in the entries es after h, whatever protect was.
   abbrev pub NoProtect : History → List Entry → Type 0
   NoProtect h [] = Unit {0}
-  NoProtect h (e ∷ es) = (goesTo Protect (ended N S (e ∷ (es ++ h))) ≡ false) × NoProtect h es
+  NoProtect h (e ∷ es) = (goesTo Protect (endingAt N S (e ∷ (es ++ h))) ≡ false) × NoProtect h es
 
   -- None at all: what it was at the start, or at h.
   pub protect-since : (h : History) (es : List Entry) → NoProtect h es → protectAt N S (es ++ h) ≡ protectAt N S h
   unfolding protectAt
   protect-since h [] q = refl
-  protect-since h (e ∷ es) (q, k) = not-protect (ended N S (e ∷ (es ++ h))) (protectAt N S (es ++ h)) q ∙ protect-since h es k
+  protect-since h (e ∷ es) (q, k) = not-protect (endingAt N S (e ∷ (es ++ h))) (protectAt N S (es ++ h)) q ∙ protect-since h es k
 
   -- A write of b to protect that ended at an entry, and none since: bit 7 of b.
   pub protect-is-last : (b : ℕ) (e : Entry) (h : History) (es : List Entry)
-      → ended N S (e ∷ h) ≡ some (record { to = Protect; byte = b }) → NoProtect (e ∷ h) es → protectAt N S (es ++ (e ∷ h)) ≡ bit7 b
+      → endingAt N S (e ∷ h) ≡ some (record { to = Protect; byte = b }) → NoProtect (e ∷ h) es → protectAt N S (es ++ (e ∷ h)) ≡ bit7 b
   unfolding protectAt
   protect-is-last b e h es q k = protect-since (e ∷ h) es k ∙ ap (λ (o : Option Written). protectBy o (protectAt N S h)) q

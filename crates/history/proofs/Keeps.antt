@@ -4,7 +4,7 @@ use mathlib.Core.Bool.{true}
 use mathlib.Core.List.{[], _∷_}
 use Prim.Native.Nat.{ℕ}
 use Rattle.clock_spec.specs.Shared.{quiet}
-use Rattle.clock_spec.specs.Store.{counted}
+use Rattle.clock_spec.specs.Store.{withEvent}
 use Rattle.clock_spec.specs.Phase.{acceptedPhase}
 use Rattle.clock.specs.Step.{withStore, stepClock}
 use Rattle.clock_spec.specs.declared.Wires.{Wires}
@@ -27,7 +27,7 @@ accepted-after N c w ok h = record { phase = go h; cells = cells-are N c w ok h;
     go [] = ok .phase
     go (e ∷ h) =
         let c′ : Clock = clockAfter N c w h in
-        keeps-step N (withStore c′ (counted (e .event) (c′ .store))) (wiresAt N S h) (e .wires) (go h)
+        keeps-step N (withStore c′ (withEvent (e .event) (c′ .store))) (wiresAt N S h) (e .wires) (go h)
 
 -- A refused record.
 pub step-still : (N : ℕ) (c : Clock) (w : Wires) → Accepted N c w → stepClock N quiet c w w ≡ c

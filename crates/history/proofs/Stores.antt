@@ -14,7 +14,7 @@ use Rattle.clock_spec.specs.Store.{put, act}
 use Rattle.clock_spec.specs.declared.Target.{Target}
 use Rattle.clock_spec.specs.declared.Target.the-variants.{Seconds, Test, Protect, Cell}
 use Rattle.clock_spec.specs.declared.Store.{Store}
-use Rattle.history.specs.History.{protectBy, clears, same, byteTo, replaced}
+use Rattle.history.specs.History.{protectBy, clears, sameTarget, byteTo, withReplaced}
 
 abbrev wr : Target → ℕ → Option Written
 wr t b = some (record { to = t; byte = b })
@@ -33,7 +33,7 @@ protect-done Protect b p s = refl
 protect-done (Cell i) b true s = refl
 protect-done (Cell i) b false s = refl
 
-seconds-done : (t : Target) (b : ℕ) (p : Bool) (s : Store) → done t b p s .seconds ≡ replaced (cond p none (wr t b)) (s .seconds)
+seconds-done : (t : Target) (b : ℕ) (p : Bool) (s : Store) → done t b p s .seconds ≡ withReplaced (cond p none (wr t b)) (s .seconds)
 unfolding put
 seconds-done (Seconds k) b true s = refl
 seconds-done (Seconds k) b false s = refl
@@ -91,7 +91,7 @@ unfolding act
 protect-act none s = refl
 protect-act (some w) s = protect-done (w .to) (w .byte) (s .protect) s
 
-pub seconds-act : (o : Option Written) (s : Store) → act o s .seconds ≡ replaced (cond (s .protect) none o) (s .seconds)
+pub seconds-act : (o : Option Written) (s : Store) → act o s .seconds ≡ withReplaced (cond (s .protect) none o) (s .seconds)
 unfolding act
 seconds-act none s = rw none-either
 seconds-act (some w) s = seconds-done (w .to) (w .byte) (s .protect) s

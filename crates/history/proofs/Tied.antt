@@ -10,9 +10,9 @@ use lib.Dec.{eqb}
 use lib.ListN.{length, take, drop, length-append}
 use lib.Seq.{take-at, drop-at}
 use borrow.Author.Tests.{eqb-true, eqb-false}
-use Rattle.clock_spec.specs.Command.{decode, bit, num}
+use Rattle.clock_spec.specs.Command.{decode, bitNumber, num}
 use Rattle.clock_spec.specs.Shared.{Written, writeBy}
-use Rattle.clock_spec.specs.Phase.{edgeOf, judged}
+use Rattle.clock_spec.specs.Phase.{edgeOf, commandPhase}
 use Rattle.clock.specs.Step.{next, acts}
 use Rattle.clock_spec.specs.declared.Command.{Command}
 use Rattle.clock_spec.specs.declared.Command.the-variants.{Write, Read, Illegal}
@@ -20,7 +20,7 @@ use Rattle.clock_spec.specs.declared.Phase.{Phase}
 use Rattle.clock_spec.specs.declared.Phase.the-variants.{Idle, Listening, Taking, Sending, Ignoring}
 use Rattle.clock_spec.specs.declared.Store.{Store}
 use Rattle.history.specs.History.{push, complete, completeIn}
-use Rattle.history.specs.Start.{bitsOf, begunBy}
+use Rattle.history.specs.Start.{bitsNewestFirst, begunBy}
 use Rattle.history.proofs.Phases.{Parts, write-small}
 use Rattle.history.proofs.Bits.{bits-length, bits-num, not-16, is-16, Dead, dead-more, dead-long, dead-not}
 
@@ -63,27 +63,27 @@ dead-ends N x none d = refl
 dead-ends N x (some bs) d = d [] x
 
 -- The eighth rise.
-eighth : (N : ℕ) (s : Store) (c : ℕ) (bs : List Bool) (k : Command) → length bs ≡ 8 → num bs ≡ c → decode N c ≡ k → Tie N (judged s c k) false (some bs)
+eighth : (N : ℕ) (s : Store) (c : ℕ) (bs : List Bool) (k : Command) → length bs ≡ 8 → num bs ≡ c → decode N c ≡ k → Tie N (commandPhase s c k) false (some bs)
 eighth N s c bs (Write t) h e d = (omega arith, e, refl, omega arith)
 eighth N s c bs (Read t) h e d = dead-not N bs h (λ y. ap (λ (k : Command). writeBy k y) (ap (decode N) e ∙ d))
 eighth N s c bs Illegal h e d = dead-not N bs h (λ y. ap (λ (k : Command). writeBy k y) (ap (decode N) e ∙ d))
 
 -- A rise, by the phase.
 rise-listening : (N : ℕ) (s : Store) (n v : ℕ) (b : Bool) (o : Option (List Bool)) (t : Bool) → eqb n 7 ≡ t → Asked n v o
-    → Tie N (cond t (judged s (2 * v + bit b) (decode N (2 * v + bit b))) (Listening (n + 1) (2 * v + bit b))) false (push b o)
+    → Tie N (cond t (commandPhase s (2 * v + bitNumber b) (decode N (2 * v + bitNumber b))) (Listening (n + 1) (2 * v + bitNumber b))) false (push b o)
 rise-listening N s n v b none t q i = absurd i
 rise-listening N s n v b (some bs) true q (h, e, l) =
     let m : n ≡ 7 = eqb-true n 7 q in
-    eighth N s (2 * v + bit b) (b ∷ bs) (decode N (2 * v + bit b)) (omega arith) (ap (λ (x : ℕ). 2 * x + bit b) e) refl
-rise-listening N s n v b (some bs) false q (h, e, l) = (omega arith, ap (λ (x : ℕ). 2 * x + bit b) e, omega (arith, eqb-false n 7 q))
+    eighth N s (2 * v + bitNumber b) (b ∷ bs) (decode N (2 * v + bitNumber b)) (omega arith) (ap (λ (x : ℕ). 2 * x + bitNumber b) e) refl
+rise-listening N s n v b (some bs) false q (h, e, l) = (omega arith, ap (λ (x : ℕ). 2 * x + bitNumber b) e, omega (arith, eqb-false n 7 q))
 
 rise-taking : (N c n v : ℕ) (b : Bool) (o : Option (List Bool)) (t : Bool) → eqb n 7 ≡ t → Taken c n v o
-    → Tie N (cond t Ignoring (Taking c (n + 1) (2 * v + bit b))) false (push b o)
+    → Tie N (cond t Ignoring (Taking c (n + 1) (2 * v + bitNumber b))) false (push b o)
 rise-taking N c n v b none t q i = absurd i
 rise-taking N c n v b (some bs) true q (h, e, f, l) = let m : n ≡ 7 = eqb-true n 7 q in dead-long N (b ∷ bs) (omega arith)
 rise-taking N c n v b (some bs) false q (h, e, f, l) =
-    subst (λ (k : ℕ). Taken c k (2 * v + bit b) (some (b ∷ bs))) (sym (add-one n))
-    (omega arith, e, ap (λ (x : ℕ). 2 * x + bit b) f, omega (arith, eqb-false n 7 q))
+    subst (λ (k : ℕ). Taken c k (2 * v + bitNumber b) (some (b ∷ bs))) (sym (add-one n))
+    (omega arith, e, ap (λ (x : ℕ). 2 * x + bitNumber b) f, omega (arith, eqb-false n 7 q))
 
 fall-sending : (N y n : ℕ) (o : Option (List Bool)) (t : Bool) → DeadIn N o → Tie N (cond t Ignoring (Sending y (n + 1))) false o
 fall-sending N y n o true d = d
@@ -113,7 +113,7 @@ acts-listening N n v b none i = absurd i
 acts-listening N n v b (some bs) (h, e, l) = sym (not-16 N (b ∷ bs) (λ m. omega arith))
 
 acts-taking : (N c n v : ℕ) (b : Bool) (o : Option (List Bool)) (t : Bool) → eqb n 7 ≡ t → Taken c n v o
-    → cond t (writeBy (decode N c) (2 * v + bit b)) none ≡ completeIn N (push b o)
+    → cond t (writeBy (decode N c) (2 * v + bitNumber b)) none ≡ completeIn N (push b o)
 acts-taking N c n v b none t q i = absurd i
 acts-taking N c n v b (some bs) true q (h, e, f, l) =
     let m : n ≡ 7 = eqb-true n 7 q in
@@ -121,7 +121,7 @@ acts-taking N c n v b (some bs) true q (h, e, f, l) =
     let f7 : num (take 7 bs) ≡ v = rw m at f in
     sym (is-16 N (b ∷ bs) (omega arith)
     ∙ ap (λ (x : ℕ). writeBy (decode N x) (num (take 8 (b ∷ bs)))) e7
-    ∙ ap (λ (x : ℕ). writeBy (decode N c) (2 * x + bit b)) f7)
+    ∙ ap (λ (x : ℕ). writeBy (decode N c) (2 * x + bitNumber b)) f7)
 acts-taking N c n v b (some bs) false q (h, e, f, l) = sym (not-16 N (b ∷ bs) (λ m. omega (arith, eqb-false n 7 q)))
 
 -- At one entry the chip acts on the write that ends there in the history.
@@ -146,9 +146,9 @@ tie-start N p true k = tt
 tie-start N Idle false k = absurd (false≢true k)
 tie-start N (Listening n v) false (q, l, u) = (bits-length n v, bits-num n v u, l)
 tie-start N (Taking c n v) false (q, g, l, u) = (
-  omega (arith, length-append (bitsOf n v) (bitsOf 8 c), bits-length n v, bits-length 8 c),
-  ap num (drop-at (bitsOf n v) (bitsOf 8 c) n (bits-length n v)) ∙ bits-num 8 c (omega (arith, write-small N c g)),
-  ap num (take-at (bitsOf n v) (bitsOf 8 c) n (bits-length n v)) ∙ bits-num n v u,
+  omega (arith, length-append (bitsNewestFirst n v) (bitsNewestFirst 8 c), bits-length n v, bits-length 8 c),
+  ap num (drop-at (bitsNewestFirst n v) (bitsNewestFirst 8 c) n (bits-length n v)) ∙ bits-num 8 c (omega (arith, write-small N c g)),
+  ap num (take-at (bitsNewestFirst n v) (bitsNewestFirst 8 c) n (bits-length n v)) ∙ bits-num n v u,
   l,
 )
 tie-start N (Sending y n) false k = tt

@@ -9,7 +9,7 @@ use Rattle.clock.specs.Step.{stepClock}
 use Rattle.clock_spec.specs.declared.Wires.{Wires}
 use Rattle.clock_spec.specs.declared.Store.{Store}
 use Rattle.clock.specs.declared.Clock.{Clock}
-use Rattle.history.specs.History.{Entry, History, wiresAt, cellAt, testAt, protectAt, secondsAt, gained, Kept}
+use Rattle.history.specs.History.{Entry, History, wiresAt, cellAt, testAt, protectAt, secondsAt, gainSince, Kept}
 use Rattle.history.specs.Start.{startOf}
 
 -- The chip after a history that starts with the chip c and the wires w: demand 2's step at each entry.
@@ -31,4 +31,4 @@ pub record Demand3 (N : ℕ) (c : Clock) (w : Wires) (h : History) : Type 0 wher
   pub test : storeAfter N c w h .test ≡ testAt N (startOf c w) h
   pub underProtect : (es : List Entry) → protectAt N (startOf c w) h ≡ true → Kept N (startOf c w) h es
       → (storeAfter N c w (es ++ h) .cells ≡ storeAfter N c w h .cells)
-      × (storeAfter N c w (es ++ h) .seconds ≡ wrap (storeAfter N c w h .seconds + gained N (startOf c w) h es))
+      × (storeAfter N c w (es ++ h) .seconds ≡ wrap (storeAfter N c w h .seconds + gainSince N (startOf c w) h es))

@@ -39,8 +39,8 @@ abbrev pub together : Wires → Wires → Bool
 together w w′ = not (w .enable) && not (w′ .enable)
 
 -- "A rise is an entry with data-clock 1 directly after one with 0 in the same stretch."
-abbrev pub rose : Wires → Wires → Bool
-rose w w′ = together w w′ && (not (w .dataclock) && w′ .dataclock)
+abbrev pub isRise : Wires → Wires → Bool
+isRise w w′ = together w w′ && (not (w .dataclock) && w′ .dataclock)
 
 -- "Its bit is its data": one more bit of the stretch.
 abbrev pub push : Bool → Option (List Bool) → Option (List Bool)
@@ -66,28 +66,28 @@ clears none = false
 clears (some w) = elim (w .to) [ Seconds k ↦ false | Test ↦ false | Protect ↦ not (bit7 (w .byte)) | Cell i ↦ false ]
 
 -- Whether two targets are one.
-abbrev pub same : Target → Target → Bool
-same (Seconds k) (Seconds j) = eqb k j
-same (Seconds k) Test = false
-same (Seconds k) Protect = false
-same (Seconds k) (Cell j) = false
-same Test (Seconds j) = false
-same Test Test = true
-same Test Protect = false
-same Test (Cell j) = false
-same Protect (Seconds j) = false
-same Protect Test = false
-same Protect Protect = true
-same Protect (Cell j) = false
-same (Cell i) (Seconds j) = false
-same (Cell i) Test = false
-same (Cell i) Protect = false
-same (Cell i) (Cell j) = eqb i j
+abbrev pub sameTarget : Target → Target → Bool
+sameTarget (Seconds k) (Seconds j) = eqb k j
+sameTarget (Seconds k) Test = false
+sameTarget (Seconds k) Protect = false
+sameTarget (Seconds k) (Cell j) = false
+sameTarget Test (Seconds j) = false
+sameTarget Test Test = true
+sameTarget Test Protect = false
+sameTarget Test (Cell j) = false
+sameTarget Protect (Seconds j) = false
+sameTarget Protect Test = false
+sameTarget Protect Protect = true
+sameTarget Protect (Cell j) = false
+sameTarget (Cell i) (Seconds j) = false
+sameTarget (Cell i) Test = false
+sameTarget (Cell i) Protect = false
+sameTarget (Cell i) (Cell j) = eqb i j
 
 -- The byte of a write where it goes to t, else d.
 abbrev pub byteTo : Target → Option Written → ℕ → ℕ
 byteTo t none d = d
-byteTo t (some w) d = cond (same t (w .to)) (w .byte) d
+byteTo t (some w) d = cond (sameTarget t (w .to)) (w .byte) d
 
 -- "An SE done adds 1 and a PW done its seconds off."
 abbrev pub gain : Event → ℕ
@@ -96,13 +96,13 @@ gain second = 1
 gain (off n) = n
 
 -- "A complete write to a seconds byte .. replaces that byte."
-abbrev pub replaced : Option Written → ℕ → ℕ
-replaced none s = s
-replaced (some w) s = elim (w .to) [ Seconds k ↦ replace k (w .byte) s | Test ↦ s | Protect ↦ s | Cell i ↦ s ]
+abbrev pub withReplaced : Option Written → ℕ → ℕ
+withReplaced none s = s
+withReplaced (some w) s = elim (w .to) [ Seconds k ↦ replace k (w .byte) s | Test ↦ s | Protect ↦ s | Cell i ↦ s ]
 
 -- W-204: "counts only ticks and time off met with both bits clear".
-abbrev pub met : Bool → Event → ℕ
-met stopped e = cond stopped 0 (gain e)
+abbrev pub gainUnless : Bool → Event → ℕ
+gainUnless stopped e = cond stopped 0 (gain e)
 
 module _ (N : ℕ) (S : Start) where
   -- The wires at the newest entry.
@@ -115,29 +115,29 @@ module _ (N : ℕ) (S : Start) where
   rises [] = S .begun
   rises (e ∷ h) =
       cond (together (wiresAt h) (e .wires))
-      (cond (rose (wiresAt h) (e .wires)) (push (e .wires .dataline) (rises h)) (rises h))
+      (cond (isRise (wiresAt h) (e .wires)) (push (e .wires .dataline) (rises h)) (rises h))
       (some [])
 
   -- The complete write that ends at the newest entry, if one does.
-  unfoldable pub ended : History → Option Written
-  ended [] = none
-  ended (e ∷ h) = cond (rose (wiresAt h) (e .wires)) (completeIn N (rises (e ∷ h))) none
+  unfoldable pub endingAt : History → Option Written
+  endingAt [] = none
+  endingAt (e ∷ h) = cond (isRise (wiresAt h) (e .wires)) (completeIn N (rises (e ∷ h))) none
 
   -- "Protect before an entry is bit 7 of the last complete write to protect that ended earlier, or 0", or what it was at the start:
   -- before the entry e of e ∷ h it is protectAt h.
   unfoldable pub protectAt : History → Bool
   protectAt [] = S .protect
-  protectAt (e ∷ h) = protectBy (ended (e ∷ h)) (protectAt h)
+  protectAt (e ∷ h) = protectBy (endingAt (e ∷ h)) (protectAt h)
 
   -- "A write ends with protect clear if this is 0 before the entry where it ends": the one that ends so at the newest entry, if one does.
-  unfoldable pub endedClear : History → Option Written
-  endedClear [] = none
-  endedClear (e ∷ h) = cond (protectAt h) none (ended (e ∷ h))
+  unfoldable pub endingClear : History → Option Written
+  endingClear [] = none
+  endingClear (e ∷ h) = cond (protectAt h) none (endingAt (e ∷ h))
 
   -- The byte of the last complete write to t that ended with protect clear, or d.
   unfoldable pub last : Target → ℕ → History → ℕ
   last t d [] = d
-  last t d (e ∷ h) = byteTo t (endedClear (e ∷ h)) (last t d h)
+  last t d (e ∷ h) = byteTo t (endingClear (e ∷ h)) (last t d h)
 
   abbrev pub cellAt : ℕ → History → ℕ
   cellAt i h = last (Cell i) (getD (S .cells) i 0) h
@@ -150,14 +150,14 @@ module _ (N : ℕ) (S : Start) where
   -- ended with protect clear, or 0", or the start's.
   unfoldable pub secondsAt : History → ℕ
   secondsAt [] = S .seconds
-  secondsAt (e ∷ h) = replaced (endedClear (e ∷ h)) (wrap (secondsAt h + met (stops (testAt h)) (e .event)))
+  secondsAt (e ∷ h) = withReplaced (endingClear (e ∷ h)) (wrap (secondsAt h + gainUnless (stops (testAt h)) (e .event)))
 
   -- What the SE and PW done in the entries es after h add; the test byte is the one before each.
-  unfoldable pub gained : History → List Entry → ℕ
-  gained h [] = 0
-  gained h (e ∷ es) = gained h es + met (stops (testAt (es ++ h))) (e .event)
+  unfoldable pub gainSince : History → List Entry → ℕ
+  gainSince h [] = 0
+  gainSince h (e ∷ es) = gainSince h es + gainUnless (stops (testAt (es ++ h))) (e .event)
 
   -- "No clearing write having ended since": in the entries es after h.
   abbrev pub Kept : History → List Entry → Type 0
   Kept h [] = Unit {0}
-  Kept h (e ∷ es) = (clears (ended (e ∷ (es ++ h))) ≡ false) × Kept h es
+  Kept h (e ∷ es) = (clears (endingAt (e ∷ (es ++ h))) ≡ false) × Kept h es

@@ -8,7 +8,7 @@ use lib.ListN.{getD}
 use Rattle.clock_spec.specs.Shared.{wrap}
 use Rattle.clock_spec.specs.declared.Wires.{Wires}
 use Rattle.clock.specs.declared.Clock.{Clock}
-use Rattle.history.specs.History.{Start, Entry, History, wiresAt, cellAt, testAt, protectAt, secondsAt, gained, Kept}
+use Rattle.history.specs.History.{Start, Entry, History, wiresAt, cellAt, testAt, protectAt, secondsAt, gainSince, Kept}
 use Rattle.history.specs.Start.{startOf, Accepted}
 use Rattle.history.specs.Demand3.{clockAfter}
 
@@ -30,7 +30,7 @@ module _ {M I : Type 0} (step : I → M → M) (trace : I → M → List Entry) 
 
 -- What is asked of a machine: where the chip and its wires are accepted, an item acts on the chip as its entries do and leaves the wires of the
 -- newest of them.
-pub record Drives {M I : Type 0} (N : ℕ) (clock : M → Clock) (wires : M → Wires) (step : I → M → M) (trace : I → M → List Entry) : Type 0 where
+pub record FollowsEntries {M I : Type 0} (N : ℕ) (clock : M → Clock) (wires : M → Wires) (step : I → M → M) (trace : I → M → List Entry) : Type 0 where
   pub clock-is : (i : I) (m : M) → Accepted N (clock m) (wires m) → clock (step i m) ≡ clockAfter N (clock m) (wires m) (trace i m)
   pub wires-are : (i : I) (m : M) → Accepted N (clock m) (wires m) → wires (step i m) ≡ wiresAt N (startOf (clock m) (wires m)) (trace i m)
 
@@ -49,4 +49,4 @@ module _ {M I : Type 0} (N : ℕ) (clock : M → Clock) (wires : M → Wires) (s
     pub test : after m is .store .test ≡ testAt N (start m) (historyOf step trace m is)
     pub underProtect : (js : List I) → after m is .store .protect ≡ true → Kept N (start m) (historyOf step trace m is) (entriesSince step trace m is js)
         → (after m (js ++ is) .store .cells ≡ after m is .store .cells)
-        × (after m (js ++ is) .store .seconds ≡ wrap (after m is .store .seconds + gained N (start m) (historyOf step trace m is) (entriesSince step trace m is js)))
+        × (after m (js ++ is) .store .seconds ≡ wrap (after m is .store .seconds + gainSince N (start m) (historyOf step trace m is) (entriesSince step trace m is js)))

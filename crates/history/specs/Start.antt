@@ -15,15 +15,15 @@ use Rattle.clock.specs.declared.Clock.{Clock}
 use Rattle.history.specs.History.{Start}
 
 -- The n bits of a number, the lowest and newest first.
-abbrev pub bitsOf : ℕ → ℕ → List Bool
-bitsOf zero v = []
-bitsOf (suc n) v = eqb (v % 2) 1 ∷ bitsOf n (v / 2)
+abbrev pub bitsNewestFirst : ℕ → ℕ → List Bool
+bitsNewestFirst zero v = []
+bitsNewestFirst (suc n) v = eqb (v % 2) 1 ∷ bitsNewestFirst n (v / 2)
 
 -- "A stretch open in the image begins with the rises and bits already taken, and holds no complete write where the chip sends or ignores."
 abbrev pub begunBy : Phase → Option (List Bool)
 begunBy Idle = some []
-begunBy (Listening n v) = some (bitsOf n v)
-begunBy (Taking c n v) = some (bitsOf n v ++ bitsOf 8 c)
+begunBy (Listening n v) = some (bitsNewestFirst n v)
+begunBy (Taking c n v) = some (bitsNewestFirst n v ++ bitsNewestFirst 8 c)
 begunBy (Sending y n) = none
 begunBy Ignoring = none
 

@@ -2,7 +2,7 @@
 ghost use mathlib.Core.Path.{_≡_};
 ghost use Prim.Native.Nat.{_≤_};
 ghost use lib.ListN.{length};
-ghost use Rattle.item_spec.specs.Items.{refusalOf, plainOf, readOf, writeOf, powerOf};
+ghost use Rattle.item_spec.specs.Items.{refusalOf, plainRecord, readRecord, writeRecord, powerRecord};
 use item_spec::Decoded;
 use item_spec::Found;
 use item_spec::Item;
@@ -21,7 +21,7 @@ pub fn refusal(d: Decoded) -> u8
 // VB, SE, RS: an item that is its wait alone.
 pub fn plain_item(s: &[u8], what: Plain) -> Decoded
     requires { ⌜ 2 ≤ length (now s) ⌝ }
-    ensures { λ r. ⌜ r ≡ plainOf (now (s .entry)) what ⌝ }
+    ensures { λ r. ⌜ r ≡ plainRecord (now (s .entry)) what ⌝ }
 {
     if s.len() != 4 {
         return Decoded::Refused(3);
@@ -37,7 +37,7 @@ pub fn plain_item(s: &[u8], what: Plain) -> Decoded
 // RD
 pub fn read_item(s: &[u8]) -> Decoded
     requires { ⌜ 2 ≤ length (now s) ⌝ }
-    ensures { λ r. ⌜ r ≡ readOf (now (s .entry)) ⌝ }
+    ensures { λ r. ⌜ r ≡ readRecord (now (s .entry)) ⌝ }
 {
     if s.len() != 8 {
         return Decoded::Refused(3);
@@ -53,7 +53,7 @@ pub fn read_item(s: &[u8]) -> Decoded
 // WR
 pub fn write_item(s: &[u8]) -> Decoded
     requires { ⌜ 2 ≤ length (now s) ⌝ }
-    ensures { λ r. ⌜ r ≡ writeOf (now (s .entry)) ⌝ }
+    ensures { λ r. ⌜ r ≡ writeRecord (now (s .entry)) ⌝ }
 {
     if s.len() != 9 {
         return Decoded::Refused(3);
@@ -78,7 +78,7 @@ pub fn write_item(s: &[u8]) -> Decoded
 // PW
 pub fn power_item(s: &[u8]) -> Decoded
     requires { ⌜ 2 ≤ length (now s) ⌝ }
-    ensures { λ r. ⌜ r ≡ powerOf (now (s .entry)) ⌝ }
+    ensures { λ r. ⌜ r ≡ powerRecord (now (s .entry)) ⌝ }
 {
     if s.len() != 8 {
         return Decoded::Refused(3);

@@ -2,14 +2,14 @@
 ghost use mathlib.Core.Path.{_≡_};
 ghost use Prim.Native.Nat.{_≤_};
 ghost use lib.ListN.{length};
-ghost use Rattle.item_spec.specs.Ranged.{lineOf, senseOf, diskOf};
+ghost use Rattle.item_spec.specs.Ranged.{lineRecord, senseRecord, diskRecord};
 use item_spec::Decoded;
 use item_spec::Item;
 
 // IN
 pub fn line_item(s: &[u8]) -> Decoded
     requires { ⌜ 2 ≤ length (now s) ⌝ }
-    ensures { λ r. ⌜ r ≡ lineOf (now (s .entry)) ⌝ }
+    ensures { λ r. ⌜ r ≡ lineRecord (now (s .entry)) ⌝ }
 {
     if s.len() != 6 {
         return Decoded::Refused(3);
@@ -29,7 +29,7 @@ pub fn line_item(s: &[u8]) -> Decoded
 // SN
 pub fn sense_item(s: &[u8]) -> Decoded
     requires { ⌜ 2 ≤ length (now s) ⌝ }
-    ensures { λ r. ⌜ r ≡ senseOf (now (s .entry)) ⌝ }
+    ensures { λ r. ⌜ r ≡ senseRecord (now (s .entry)) ⌝ }
 {
     if s.len() != 7 {
         return Decoded::Refused(3);
@@ -51,7 +51,7 @@ pub fn sense_item(s: &[u8]) -> Decoded
 // DI
 pub fn disk_item(s: &[u8]) -> Decoded
     requires { ⌜ 2 ≤ length (now s) ⌝ }
-    ensures { λ r. ⌜ r ≡ diskOf (now (s .entry)) ⌝ }
+    ensures { λ r. ⌜ r ≡ diskRecord (now (s .entry)) ⌝ }
 {
     if s.len() != 8 {
         return Decoded::Refused(3);

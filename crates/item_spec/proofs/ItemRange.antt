@@ -10,8 +10,8 @@ use borrow.Author.Tests.{ltb-false}
 use Rattle.octets.specs.Octets.{le32Of, Bytes}
 use Rattle.octets.proofs.Laws.{le16-width, le32-width}
 use Rattle.item_spec.specs.Addresses.{foundOf}
-use Rattle.item_spec.specs.Items.{sized, placed, waitOf, readOf, writeOf, powerOf, plainItem, plainOf, InRange, InWidth}
-use Rattle.item_spec.specs.Ranged.{upTo, lineOf, senseOf, diskOf}
+use Rattle.item_spec.specs.Items.{ofLength, atAddress, recordWait, readRecord, writeRecord, powerRecord, plainItem, plainRecord, ItemInRange, ItemInWidth}
+use Rattle.item_spec.specs.Ranged.{atMost, lineRecord, senseRecord, diskRecord}
 use Rattle.item_spec.specs.Kinds.{isKind, decodedOf}
 use Rattle.item_spec.specs.declared.Item.{Item}
 use Rattle.item_spec.specs.declared.Item.the-variants.{ReadVia, ReadIwm, WriteVia, WriteIwm}
@@ -32,27 +32,27 @@ module _ (P : Item → Type 0) where
   good-cond true x y g h = g
   good-cond false x y g h = h
 
-  good-sized : (s : List ℕ) (n : ℕ) (x : Decoded) → Good P x → Good P (sized s n x)
+  good-sized : (s : List ℕ) (n : ℕ) (x : Decoded) → Good P x → Good P (ofLength s n x)
   good-sized s n x g = good-cond (eqb (length s) n) x (Refused 3) g tt
 
-  good-upTo : (v most : ℕ) (x : Decoded) → (v ≤ most → Good P x) → Good P (upTo v most x)
+  good-upTo : (v most : ℕ) (x : Decoded) → (v ≤ most → Good P x) → Good P (atMost v most x)
   good-upTo v most x g = go (ltb most v) refl
     where
       go : (t : Bool) → ltb most v ≡ t → Good P (cond t (Refused 5) x)
       go true e = tt
       go false e = g (ltb-false _ _ e)
 
-  good-placed : (a : ℕ) (f g : ℕ → Item) → ((r : ℕ) → r < 16 → P (f r)) → ((k : ℕ) → k < 16 → P (g k)) → Good P (placed (foundOf a) f g)
+  good-placed : (a : ℕ) (f g : ℕ → Item) → ((r : ℕ) → r < 16 → P (f r)) → ((k : ℕ) → k < 16 → P (g k)) → Good P (atAddress (foundOf a) f g)
   good-placed a f g p q = go (foundOf a) refl
     where
-      go : (x : Found) → foundOf a ≡ x → Good P (placed x f g)
+      go : (x : Found) → foundOf a ≡ x → Good P (atAddress x f g)
       go (Via r) e = p r (found-via a r e .0)
       go (Iwm k) e = q k (found-iwm a k e .0)
       go Nowhere e = tt
 
   -- the table of kinds, once for every P
-  good-all : (s : List ℕ) → Good P (readOf s) → Good P (writeOf s) → ((k : Plain) → Good P (plainOf s k)) → Good P (lineOf s) → Good P (senseOf s) → Good P (powerOf s)
-      → Good P (diskOf s) → Good P (decodedOf s)
+  good-all : (s : List ℕ) → Good P (readRecord s) → Good P (writeRecord s) → ((k : Plain) → Good P (plainRecord s k)) → Good P (lineRecord s) → Good P (senseRecord s) → Good P (powerRecord s)
+      → Good P (diskRecord s) → Good P (decodedOf s)
   unfolding decodedOf
   good-all s rd wr plain line sn pw di =
       good-cond (isKind s (82 ∷ 68 ∷ [])) _ _ rd
@@ -65,47 +65,47 @@ module _ (P : Item → Type 0) where
       (good-cond (isKind s (80 ∷ 87 ∷ [])) _ _ pw
       (good-cond (isKind s (68 ∷ 73 ∷ [])) _ _ di tt))))))))
 
-plain-range : (k : Plain) (w : ℕ) → InRange (plainItem k w)
+plain-range : (k : Plain) (w : ℕ) → ItemInRange (plainItem k w)
 plain-range Plain.Blank w = tt
 plain-range Plain.Second w = tt
 plain-range Plain.Reset w = tt
 
-in-range : (s : List ℕ) → Good InRange (decodedOf s)
-unfolding readOf writeOf lineOf senseOf powerOf diskOf plainOf
+in-range : (s : List ℕ) → Good ItemInRange (decodedOf s)
+unfolding readRecord writeRecord lineRecord senseRecord powerRecord diskRecord plainRecord
 in-range s =
-    good-all InRange s
-    (good-sized InRange s 8 _ (good-placed InRange (le32Of s 4) (λ r. ReadVia (waitOf s) r) (λ k. ReadIwm (waitOf s) k) (λ r h. h) (λ k h. h)))
-    (good-sized InRange s 9 _ (good-placed InRange (le32Of s 4) (λ r. WriteVia (waitOf s) r (getD s 8 0)) (λ k. WriteIwm (waitOf s) k (getD s 8 0)) (λ r h. h) (λ k h. h)))
-    (λ k. good-sized InRange s 4 _ (plain-range k (waitOf s)))
-    (good-sized InRange s 6 _ (good-upTo InRange (getD s 4 0) 6 _ (λ a. good-upTo InRange (getD s 5 0) 1 _ (λ b. (omega arith, omega arith)))))
-    (good-sized InRange s 7 _ (good-upTo InRange (getD s 4 0) 1 _ (λ a. good-upTo InRange (getD s 5 0) 15 _ (λ b. good-upTo InRange (getD s 6 0) 1 _ (λ c. (omega arith, omega arith, omega arith))))))
-    (good-sized InRange s 8 _ tt)
-    (good-sized InRange s 8 _
-    (good-upTo InRange (getD s 4 0) 1 _ (λ a. good-upTo InRange (getD s 5 0) 1 _ (λ b. good-upTo InRange (getD s 6 0) 1 _ (λ c. good-upTo InRange (getD s 7 0) 1 _ (λ d. (omega arith, omega arith, omega arith, omega arith)))))))
+    good-all ItemInRange s
+    (good-sized ItemInRange s 8 _ (good-placed ItemInRange (le32Of s 4) (λ r. ReadVia (recordWait s) r) (λ k. ReadIwm (recordWait s) k) (λ r h. h) (λ k h. h)))
+    (good-sized ItemInRange s 9 _ (good-placed ItemInRange (le32Of s 4) (λ r. WriteVia (recordWait s) r (getD s 8 0)) (λ k. WriteIwm (recordWait s) k (getD s 8 0)) (λ r h. h) (λ k h. h)))
+    (λ k. good-sized ItemInRange s 4 _ (plain-range k (recordWait s)))
+    (good-sized ItemInRange s 6 _ (good-upTo ItemInRange (getD s 4 0) 6 _ (λ a. good-upTo ItemInRange (getD s 5 0) 1 _ (λ b. (omega arith, omega arith)))))
+    (good-sized ItemInRange s 7 _ (good-upTo ItemInRange (getD s 4 0) 1 _ (λ a. good-upTo ItemInRange (getD s 5 0) 15 _ (λ b. good-upTo ItemInRange (getD s 6 0) 1 _ (λ c. (omega arith, omega arith, omega arith))))))
+    (good-sized ItemInRange s 8 _ tt)
+    (good-sized ItemInRange s 8 _
+    (good-upTo ItemInRange (getD s 4 0) 1 _ (λ a. good-upTo ItemInRange (getD s 5 0) 1 _ (λ b. good-upTo ItemInRange (getD s 6 0) 1 _ (λ c. good-upTo ItemInRange (getD s 7 0) 1 _ (λ d. (omega arith, omega arith, omega arith, omega arith)))))))
 
 -- every item that the decoder lets through is in range
-pub decoded-range : (s : List ℕ) (x : Item) → decodedOf s ≡ Done x → InRange x
-decoded-range s x e = subst (Good InRange) e (in-range s)
+pub decoded-range : (s : List ℕ) (x : Item) → decodedOf s ≡ Done x → ItemInRange x
+decoded-range s x e = subst (Good ItemInRange) e (in-range s)
 
-plain-width : (k : Plain) (w : ℕ) → w < 65536 → InWidth (plainItem k w)
+plain-width : (k : Plain) (w : ℕ) → w < 65536 → ItemInWidth (plainItem k w)
 plain-width Plain.Blank w h = h
 plain-width Plain.Second w h = h
 plain-width Plain.Reset w h = h
 
-in-width : (s : List ℕ) → Bytes s → Good InWidth (decodedOf s)
-unfolding readOf writeOf lineOf senseOf powerOf diskOf plainOf
+in-width : (s : List ℕ) → Bytes s → Good ItemInWidth (decodedOf s)
+unfolding readRecord writeRecord lineRecord senseRecord powerRecord diskRecord plainRecord
 in-width s bs =
-    let w : waitOf s < 65536 = le16-width s 2 bs in
-    good-all InWidth s
-    (good-sized InWidth s 8 _ (good-placed InWidth (le32Of s 4) (λ r. ReadVia (waitOf s) r) (λ k. ReadIwm (waitOf s) k) (λ r h. w) (λ k h. w)))
-    (good-sized InWidth s 9 _ (good-placed InWidth (le32Of s 4) (λ r. WriteVia (waitOf s) r (getD s 8 0)) (λ k. WriteIwm (waitOf s) k (getD s 8 0)) (λ r h. (w, bs 8)) (λ k h. (w, bs 8))))
-    (λ k. good-sized InWidth s 4 _ (plain-width k (waitOf s) w))
-    (good-sized InWidth s 6 _ (good-upTo InWidth (getD s 4 0) 6 _ (λ a. good-upTo InWidth (getD s 5 0) 1 _ (λ b. w))))
-    (good-sized InWidth s 7 _ (good-upTo InWidth (getD s 4 0) 1 _ (λ a. good-upTo InWidth (getD s 5 0) 15 _ (λ b. good-upTo InWidth (getD s 6 0) 1 _ (λ c. w)))))
-    (good-sized InWidth s 8 _ (w, le32-width s 4 bs))
-    (good-sized InWidth s 8 _
-    (good-upTo InWidth (getD s 4 0) 1 _ (λ a. good-upTo InWidth (getD s 5 0) 1 _ (λ b. good-upTo InWidth (getD s 6 0) 1 _ (λ c. good-upTo InWidth (getD s 7 0) 1 _ (λ d. w))))))
+    let w : recordWait s < 65536 = le16-width s 2 bs in
+    good-all ItemInWidth s
+    (good-sized ItemInWidth s 8 _ (good-placed ItemInWidth (le32Of s 4) (λ r. ReadVia (recordWait s) r) (λ k. ReadIwm (recordWait s) k) (λ r h. w) (λ k h. w)))
+    (good-sized ItemInWidth s 9 _ (good-placed ItemInWidth (le32Of s 4) (λ r. WriteVia (recordWait s) r (getD s 8 0)) (λ k. WriteIwm (recordWait s) k (getD s 8 0)) (λ r h. (w, bs 8)) (λ k h. (w, bs 8))))
+    (λ k. good-sized ItemInWidth s 4 _ (plain-width k (recordWait s) w))
+    (good-sized ItemInWidth s 6 _ (good-upTo ItemInWidth (getD s 4 0) 6 _ (λ a. good-upTo ItemInWidth (getD s 5 0) 1 _ (λ b. w))))
+    (good-sized ItemInWidth s 7 _ (good-upTo ItemInWidth (getD s 4 0) 1 _ (λ a. good-upTo ItemInWidth (getD s 5 0) 15 _ (λ b. good-upTo ItemInWidth (getD s 6 0) 1 _ (λ c. w)))))
+    (good-sized ItemInWidth s 8 _ (w, le32-width s 4 bs))
+    (good-sized ItemInWidth s 8 _
+    (good-upTo ItemInWidth (getD s 4 0) 1 _ (λ a. good-upTo ItemInWidth (getD s 5 0) 1 _ (λ b. good-upTo ItemInWidth (getD s 6 0) 1 _ (λ c. good-upTo ItemInWidth (getD s 7 0) 1 _ (λ d. w))))))
 
 -- of a record of bytes, the item's wait, value and seconds are within their widths
-pub decoded-width : (s : List ℕ) (x : Item) → Bytes s → decodedOf s ≡ Done x → InWidth x
-decoded-width s x bs e = subst (Good InWidth) e (in-width s bs)
+pub decoded-width : (s : List ℕ) (x : Item) → Bytes s → decodedOf s ≡ Done x → ItemInWidth x
+decoded-width s x bs e = subst (Good ItemInWidth) e (in-width s bs)

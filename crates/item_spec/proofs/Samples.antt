@@ -3,8 +3,8 @@ use mathlib.Core.Path.{_≡_, refl}
 use mathlib.Core.List.{[], _∷_}
 use Rattle.octets.specs.Octets.{le16Of, le32Of}
 use Rattle.item_spec.specs.Addresses.{placeFrom, foundOf}
-use Rattle.item_spec.specs.Items.{plainOf, readOf, writeOf, powerOf}
-use Rattle.item_spec.specs.Ranged.{lineOf, senseOf, diskOf}
+use Rattle.item_spec.specs.Items.{plainRecord, readRecord, writeRecord, powerRecord}
+use Rattle.item_spec.specs.Ranged.{lineRecord, senseRecord, diskRecord}
 use Rattle.item_spec.specs.Kinds.{isKind, decodedOf}
 use Rattle.item_spec.specs.declared.Item.{Item}
 use Rattle.item_spec.specs.declared.Item.the-variants.{ReadVia, ReadIwm, WriteVia, Line, Sense, Power, Disk}
@@ -44,7 +44,7 @@ pub record Samples : Type 0 where
   pub state : decodedOf (83 ∷ 84 ∷ 0 ∷ 0 ∷ []) ≡ Refused 2
 
 pub samples : Samples
-unfolding le16Of le32Of isKind placeFrom foundOf plainOf readOf writeOf lineOf senseOf powerOf diskOf decodedOf
+unfolding le16Of le32Of isKind placeFrom foundOf plainRecord readRecord writeRecord lineRecord senseRecord powerRecord diskRecord decodedOf
 samples =
     record {
       read = refl;

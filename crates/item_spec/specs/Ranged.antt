@@ -4,29 +4,29 @@ use mathlib.Core.Bool.{cond}
 use mathlib.Core.List.{List}
 use lib.ListN.{getD}
 use lib.Dec.{ltb}
-use Rattle.item_spec.specs.Items.{sized, waitOf}
+use Rattle.item_spec.specs.Items.{ofLength, recordWait}
 use Rattle.item_spec.specs.declared.Item.the-variants.{Line, Sense, Disk}
 use Rattle.item_spec.specs.declared.Decoded.{Decoded}
 use Rattle.item_spec.specs.declared.Decoded.the-variants.{Done, Refused}
 
 -- Refusal 5, "line, drive, register or level out of range".
-abbrev pub upTo : ℕ → ℕ → Decoded → Decoded
-upTo v most x = cond (ltb most v) (Refused 5) x
+abbrev pub atMost : ℕ → ℕ → Decoded → Decoded
+atMost v most x = cond (ltb most v) (Refused 5) x
 
 -- IN, 6: "line 0 to 4, level 0 or 1"; W-205: "IN gains line 5 (serial chip asks) and line 6 (programmer's switch)".
-unfoldable pub lineOf : List ℕ → Decoded
-lineOf s = sized s 6 (upTo (getD s 4 0) 6 (upTo (getD s 5 0) 1 (Done (Line (waitOf s) (getD s 4 0) (getD s 5 0)))))
+unfoldable pub lineRecord : List ℕ → Decoded
+lineRecord s = ofLength s 6 (atMost (getD s 4 0) 6 (atMost (getD s 5 0) 1 (Done (Line (recordWait s) (getD s 4 0) (getD s 5 0)))))
 
 -- SN, 7: "drive 0 internal or 1 external, register 0 to 15, level".
-unfoldable pub senseOf : List ℕ → Decoded
-senseOf s =
-    sized s 7 (upTo (getD s 4 0) 1 (upTo (getD s 5 0) 15 (upTo (getD s 6 0) 1 (Done (Sense (waitOf s) (getD s 4 0) (getD s 5 0) (getD s 6 0))))))
+unfoldable pub senseRecord : List ℕ → Decoded
+senseRecord s =
+    ofLength s 7 (atMost (getD s 4 0) 1 (atMost (getD s 5 0) 15 (atMost (getD s 6 0) 1 (Done (Sense (recordWait s) (getD s 4 0) (getD s 5 0) (getD s 6 0))))))
 
 -- DI, 8: "drive, insert 1 or remove 0, locked 1, double-sided 1"; "in all four, always, other values get refusal 5".
-unfoldable pub diskOf : List ℕ → Decoded
-diskOf s =
-    sized s 8
-    (upTo (getD s 4 0) 1
-    (upTo (getD s 5 0) 1
-    (upTo (getD s 6 0) 1
-    (upTo (getD s 7 0) 1 (Done (Disk (waitOf s) (getD s 4 0) (getD s 5 0) (getD s 6 0) (getD s 7 0)))))))
+unfoldable pub diskRecord : List ℕ → Decoded
+diskRecord s =
+    ofLength s 8
+    (atMost (getD s 4 0) 1
+    (atMost (getD s 5 0) 1
+    (atMost (getD s 6 0) 1
+    (atMost (getD s 7 0) 1 (Done (Disk (recordWait s) (getD s 4 0) (getD s 5 0) (getD s 6 0) (getD s 7 0)))))))

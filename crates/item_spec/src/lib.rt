@@ -1,5 +1,5 @@
-// Records, items and answers: types, what document 01 says of them (specs/) and the laws of that (proofs/). The code is in addresses, record, items,
-// ranged and kinds.
+// Records, items and answers: types, what document 01 says of them (specs/) and the laws of that (proofs/).
+// The code is in the other crates of the family.
 
 // Which of sixteen places, 512 apart, an address is.
 pub enum Place {

@@ -3,8 +3,8 @@ ghost use mathlib.Core.Path.{_≡_};
 ghost use mathlib.Core.Bool.{true};
 ghost use Prim.Native.Nat.{_<_};
 ghost use Rattle.levels.specs.Levels.{allLevels};
-ghost use Rattle.via.specs.Writes.{written};
-ghost use Rattle.disk_lines.specs.Lines.{accessed};
+ghost use Rattle.via.specs.Writes.{viaWritten};
+ghost use Rattle.disk_lines.specs.Lines.{afterAccess};
 ghost use Rattle.machine_spec.specs.Machine.{withVia, withDisk, noValue, Levels};
 ghost use Rattle.machine_spec.specs.Accesses.{viaRead, iwmRead};
 use machine_spec::Did;
@@ -56,7 +56,7 @@ pub fn read_iwm(mut m: Machine, location: u8) -> Did
 // WR of a VIA register.
 pub fn write_via(mut m: Machine, register: u8, value: u8) -> Did
     requires { ⌜ register < 16 ⌝ }
-    ensures { λ r. ⌜ r ≡ noValue (withVia m (written register value (m .via))) ⌝ }
+    ensures { λ r. ⌜ r ≡ noValue (withVia m (viaWritten register value (m .via))) ⌝ }
 {
     m.via = m.via.write(register, value);
     Did {
@@ -68,7 +68,7 @@ pub fn write_via(mut m: Machine, register: u8, value: u8) -> Did
 // WR of an IWM location.
 pub fn write_iwm(mut m: Machine, location: u8) -> Did
     requires { ⌜ location < 16 ⌝ }
-    ensures { λ r. ⌜ r ≡ noValue (withDisk m (accessed location (m .disk))) ⌝ }
+    ensures { λ r. ⌜ r ≡ noValue (withDisk m (afterAccess location (m .disk))) ⌝ }
 {
     m.disk = m.disk.access(location);
     Did {

@@ -1,6 +1,6 @@
 // The action of an item on the machine, its wait having passed.
 ghost use mathlib.Core.Path.{_≡_};
-ghost use Rattle.item_spec.specs.Items.{InRange};
+ghost use Rattle.item_spec.specs.Items.{ItemInRange};
 ghost use Rattle.machine_spec.specs.Machine.{Levels};
 ghost use Rattle.machine_spec.specs.Action.{actedOf};
 use item_spec::Item;
@@ -8,7 +8,7 @@ use machine_spec::Did;
 use machine_spec::Machine;
 
 pub fn act(m: Machine, item: Item) -> Did
-    requires { ⌜ InRange item ⌝ }
+    requires { ⌜ ItemInRange item ⌝ }
     requires { ⌜ Levels m ⌝ }
     ensures { λ r. ⌜ r ≡ actedOf m item ⌝ }
 {

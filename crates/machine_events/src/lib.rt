@@ -5,9 +5,9 @@ ghost use lib.ListN.{set};
 ghost use Rattle.via.specs.Via.{freshVia, raisedOf, resetOf};
 ghost use Rattle.clock_spec.specs.Shared.{second, off};
 ghost use Rattle.disk_lines.specs.Lines.{linesOff};
-ghost use Rattle.disk_spec.specs.Drives.{placed, drivesPowered};
+ghost use Rattle.disk_spec.specs.Drives.{drivesDiskMoved, drivesPowered};
 ghost use Rattle.machine_spec.specs.Machine.{withVia, withDisk, withInputs, withSense, withDrives, noValue};
-ghost use Rattle.machine_spec.specs.Events.{passed};
+ghost use Rattle.machine_spec.specs.Events.{withSecondsEvent};
 use machine_spec::Did;
 use machine_spec::Machine;
 
@@ -24,7 +24,7 @@ pub fn blank(mut m: Machine) -> Did
 
 // SE: flag 0, and a second of the clock.
 pub fn second(mut m: Machine) -> Did
-    ensures { λ r. ⌜ r ≡ noValue (passed second (withVia m (raisedOf 1 (m .via)))) ⌝ }
+    ensures { λ r. ⌜ r ≡ noValue (withSecondsEvent second (withVia m (raisedOf 1 (m .via)))) ⌝ }
 {
     m.via = via_flags::raise(m.via, 1);
     let mut c = m.clock;
@@ -86,7 +86,7 @@ pub fn reset(mut m: Machine) -> Did
 
 // PW: the power is off for so many seconds.
 pub fn power_cut(mut m: Machine, seconds: u32) -> Did
-    ensures { λ r. ⌜ r ≡ noValue (passed (off seconds) (withDrives (withDisk (withVia m freshVia) linesOff) (drivesPowered (m .drives)))) ⌝ }
+    ensures { λ r. ⌜ r ≡ noValue (withSecondsEvent (off seconds) (withDrives (withDisk (withVia m freshVia) linesOff) (drivesPowered (m .drives)))) ⌝ }
 {
     m.via = via::fresh();
     m.disk = disk_lines::off();
@@ -102,7 +102,7 @@ pub fn power_cut(mut m: Machine, seconds: u32) -> Did
 
 // DI: a disk comes or leaves.
 pub fn place_disk(mut m: Machine, external: bool, insert: bool, locked: bool, sides: bool) -> Did
-    ensures { λ r. ⌜ r ≡ noValue (withDrives m (placed external insert locked sides (m .drives))) ⌝ }
+    ensures { λ r. ⌜ r ≡ noValue (withDrives m (drivesDiskMoved external insert locked sides (m .drives))) ⌝ }
 {
     m.drives = disk_drives::place(m.drives, external, insert, locked, sides);
     Did {

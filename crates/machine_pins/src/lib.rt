@@ -3,14 +3,14 @@ ghost use mathlib.Core.Path.{_≡_};
 ghost use mathlib.Core.Bool.{true};
 ghost use Prim.Native.Nat.{_<_, _+_, _*_};
 ghost use Rattle.machine_spec.specs.Pins.{pin, wiresOf, selOf};
-ghost use Rattle.machine_spec.specs.Machine.{wires, watched};
+ghost use Rattle.machine_spec.specs.Machine.{wires, strobeLevels};
 ghost use Rattle.levels.specs.Levels.{allLevels};
 ghost use Rattle.machine_spec.specs.Wiring.{inputsOf, interruptLevel};
 use clock_spec::Wires;
 use disk_spec::Watched;
 use machine_spec::Machine;
-use via::Ports;
 use via::Inputs;
+use via::Ports;
 
 // One line of a port, by its weight in the port's byte: the output bit where its direction is 1, else the input.
 fn pin_level(out: u8, dir: u8, weight: u8, input: bool) -> bool
@@ -53,7 +53,7 @@ pub fn wires(m: Machine) -> Wires
 
 // The levels that the drives' strobe goes by.
 pub fn watched(m: Machine) -> Watched
-    ensures { λ r. ⌜ r ≡ watched m ⌝ }
+    ensures { λ r. ⌜ r ≡ strobeLevels m ⌝ }
 {
     let d = m.disk;
     disk_strobe::watched_of(d, sel_of(m.via.ports))

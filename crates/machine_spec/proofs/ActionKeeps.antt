@@ -8,13 +8,13 @@ use Rattle.levels.proofs.Laws.{set-levels}
 use Rattle.via.specs.Via.{acceptedVia}
 use Rattle.via.proofs.Accepted.{fresh-accepted, reset-accepted, raised-accepted}
 use Rattle.via.proofs.AccessAccepted.{written-accepted, read-accepted}
-use Rattle.clock_spec.specs.Phase.{shown}
+use Rattle.clock_spec.specs.Phase.{shownLevel}
 use Rattle.machine_spec.specs.Wiring.{inputsOf}
 use Rattle.disk_lines.proofs.Laws.{off-levels, access-levels}
 use Rattle.disk_spec.specs.declared.Watched.{Watched}
 use Rattle.disk_spec.specs.Drives.{acceptedDrives}
 use Rattle.disk_spec.proofs.DrivesLaws.{placed-accepted, drivesPowered-accepted}
-use Rattle.item_spec.specs.Items.{InRange}
+use Rattle.item_spec.specs.Items.{ItemInRange}
 use Rattle.item_spec.specs.declared.Item.{Item}
 use Rattle.item_spec.specs.declared.Item.the-variants.{ReadVia, ReadIwm, WriteVia, WriteIwm, Blank, Second, Line, Sense, Reset, Power, Disk}
 use Rattle.machine_spec.specs.declared.Machine.{Machine}
@@ -27,9 +27,9 @@ pub record Kept (m : Machine) : Type 0 where
   pub levels : Levels m
   pub via : acceptedVia (m .via) ≡ true
 
-pub act-keeps : (m : Machine) (i : Item) → InRange i → Kept m → Kept (actedOf m i .machine)
+pub act-keeps : (m : Machine) (i : Item) → ItemInRange i → Kept m → Kept (actedOf m i .machine)
 unfolding actedOf viaRead iwmRead
-act-keeps m (ReadVia w r) h k = record { levels = k .levels; via = read-accepted r (inputsOf (shown (m .clock .phase)) (m .inputs)) (m .via) (k .via) }
+act-keeps m (ReadVia w r) h k = record { levels = k .levels; via = read-accepted r (inputsOf (shownLevel (m .clock .phase)) (m .inputs)) (m .via) (k .via) }
 act-keeps m (ReadIwm w l) h k = record { levels = (access-levels l (m .disk) (k .levels .0), k .levels .1, k .levels .2); via = k .via }
 act-keeps m (WriteVia w r v) h k = record { levels = k .levels; via = written-accepted r v (m .via) (k .via) }
 act-keeps m (WriteIwm w l v) h k = record { levels = (access-levels l (m .disk) (k .levels .0), k .levels .1, k .levels .2); via = k .via }

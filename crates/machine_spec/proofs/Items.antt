@@ -8,12 +8,12 @@ use lib.ListN.{getD, set}
 use lib.Seq.{getD-set-other}
 use Rattle.via.specs.declared.Inputs.{Inputs}
 use Rattle.via.specs.Via.{ticks, raisedOf}
-use Rattle.via.specs.Registers.{readOf}
-use Rattle.clock_spec.specs.Phase.{shown}
+use Rattle.via.specs.Registers.{registerRead}
+use Rattle.clock_spec.specs.Phase.{shownLevel}
 use Rattle.machine_spec.specs.Pins.{selOf}
 use Rattle.machine_spec.specs.Wiring.{inputsOf}
-use Rattle.disk_lines.specs.Lines.{accessed, senseAt}
-use Rattle.disk_spec.specs.Sense.{drivesSense, shownOf}
+use Rattle.disk_lines.specs.Lines.{afterAccess, senseAt}
+use Rattle.disk_spec.specs.Sense.{isDriveSense, senseShown}
 use Rattle.disk_spec.specs.Drives.{drivesShown}
 use Rattle.item_spec.specs.declared.Item.{Item}
 use Rattle.item_spec.specs.declared.Item.the-variants.{ReadVia, ReadIwm, WriteVia, WriteIwm, Blank, Second, Line, Sense, Reset, Power, Disk}
@@ -21,7 +21,7 @@ use Rattle.machine_spec.specs.declared.Machine.{Machine}
 use Rattle.machine_spec.specs.Machine.{withInputs, withSense}
 use Rattle.machine_spec.specs.Accesses.{viaRead, iwmRead}
 use Rattle.machine_spec.specs.Action.{actedOf}
-use Rattle.machine_spec.specs.Stages.{waitOf}
+use Rattle.machine_spec.specs.Stages.{itemWait}
 use Rattle.machine_spec.specs.Step.{stepOf}
 
 -- ---- the value
@@ -67,12 +67,12 @@ unseen line l k v h = simp (other 0 (omega arith), other 1 (omega arith), other 
 
 pub serial-unseen : (r k v : ℕ) (m : Machine) → 5 ≤ k → viaRead r (withInputs m (set (m .inputs) k v)) .value ≡ viaRead r m .value
 unfolding viaRead
-serial-unseen r k v m h = ap (λ (x : Inputs). readOf r x (m .via) .value) (unseen (shown (m .clock .phase)) (m .inputs) k v h)
+serial-unseen r k v m h = ap (λ (x : Inputs). registerRead r x (m .via) .value) (unseen (shownLevel (m .clock .phase)) (m .inputs) k v h)
 
 -- W-203: "Sense registers 0 to 5, 12 and 15 .. now come from the drive": what SN set does not count. Of the read itself too.
-pub drive-sensed : (k : ℕ) (m : Machine) (s : List ℕ) → drivesSense (senseAt (accessed k (m .disk)) (selOf (m .via .ports)) % 16) ≡ true
+pub drive-sensed : (k : ℕ) (m : Machine) (s : List ℕ) → isDriveSense (senseAt (afterAccess k (m .disk)) (selOf (m .via .ports)) % 16) ≡ true
     → iwmRead k (withSense m s) .value ≡ iwmRead k m .value
-unfolding iwmRead drivesShown shownOf
+unfolding iwmRead drivesShown senseShown
 drive-sensed k m s h = simp h
 
 -- ---- flags
@@ -80,11 +80,11 @@ drive-sensed k m s h = simp h
 -- "VB sets flag 1, SE flag 0"; W-204: "SE still sets flag 0" while the test byte stops the seconds. `raised-bit`
 -- (registers) says which flags that leaves set.
 pub blank-flag : (m : Machine) (w : ℕ) → stepOf m (Blank w) .machine .via ≡ raisedOf 2 (ticks w (m .via))
-unfolding stepOf actedOf waitOf
+unfolding stepOf actedOf itemWait
 blank-flag m w = refl
 
 pub second-flag : (m : Machine) (w : ℕ) → stepOf m (Second w) .machine .via ≡ raisedOf 1 (ticks w (m .via))
-unfolding stepOf actedOf waitOf
+unfolding stepOf actedOf itemWait
 second-flag m w = refl
 
 -- ---- reset and power

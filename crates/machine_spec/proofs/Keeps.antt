@@ -3,20 +3,20 @@ use mathlib.Core.Path.{_≡_, refl, ap, _∙_}
 use mathlib.Core.Bool.{Bool, true}
 use Rattle.via.proofs.Accepted.{ticks-accepted}
 use Rattle.clock_spec.specs.declared.Phase.{Phase}
-use Rattle.clock_spec.specs.Phase.{acceptedPhase, shown}
+use Rattle.clock_spec.specs.Phase.{acceptedPhase, shownLevel}
 use Rattle.clock.specs.Step.{stepWires}
 use Rattle.clock.proofs.Keep.{keeps-step}
 use Rattle.machine_spec.specs.Pins.{wiresOf}
 use Rattle.disk_spec.proofs.DrivesLaws.{drivesTicks-accepted, drivesAfter-accepted}
-use Rattle.item_spec.specs.Items.{InRange}
+use Rattle.item_spec.specs.Items.{ItemInRange}
 use Rattle.item_spec.specs.declared.Item.{Item}
 use Rattle.machine_spec.specs.declared.Machine.{Machine}
-use Rattle.machine_spec.specs.Machine.{cellCount, wires, watched, acceptedOf}
+use Rattle.machine_spec.specs.Machine.{cellCount, wires, strobeLevels, acceptedOf}
 use Rattle.machine_spec.proofs.MachineLaws.{parts, whole}
 use Rattle.machine_spec.specs.Action.{actedOf}
 use Rattle.machine_spec.proofs.Action.{acted-phase}
 use Rattle.machine_spec.proofs.ActionKeeps.{act-keeps, act-keeps-drives}
-use Rattle.machine_spec.specs.Stages.{waitOf, waited}
+use Rattle.machine_spec.specs.Stages.{itemWait, afterWait}
 use Rattle.machine_spec.specs.Step.{stepOf}
 
 -- Enable does not hang on what the chip shows.
@@ -24,20 +24,20 @@ enable-same : (m : Machine) (a b : Bool) → wiresOf (m .via .ports) a .enable �
 unfolding wiresOf
 enable-same m a b = refl
 
-pub step-keeps : (m : Machine) (i : Item) → InRange i → acceptedOf m ≡ true → acceptedOf (stepOf m i .machine) ≡ true
+pub step-keeps : (m : Machine) (i : Item) → ItemInRange i → acceptedOf m ≡ true → acceptedOf (stepOf m i .machine) ≡ true
 unfolding stepOf
 step-keeps m i h a =
     let p = parts m a in
-    let w = waited (waitOf i) m in
-    let k = act-keeps w i h (record { levels = p .levels; via = ticks-accepted (waitOf i) (m .via) (p .via) }) in
+    let w = afterWait (itemWait i) m in
+    let k = act-keeps w i h (record { levels = p .levels; via = ticks-accepted (itemWait i) (m .via) (p .via) }) in
     let d = actedOf w i .machine in
     let n = stepWires cellCount (d .clock) (wires m) (wires d) in
     whole (stepOf m i .machine)
     (record {
       levels = k .levels;
       via = k .via;
-      phase = ap (acceptedPhase cellCount (n .phase)) (enable-same d (shown (n .phase)) (shown (d .clock .phase)))
+      phase = ap (acceptedPhase cellCount (n .phase)) (enable-same d (shownLevel (n .phase)) (shownLevel (d .clock .phase)))
           ∙ keeps-step cellCount (d .clock) (wires m) (wires d) (ap (λ (f : Phase). acceptedPhase cellCount f (wires m .enable)) (acted-phase w i) ∙ p .phase);
-      drives = drivesAfter-accepted (watched m) (watched d) (d .drives)
-          (act-keeps-drives w i (watched m) (drivesTicks-accepted (waitOf i) (watched m) (m .drives) (p .drives)));
+      drives = drivesAfter-accepted (strobeLevels m) (strobeLevels d) (d .drives)
+          (act-keeps-drives w i (strobeLevels m) (drivesTicks-accepted (itemWait i) (strobeLevels m) (m .drives) (p .drives)));
     })

@@ -7,14 +7,14 @@ use Rattle.via.specs.Via.{acceptedVia}
 use Rattle.clock_spec.specs.Phase.{acceptedPhase}
 use Rattle.disk_spec.specs.Drives.{acceptedDrives}
 use Rattle.machine_spec.specs.declared.Machine.{Machine}
-use Rattle.machine_spec.specs.Machine.{cellCount, wires, watched, acceptedOf, Levels}
+use Rattle.machine_spec.specs.Machine.{cellCount, wires, strobeLevels, acceptedOf, Levels}
 
 -- The parts of an accepted state.
 pub record Parts (m : Machine) : Type 0 where
   pub levels : Levels m
   pub via : acceptedVia (m .via) ≡ true
   pub phase : acceptedPhase cellCount (m .clock .phase) (wires m .enable) ≡ true
-  pub drives : acceptedDrives (watched m) (m .drives) ≡ true
+  pub drives : acceptedDrives (strobeLevels m) (m .drives) ≡ true
 
 pub parts : (m : Machine) → acceptedOf m ≡ true → Parts m
 unfolding acceptedOf
@@ -24,7 +24,7 @@ parts m h =
     let s = allLevels (m .sense) in
     let v = acceptedVia (m .via) in
     let k = acceptedPhase cellCount (m .clock .phase) (wires m .enable) in
-    let g = acceptedDrives (watched m) (m .drives) in
+    let g = acceptedDrives (strobeLevels m) (m .drives) in
     let o = both ((((a && b) && s) && v) && k) g h in
     let p = both (((a && b) && s) && v) k (o .0) in
     let q = both ((a && b) && s) v (p .0) in
@@ -40,7 +40,7 @@ whole m h =
     let s = allLevels (m .sense) in
     let v = acceptedVia (m .via) in
     let k = acceptedPhase cellCount (m .clock .phase) (wires m .enable) in
-    let g = acceptedDrives (watched m) (m .drives) in
+    let g = acceptedDrives (strobeLevels m) (m .drives) in
     joined ((((a && b) && s) && v) && k) g
     (joined (((a && b) && s) && v) k
     (joined ((a && b) && s) v

@@ -10,7 +10,7 @@ use Rattle.via.specs.declared.Ports.{Ports}
 use Rattle.via.proofs.Kept.{ticks-ports}
 use Rattle.clock_spec.specs.declared.Wires.{Wires}
 use Rattle.clock.specs.declared.Clock.{Clock}
-use Rattle.clock_spec.specs.Phase.{acceptedPhase, shown}
+use Rattle.clock_spec.specs.Phase.{acceptedPhase, shownLevel}
 use Rattle.clock.specs.Step.{stepWires}
 use Rattle.clock.proofs.Keep.{still}
 use Rattle.machine_spec.specs.Pins.{wiresOf, selOf}
@@ -23,20 +23,20 @@ use Rattle.item_spec.specs.declared.Item.{Item}
 use Rattle.item_spec.specs.declared.Item.the-variants.{ReadVia, ReadIwm, WriteVia, WriteIwm, Blank, Second, Line, Sense, Reset, Power, Disk}
 use Rattle.item_spec.proofs.Item.{the-type}
 use Rattle.machine_spec.specs.declared.Machine.{Machine}
-use Rattle.machine_spec.specs.Machine.{withClock, withDrives, cellCount, wires, watched}
-use Rattle.machine_spec.specs.Stages.{waited, compared, strobed, refusesOf}
+use Rattle.machine_spec.specs.Machine.{withClock, withDrives, cellCount, wires, strobeLevels}
+use Rattle.machine_spec.specs.Stages.{afterWait, afterWires, afterStrobe, refusesOf}
 
 -- A wait moves no line.
-pub waited-wires : (n : ℕ) (m : Machine) → wires (waited n m) ≡ wires m
-waited-wires n m = ap (λ (p : Ports). wiresOf p (shown (m .clock .phase))) (ticks-ports n (m .via))
+pub waited-wires : (n : ℕ) (m : Machine) → wires (afterWait n m) ≡ wires m
+waited-wires n m = ap (λ (p : Ports). wiresOf p (shownLevel (m .clock .phase))) (ticks-ports n (m .via))
 
-pub waited-watched : (n : ℕ) (m : Machine) → watched (waited n m) ≡ watched m
+pub waited-watched : (n : ℕ) (m : Machine) → strobeLevels (afterWait n m) ≡ strobeLevels m
 waited-watched n m = ap (λ (p : Ports). watchedOf (m .disk) (selOf p)) (ticks-ports n (m .via))
 
 -- Where every line is as before, the clock and the strobe change nothing.
-pub unmoved : (m : Machine) (w : Wires) (v : Watched) → wires m ≡ w → watched m ≡ v
+pub unmoved : (m : Machine) (w : Wires) (v : Watched) → wires m ≡ w → strobeLevels m ≡ v
     → acceptedPhase cellCount (m .clock .phase) (w .enable) ≡ true → acceptedDrives v (m .drives) ≡ true
-    → strobed v (compared w m) ≡ m
+    → afterStrobe v (afterWires w m) ≡ m
 unmoved m w v p q h k =
     ap₂ (λ (x : Wires) (y : Watched). withDrives (withClock m (stepWires cellCount (m .clock) w x)) (drivesAfter v y (m .drives))) p q
     ∙ ap₂ (λ (c : Clock) (d : Drives). withDrives (withClock m c) d) (still cellCount (m .clock) w h) (drives-untouched v (m .drives) k)

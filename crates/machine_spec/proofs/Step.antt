@@ -8,7 +8,7 @@ use types.Run.{OneOf, miss}
 use denote.Enum.Declared.{tagOf}
 use Rattle.via.specs.declared.Via.{Via}
 use Rattle.via.specs.Via.{raisedOf, asking, levelOf}
-use Rattle.via.specs.Registers.{readOf}
+use Rattle.via.specs.Registers.{registerRead}
 use Rattle.clock_spec.specs.declared.Phase.{Phase}
 use Rattle.clock_spec.specs.declared.Wires.{Wires}
 use Rattle.clock.specs.declared.Clock.{Clock}
@@ -18,14 +18,14 @@ use Rattle.item_spec.specs.declared.Item.{Item}
 use Rattle.item_spec.specs.declared.Item.the-variants.{ReadVia, ReadIwm, WriteVia, WriteIwm, Blank, Second, Line, Sense, Reset, Power, Disk}
 use Rattle.item_spec.proofs.Item.{the-type}
 use Rattle.machine_spec.specs.declared.Machine.{Machine}
-use Rattle.machine_spec.specs.Machine.{cellCount, wires, watched, acceptedOf}
+use Rattle.machine_spec.specs.Machine.{cellCount, wires, strobeLevels, acceptedOf}
 use Rattle.machine_spec.proofs.MachineLaws.{parts}
 use Rattle.machine_spec.specs.declared.Did.{Did}
 use Rattle.machine_spec.specs.Accesses.{viaRead}
 use Rattle.machine_spec.specs.Action.{actedOf}
 use Rattle.machine_spec.proofs.Action.{acted-phase}
 use Rattle.machine_spec.proofs.ActionKeeps.{act-keeps-drives}
-use Rattle.machine_spec.specs.Stages.{waitOf, waited}
+use Rattle.machine_spec.specs.Stages.{itemWait, afterWait}
 use Rattle.machine_spec.proofs.Stages.{waited-wires, waited-watched, unmoved}
 use Rattle.machine_spec.specs.Step.{stepOf}
 
@@ -40,13 +40,13 @@ met m m₁ i d w p q e a =
 
 -- An action that moves no line, whatever the machine.
 abbrev pub Quiet : Item → Type 0
-Quiet i = (m : Machine) → (wires (actedOf m i .machine) ≡ wires m) × (watched (actedOf m i .machine) ≡ watched m)
+Quiet i = (m : Machine) → (wires (actedOf m i .machine) ≡ wires m) × (strobeLevels (actedOf m i .machine) ≡ strobeLevels m)
 
 abbrev quiet-kinds : List ℕ
 quiet-kinds = 0 ∷ 4 ∷ 5 ∷ 6 ∷ 7 ∷ 10 ∷ []
 
 pub kinds-quiet : (i : Item) → OneOf quiet-kinds (tagOf the-type i) → Quiet i
-unfolding actedOf viaRead readOf raisedOf
+unfolding actedOf viaRead registerRead raisedOf
 kinds-quiet (ReadVia w r) h m = (refl, refl)
 kinds-quiet (ReadIwm w k) h m = absurd (miss quiet-kinds 1 tt h)
 kinds-quiet (WriteVia w r v) h m = absurd (miss quiet-kinds 2 tt h)
@@ -60,15 +60,15 @@ kinds-quiet (Power w s) h m = absurd (miss quiet-kinds 9 tt h)
 kinds-quiet (Disk w d i l b) h m = (refl, refl)
 
 -- An item whose action moves no line is its wait and its action.
-pub quiet-step : (m : Machine) (i : Item) → acceptedOf m ≡ true → Quiet i → stepOf m i ≡ actedOf (waited (waitOf i) m) i
+pub quiet-step : (m : Machine) (i : Item) → acceptedOf m ≡ true → Quiet i → stepOf m i ≡ actedOf (afterWait (itemWait i) m) i
 unfolding stepOf
 quiet-step m i a q =
-    let n = waitOf i in
-    let d = actedOf (waited n m) i in
+    let n = itemWait i in
+    let d = actedOf (afterWait n m) i in
     ap (λ (x : Machine). record { machine = x; value = d .value })
-    (unmoved (d .machine) (wires m) (watched m) (q (waited n m) .0 ∙ waited-wires n m) (q (waited n m) .1 ∙ waited-watched n m)
-    (met m (waited n m) i d (wires m) refl refl refl a)
-    (act-keeps-drives (waited n m) i (watched m) (drivesTicks-accepted n (watched m) (m .drives) (parts m a .drives))))
+    (unmoved (d .machine) (wires m) (strobeLevels m) (q (afterWait n m) .0 ∙ waited-wires n m) (q (afterWait n m) .1 ∙ waited-watched n m)
+    (met m (afterWait n m) i d (wires m) refl refl refl a)
+    (act-keeps-drives (afterWait n m) i (strobeLevels m) (drivesTicks-accepted n (strobeLevels m) (m .drives) (parts m a .drives))))
 
 -- The VIA's own level is 0 or 1.
 pub via-level : (v : Via) → levelOf v < 2

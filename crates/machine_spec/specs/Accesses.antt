@@ -1,9 +1,9 @@
 -- What a read leaves, by document 01: the next state and the value read.
 use Prim.Native.Nat.{ℕ}
 use lib.ListN.{getD}
-use Rattle.via.specs.Registers.{readOf}
-use Rattle.clock_spec.specs.Phase.{shown}
-use Rattle.disk_lines.specs.Lines.{accessed, senseAt, readLine}
+use Rattle.via.specs.Registers.{registerRead}
+use Rattle.clock_spec.specs.Phase.{shownLevel}
+use Rattle.disk_lines.specs.Lines.{afterAccess, senseAt, readLine}
 use Rattle.disk_spec.specs.Drives.{drivesShown}
 use Rattle.machine_spec.specs.declared.Machine.{Machine}
 use Rattle.machine_spec.specs.declared.Did.{Did}
@@ -14,13 +14,13 @@ use Rattle.machine_spec.specs.Wiring.{inputsOf}
 -- RD of a VIA register.
 unfoldable pub viaRead : ℕ → Machine → Did
 viaRead r m =
-    let a = readOf r (inputsOf (shown (m .clock .phase)) (m .inputs)) (m .via) in
+    let a = registerRead r (inputsOf (shownLevel (m .clock .phase)) (m .inputs)) (m .via) in
     record { machine = withVia m (a .via); value = a .value }
 
 -- RD of an IWM location: "Any access, read or write, first sets line k/2"; the sense is that of the selected drive's register. W-203:
 -- "Sense registers 0 to 5, 12 and 15 .. now come from the drive, the others still from SN."
 unfoldable pub iwmRead : ℕ → Machine → Did
 iwmRead k m =
-    let d = accessed k (m .disk) in
+    let d = afterAccess k (m .disk) in
     let at = senseAt d (selOf (m .via .ports)) in
     record { machine = withDisk m d; value = readLine k (drivesShown at (getD (m .sense) at 0) (m .drives)) d }

@@ -9,7 +9,7 @@ use Rattle.via.specs.declared.Via.{Via}
 use Rattle.via.specs.Via.{freshVia, acceptedVia}
 use Rattle.clock_spec.specs.declared.Wires.{Wires}
 use Rattle.clock.specs.declared.Clock.{Clock}
-use Rattle.clock_spec.specs.Phase.{shown, acceptedPhase}
+use Rattle.clock_spec.specs.Phase.{shownLevel, acceptedPhase}
 use Rattle.clock.specs.Step.{freshClock}
 use Rattle.machine_spec.specs.Pins.{wiresOf, selOf}
 use Rattle.disk_spec.specs.Watched.{watchedOf}
@@ -68,11 +68,11 @@ freshMachine =
 -- ---- the lines
 
 abbrev pub wires : Machine → Wires
-wires m = wiresOf (m .via .ports) (shown (m .clock .phase))
+wires m = wiresOf (m .via .ports) (shownLevel (m .clock .phase))
 
 -- The levels that the drives' strobe goes by.
-abbrev pub watched : Machine → Watched
-watched m = watchedOf (m .disk) (selOf (m .via .ports))
+abbrev pub strobeLevels : Machine → Watched
+strobeLevels m = watchedOf (m .disk) (selOf (m .via .ports))
 
 -- ---- accepted states
 
@@ -86,4 +86,4 @@ unfoldable pub acceptedOf : Machine → Bool
 acceptedOf m =
     ((((allLevels (m .disk .lines) && allLevels (m .inputs)) && allLevels (m .sense)) && acceptedVia (m .via))
     && acceptedPhase cellCount (m .clock .phase) (wires m .enable))
-    && acceptedDrives (watched m) (m .drives)
+    && acceptedDrives (strobeLevels m) (m .drives)

@@ -4,7 +4,7 @@ use mathlib.Core.Bool.{Bool, true, cond}
 use lib.Dec.{eqb}
 use Rattle.via.specs.declared.Ports.{Ports}
 use Rattle.clock_spec.specs.declared.Wires.{Wires}
-use Rattle.clock_spec.specs.Command.{bit}
+use Rattle.clock_spec.specs.Command.{bitNumber}
 
 -- One line of a port, by its weight in the port's byte: "the output bit where its direction is 1. Otherwise it is the input."
 abbrev pub pin : ℕ → ℕ → ℕ → Bool → Bool
@@ -22,4 +22,4 @@ wiresOf p line =
 
 -- "SEL is the level of PA5."
 unfoldable pub selOf : Ports → ℕ
-selOf p = bit (pin (p .outa) (p .dira) 32 true)
+selOf p = bitNumber (pin (p .outa) (p .dira) 32 true)

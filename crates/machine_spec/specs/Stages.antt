@@ -11,7 +11,7 @@ use Rattle.disk_spec.specs.Drives.{drivesTicks, placeRefused, drivesAfter}
 use Rattle.item_spec.specs.declared.Item.{Item}
 use Rattle.item_spec.specs.declared.Item.the-variants.{ReadVia, ReadIwm, WriteVia, WriteIwm, Blank, Second, Line, Sense, Reset, Power, Disk}
 use Rattle.machine_spec.specs.declared.Machine.{Machine}
-use Rattle.machine_spec.specs.Machine.{withVia, withClock, withDrives, cellCount, wires, watched}
+use Rattle.machine_spec.specs.Machine.{withVia, withClock, withDrives, cellCount, wires, strobeLevels}
 
 -- A refusal that looks at the state, as it stands before the wait; 0 where there is none. Document 01's numbers look at the bytes alone.
 -- W-203: "Inserting where a disk is, or removing where none is, gets refusal 8".
@@ -33,27 +33,27 @@ refusesOf m (Power w s) = 0
 refusesOf m (Disk w d i l b) = numberIf 8 (placeRefused (eqb d 1) (eqb i 1) (m .drives))
 
 -- "Every item's body begins with a wait in VIA ticks."
-unfoldable pub waitOf : Item → ℕ
-waitOf (ReadVia w r) = w
-waitOf (ReadIwm w k) = w
-waitOf (WriteVia w r v) = w
-waitOf (WriteIwm w k v) = w
-waitOf (Blank w) = w
-waitOf (Second w) = w
-waitOf (Line w l v) = w
-waitOf (Sense w d r v) = w
-waitOf (Reset w) = w
-waitOf (Power w s) = w
-waitOf (Disk w d i l b) = w
+unfoldable pub itemWait : Item → ℕ
+itemWait (ReadVia w r) = w
+itemWait (ReadIwm w k) = w
+itemWait (WriteVia w r v) = w
+itemWait (WriteIwm w k v) = w
+itemWait (Blank w) = w
+itemWait (Second w) = w
+itemWait (Line w l v) = w
+itemWait (Sense w d r v) = w
+itemWait (Reset w) = w
+itemWait (Power w s) = w
+itemWait (Disk w d i l b) = w
 
 -- The item's wait passes, in the VIA and in the drives.
-abbrev pub waited : ℕ → Machine → Machine
-waited n m = withDrives (withVia m (ticks n (m .via))) (drivesTicks n (m .drives))
+abbrev pub afterWait : ℕ → Machine → Machine
+afterWait n m = withDrives (withVia m (ticks n (m .via))) (drivesTicks n (m .drives))
 
 -- "Compare the levels of enable, data-clock and data before and after each item."
-abbrev pub compared : Wires → Machine → Machine
-compared w m = withClock m (stepWires cellCount (m .clock) w (wires m))
+abbrev pub afterWires : Wires → Machine → Machine
+afterWires w m = withClock m (stepWires cellCount (m .clock) w (wires m))
 
 -- W-203: the drives see the levels before the item and after it; "a write acts when LSTRB drops".
-abbrev pub strobed : Watched → Machine → Machine
-strobed w m = withDrives m (drivesAfter w (watched m) (m .drives))
+abbrev pub afterStrobe : Watched → Machine → Machine
+afterStrobe w m = withDrives m (drivesAfter w (strobeLevels m) (m .drives))

@@ -7,17 +7,17 @@ use Rattle.via.specs.Via.{levelOf}
 use Rattle.disk_lines.specs.Lines.{lineByteOf}
 use Rattle.item_spec.specs.declared.Item.{Item}
 use Rattle.machine_spec.specs.declared.Machine.{Machine}
-use Rattle.machine_spec.specs.Machine.{wires, watched}
+use Rattle.machine_spec.specs.Machine.{wires, strobeLevels}
 use Rattle.machine_spec.specs.declared.Did.{Did}
-use Rattle.machine_spec.specs.Stages.{waitOf, waited, compared, strobed}
+use Rattle.machine_spec.specs.Stages.{itemWait, afterWait, afterWires, afterStrobe}
 use Rattle.machine_spec.specs.Action.{actedOf}
 use Rattle.machine_spec.specs.Pins.{selOf}
 use Rattle.machine_spec.specs.Wiring.{interruptLevel}
 
 unfoldable pub stepOf : Machine → Item → Did
 stepOf m i =
-    let d = actedOf (waited (waitOf i) m) i in
-    record { machine = strobed (watched m) (compared (wires m) (d .machine)); value = d .value }
+    let d = actedOf (afterWait (itemWait i) m) i in
+    record { machine = afterStrobe (strobeLevels m) (afterWires (wires m) (d .machine)); value = d .value }
 
 -- "Level, lines and SEL are those after the item."
 unfoldable pub answerOf : Did → Answer

@@ -5,13 +5,13 @@ use mathlib.Core.List.{List}
 use lib.Dec.{eqb}
 use lib.ListN.{getD}
 use Rattle.via.specs.declared.Inputs.{Inputs}
-use Rattle.clock_spec.specs.Command.{bit}
+use Rattle.clock_spec.specs.Command.{bitNumber}
 
 -- What the outside gives port B and port A: "PB0 the clock's data line, PB3 to PB6 the IN lines 0 to 3 .., PA7 IN line 4. Undriven lines are 1."
 unfoldable pub inputsOf : Bool → List ℕ → Inputs
 inputsOf line lines =
     record {
-      b = bit line + 2 + 4 + (8 * getD lines 0 0 + 16 * getD lines 1 0 + 32 * getD lines 2 0 + 64 * getD lines 3 0) + 128;
+      b = bitNumber line + 2 + 4 + (8 * getD lines 0 0 + 16 * getD lines 1 0 + 32 * getD lines 2 0 + 64 * getD lines 3 0) + 128;
       a = 127 + 128 * getD lines 4 0;
     }
 

@@ -1,8 +1,8 @@
-// The machine: its types, what an item does to it (specs/) and the laws of that (proofs/). The code is in machine, pins, wiring, accesses, events, action,
-// stages, step and reply.
+// The machine: its types, what an item does to it (specs/) and the laws of that (proofs/). The code is in the other crates
+// of the family.
 use clock::Clock;
-use disk_spec::Drives;
 use disk_lines::DiskLines;
+use disk_spec::Drives;
 use via::Via;
 
 // The whole state.

@@ -1,9 +1,9 @@
 // One item carried out.
 ghost use mathlib.Core.Path.{_≡_};
 ghost use mathlib.Core.Bool.{true, false};
-ghost use Rattle.item_spec.specs.Items.{InRange};
+ghost use Rattle.item_spec.specs.Items.{ItemInRange};
 ghost use Rattle.machine_spec.specs.declared.Machine.{Machine};
-ghost use Rattle.machine_spec.specs.Machine.{wires, watched, acceptedOf};
+ghost use Rattle.machine_spec.specs.Machine.{wires, strobeLevels, acceptedOf};
 ghost use Rattle.machine_spec.specs.Action.{actedOf};
 ghost use Rattle.machine_spec.specs.Step.{stepOf};
 use item_spec::Item;
@@ -12,7 +12,7 @@ use machine_spec::Machine;
 
 // Whether the item's action can move a line that the clock or the strobe goes by.
 fn moves_lines(item: Item) -> bool
-    ensures { λ r. ⌜ (r ≡ false → (m : Machine) → (wires (actedOf m item .machine) ≡ wires m) × (watched (actedOf m item .machine) ≡ watched m)) ⌝ }
+    ensures { λ r. ⌜ (r ≡ false → (m : Machine) → (wires (actedOf m item .machine) ≡ wires m) × (strobeLevels (actedOf m item .machine) ≡ strobeLevels m)) ⌝ }
 {
     match item {
         Item::ReadIwm { .. } => true,
@@ -27,14 +27,18 @@ fn moves_lines(item: Item) -> bool
 // One item: its wait, then its action, then the clock and the strobe look at their lines where these can have moved.
 pub fn step(m: Machine, item: Item) -> Did
     requires { ⌜ acceptedOf m ≡ true ⌝ }
-    requires { ⌜ InRange item ⌝ }
+    requires { ⌜ ItemInRange item ⌝ }
     ensures { λ r. ⌜ r ≡ stepOf m item ⌝ }
 {
     let d = machine_action::act(machine_stages::wait(m, machine_stages::wait_of(item)), item);
     if moves_lines(item) {
         let next = d.machine;
         return Did {
-            machine: machine_stages::compare(next, machine_pins::wires(m), machine_pins::watched(m)),
+            machine: machine_stages::compare(
+                next,
+                machine_pins::wires(m),
+                machine_pins::watched(m),
+            ),
             value: d.value,
         };
     }

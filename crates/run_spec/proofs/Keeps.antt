@@ -13,7 +13,7 @@ use Rattle.machine_spec.specs.Machine.{acceptedOf}
 use Rattle.machine_spec.specs.Stages.{refusesOf}
 use Rattle.machine_spec.specs.Step.{stepOf}
 use Rattle.machine_spec.proofs.Keeps.{step-keeps}
-use Rattle.run_spec.specs.Turn.{carriedOut, refused, turnBy, turnOf}
+use Rattle.run_spec.specs.Turn.{doneTurn, refusedTurn, turnBy, turnOf}
 
 pub turn-keeps : (m : Machine) (s : List ℕ) → acceptedOf m ≡ true → acceptedOf (turnOf m s .machine) ≡ true
 unfolding turnOf
@@ -23,6 +23,6 @@ turn-keeps m s e = go (decodedOf s) refl
     go (Refused n) p = e
     go (Done x) p = judge (eqb (refusesOf m x) 0)
       where
-        judge : (t : Bool) → acceptedOf ((cond t (carriedOut (stepOf m x)) (refused m (refusesOf m x))) .machine) ≡ true
+        judge : (t : Bool) → acceptedOf ((cond t (doneTurn (stepOf m x)) (refusedTurn m (refusesOf m x))) .machine) ≡ true
         judge true = step-keeps m x (decoded-range s x p) e
         judge false = e

@@ -14,7 +14,7 @@ use Rattle.machine_spec.proofs.Interrupts.{never}
 use Rattle.item_spec.specs.declared.Item.{Item}
 use Rattle.item_spec.specs.declared.Decoded.{Decoded}
 use Rattle.item_spec.specs.declared.Decoded.the-variants.{Done, Refused}
-use Rattle.item_spec.specs.Items.{InRange}
+use Rattle.item_spec.specs.Items.{ItemInRange}
 use Rattle.item_spec.specs.Kinds.{decodedOf}
 use Rattle.item_spec.proofs.ItemRange.{decoded-range}
 use Rattle.machine_spec.specs.declared.Machine.{Machine}
@@ -24,7 +24,7 @@ use Rattle.machine_spec.specs.Stages.{refusesOf}
 use Rattle.machine_spec.specs.Step.{stepOf, answerOf}
 use Rattle.machine_spec.proofs.Step.{via-level}
 use Rattle.machine_spec.proofs.Keeps.{step-keeps}
-use Rattle.run_spec.specs.Turn.{refused, carriedOut, turnBy, turnOf}
+use Rattle.run_spec.specs.Turn.{refusedTurn, doneTurn, turnBy, turnOf}
 
 -- Neither level 3 nor level 7.
 abbrev pub Ordinary : Answer → Type 0
@@ -34,7 +34,7 @@ pub no-ordinary : (n : ℕ) → Ordinary (noOf n)
 unfolding noOf
 no-ordinary n = (λ (e : _≡_ {A = ℕ} 0 3). omega arith, λ (e : _≡_ {A = ℕ} 0 7). omega arith)
 
-done-ordinary : (m : Machine) (x : Item) → InRange x → acceptedOf m ≡ true → Ordinary (answerOf (stepOf m x))
+done-ordinary : (m : Machine) (x : Item) → ItemInRange x → acceptedOf m ≡ true → Ordinary (answerOf (stepOf m x))
 unfolding answerOf
 done-ordinary m x r h =
     let n = stepOf m x .machine in
@@ -49,6 +49,6 @@ turn-ordinary m s h = go (decodedOf s) refl
     go (Refused n) p = no-ordinary n
     go (Done x) p = judge (eqb (refusesOf m x) 0)
       where
-        judge : (t : Bool) → Ordinary ((cond t (carriedOut (stepOf m x)) (refused m (refusesOf m x))) .answer)
+        judge : (t : Bool) → Ordinary ((cond t (doneTurn (stepOf m x)) (refusedTurn m (refusesOf m x))) .answer)
         judge true = done-ordinary m x (decoded-range s x p) h
         judge false = no-ordinary (refusesOf m x)

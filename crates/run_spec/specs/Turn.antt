@@ -17,19 +17,19 @@ use Rattle.run_spec.specs.declared.Turn.{Turn}
 
 -- The next state and the answer.
 
-abbrev pub refused : Machine → ℕ → Turn
-refused m n = record { machine = m; answer = noOf n }
+abbrev pub refusedTurn : Machine → ℕ → Turn
+refusedTurn m n = record { machine = m; answer = noOf n }
 
-abbrev pub carriedOut : Did → Turn
-carriedOut d = record { machine = d .machine; answer = answerOf d }
+abbrev pub doneTurn : Did → Turn
+doneTurn d = record { machine = d .machine; answer = answerOf d }
 
 -- "The state unchanged" where the item is refused, by itself or by the state; else it is carried out.
-abbrev pub judged : Machine → Item → ℕ → Turn
-judged m x n = cond (eqb n 0) (carriedOut (stepOf m x)) (refused m n)
+abbrev pub turnUnless : Machine → Item → ℕ → Turn
+turnUnless m x n = cond (eqb n 0) (doneTurn (stepOf m x)) (refusedTurn m n)
 
 abbrev pub turnBy : Machine → Decoded → Turn
-turnBy m (Done x) = judged m x (refusesOf m x)
-turnBy m (Refused n) = refused m n
+turnBy m (Done x) = turnUnless m x (refusesOf m x)
+turnBy m (Refused n) = refusedTurn m n
 
 unfoldable pub turnOf : Machine → List ℕ → Turn
 turnOf m s = turnBy m (decodedOf s)

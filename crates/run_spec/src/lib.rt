@@ -1,5 +1,5 @@
 // What a record and a run over a list come to: defined in specs/Turn.antt and specs/Outcome.antt, with the laws that users rely on in proofs/. The code is in
-// the crates turn and run.
+// the other crates of the family.
 use item_spec::Answer;
 use machine_spec::Machine;
 

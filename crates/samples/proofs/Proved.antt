@@ -2,35 +2,35 @@
 use mathlib.Core.Path.{refl}
 use Rattle.levels.specs.Levels.{allLevels}
 use Rattle.via.specs.Via.{freshVia, portLevel, latchOf, tickOf, ticks, raisedOf, resetOf, asking, levelOf, acceptedVia}
-use Rattle.via.specs.Writes.{written}
-use Rattle.via.specs.Registers.{readOf}
+use Rattle.via.specs.Writes.{viaWritten}
+use Rattle.via.specs.Registers.{registerRead}
 use Rattle.clock_spec.specs.Command.{named, decode}
 use Rattle.clock_spec.specs.Store.{fetch, put, act}
-use Rattle.clock_spec.specs.Phase.{between, shown, acceptedPhase}
+use Rattle.clock_spec.specs.Phase.{between, shownLevel, acceptedPhase}
 use Rattle.clock.specs.Step.{next, acts, stepWires}
-use Rattle.disk_lines.specs.Lines.{linesOff, accessed, lineByteOf, senseAt, readLine}
+use Rattle.disk_lines.specs.Lines.{linesOff, afterAccess, lineByteOf, senseAt, readLine}
 use Rattle.disk_spec.specs.Sense as sense
 use Rattle.disk_spec.specs.Drive.{neighbour, tickDrive, driveTicks}
 use Rattle.disk_spec.specs.Control.{registerWritten}
-use Rattle.disk_spec.specs.Sense.{drivesSense, shownOf, acceptedDrive}
+use Rattle.disk_spec.specs.Sense.{isDriveSense, senseShown, acceptedDrive}
 use Rattle.disk_spec.specs.Watched.{heldStill, unspoilt, registerOf}
 use Rattle.disk_spec.specs.Strobe.{tickStrobe, strobeTicks, strobeAfter, longEnough, strobeWrites, acceptedStrobe}
-use Rattle.disk_spec.specs.Drives.{drivesTicks, placed, placeRefused, drivesPowered, drivesAfter, drivesShown, acceptedDrives}
+use Rattle.disk_spec.specs.Drives.{drivesTicks, drivesDiskMoved, placeRefused, drivesPowered, drivesAfter, drivesShown, acceptedDrives}
 use Rattle.machine_spec.specs.Pins.{wiresOf, selOf}
 use Rattle.disk_spec.specs.Watched.{watchedOf}
 use Rattle.machine_spec.specs.Wiring.{inputsOf, interruptLevel}
 use Rattle.octets.specs.Octets.{le16Of, le32Of}
 use Rattle.item_spec.specs.Record.{frameOf, answerBytes, noOf}
 use Rattle.item_spec.specs.Addresses.{placeFrom, foundOf}
-use Rattle.item_spec.specs.Items.{writeOf, plainOf, powerOf}
-use Rattle.item_spec.specs.Ranged.{diskOf}
+use Rattle.item_spec.specs.Items.{writeRecord, plainRecord, powerRecord}
+use Rattle.item_spec.specs.Ranged.{diskRecord}
 use Rattle.item_spec.specs.Kinds.{isKind, decodedOf}
 use Rattle.item_spec.specs.Items as items
 use Rattle.item_spec.specs.Ranged as ranged
 use Rattle.machine_spec.specs.Machine.{acceptedOf}
 use Rattle.machine_spec.specs.Accesses.{viaRead, iwmRead}
 use Rattle.machine_spec.specs.Action.{actedOf}
-use Rattle.machine_spec.specs.Stages.{waitOf, refusesOf}
+use Rattle.machine_spec.specs.Stages.{itemWait, refusesOf}
 use Rattle.machine_spec.specs.Step.{stepOf, answerOf}
 use Rattle.run_spec.specs.Turn.{turnOf}
 use Rattle.run_spec.specs.Outcome.{cut, piecesFrom, onto, onPiece, runPieces, runOf}
@@ -39,9 +39,9 @@ use Rattle.samples.specs.Samples.{Samples, values}
 use Rattle.samples.specs.Drives.{DriveSamples}
 
 pub samples : Samples
-unfolding allLevels freshVia portLevel latchOf tickOf ticks raisedOf asking levelOf acceptedVia written readOf named decode between fetch next acts put act
-    stepWires shown acceptedPhase linesOff lineByteOf wiresOf selOf inputsOf interruptLevel le16Of le32Of frameOf answerBytes noOf isKind placeFrom foundOf writeOf plainOf
-    decodedOf items.readOf acceptedOf acceptedDrives acceptedDrive acceptedStrobe waitOf viaRead actedOf stepOf refusesOf answerOf cut piecesFrom turnOf onto onPiece runPieces runOf sent values
+unfolding allLevels freshVia portLevel latchOf tickOf ticks raisedOf asking levelOf acceptedVia viaWritten registerRead named decode between fetch next acts put act
+    stepWires shownLevel acceptedPhase linesOff lineByteOf wiresOf selOf inputsOf interruptLevel le16Of le32Of frameOf answerBytes noOf isKind placeFrom foundOf writeRecord plainRecord
+    decodedOf items.readRecord acceptedOf acceptedDrives acceptedDrive acceptedStrobe itemWait viaRead actedOf stepOf refusesOf answerOf cut piecesFrom turnOf onto onPiece runPieces runOf sent values
 samples =
     record {
       S1 = refl;
@@ -59,11 +59,11 @@ samples =
     }
 
 pub driveSamples : DriveSamples
-unfolding allLevels freshVia tickOf ticks resetOf asking levelOf acceptedVia written between stepWires next acts act shown acceptedPhase linesOff accessed lineByteOf
-    senseAt readLine wiresOf selOf watchedOf le16Of le32Of frameOf answerBytes noOf isKind placeFrom foundOf writeOf plainOf powerOf diskOf decodedOf items.readOf ranged.senseOf
-    registerWritten neighbour tickDrive driveTicks drivesSense sense.senseOf shownOf acceptedDrive tickStrobe strobeTicks heldStill unspoilt strobeAfter registerOf
-    longEnough strobeWrites acceptedStrobe drivesTicks placed placeRefused drivesPowered drivesAfter drivesShown acceptedDrives
-    acceptedOf waitOf iwmRead actedOf stepOf refusesOf answerOf cut piecesFrom turnOf onto onPiece runPieces runOf values
+unfolding allLevels freshVia tickOf ticks resetOf asking levelOf acceptedVia viaWritten between stepWires next acts act shownLevel acceptedPhase linesOff afterAccess lineByteOf
+    senseAt readLine wiresOf selOf watchedOf le16Of le32Of frameOf answerBytes noOf isKind placeFrom foundOf writeRecord plainRecord powerRecord diskRecord decodedOf items.readRecord ranged.senseRecord
+    registerWritten neighbour tickDrive driveTicks isDriveSense sense.driveSense senseShown acceptedDrive tickStrobe strobeTicks heldStill unspoilt strobeAfter registerOf
+    longEnough strobeWrites acceptedStrobe drivesTicks drivesDiskMoved placeRefused drivesPowered drivesAfter drivesShown acceptedDrives
+    acceptedOf itemWait iwmRead actedOf stepOf refusesOf answerOf cut piecesFrom turnOf onto onPiece runPieces runOf values
 driveSamples =
     record {
       refusals = refl;

@@ -18,7 +18,7 @@ fn carry_out(image: &mut [u8], op: u8, list: &[u8], answers: &mut [u8])
 {
     let r = run::run(image::load(image), list, answers);
     image::save(image, r.machine);
-    vectors_print::shown(op, list, answers, r.stop, r.consumed, r.written);
+    vectors_print::shown(op, answers, r.stop, r.consumed, r.written);
 }
 
 // A line of an answer room, whose bytes hold $ee, and a list: the value as it was, or 256 where the line is bad.

@@ -1,24 +1,22 @@
-// What is printed of a run: the line of an answer, the line of the run, bytes and a line's words.
+// What is printed of a run: the bytes of an answer, the line of the run, a script line's words.
 ghost use mathlib.Core.Path.{_≡_};
 ghost use mathlib.Core.Bool.{cond};
 ghost use Prim.Native.Nat.{_≤_};
 ghost use lib.ListN.{length};
 ghost use Rattle.vectors_words.specs.Words.{spacedOf};
 
-// Prints the line of one answer: `offset` is the record's place in the list, `rest` the list from there on.
-pub fn answer(offset: usize, rest: &[u8], answer: &[u8])
-    requires { ⌜ 8 ≤ length (now answer) ⌝ }
-{
-    let mut text = [0u8; 128];
-    let n = report::line(&mut text, offset, rest, answer);
-    io::write_all(1, &text[..n]);
+// Prints a number after a word.
+fn number(word: &[u8], n: u64) {
+    io::write_all(1, word);
+    io::print_decimal(1, n);
 }
 
-// Prints the line of the run.
-pub fn end(stop: u8, consumed: usize, written: usize) {
-    let mut text = [0u8; 128];
-    let n = report::end(&mut text, stop, consumed, written);
-    io::write_all(1, &text[..n]);
+// Prints the line of a run: its stop number, the bytes consumed and the bytes written.
+fn end(stop: u8, consumed: usize, written: usize) {
+    number(b"stop ", stop as u64);
+    number(b" consumed ", consumed as u64);
+    number(b" written ", written as u64);
+    io::write_all(1, b"\n");
 }
 
 // Prints a byte in hexadecimal, and a space.
@@ -36,13 +34,14 @@ fn dump(answers: &[u8]) {
     }
 }
 
-// Prints with `l` the line of a list's first answer, with `e` the bytes of the answer room and the line of the run, with any other operation
+// Prints with `l` the bytes of a list's first answer, with `e` the bytes of the answer room and the line of the run, with any other operation
 // nothing.
-pub fn shown(op: u8, list: &[u8], answers: &[u8], stop: u8, consumed: usize, written: usize) {
+pub fn shown(op: u8, answers: &[u8], stop: u8, consumed: usize, written: usize) {
     match op {
         b'l' => {
             if 8 <= answers.len() {
-                answer(0, list, answers);
+                dump(&answers[..8]);
+                io::write_all(1, b"\n");
             }
         }
         b'e' => {

@@ -11,20 +11,20 @@ use Rattle.via.specs.Via.{acceptedVia}
 use Rattle.via.specs.declared.Inputs.{Inputs}
 use Rattle.via.specs.declared.Via.{Via}
 use Rattle.via.proofs.Accepted.{below, accept, either}
-use Rattle.via.specs.Writes.{written}
-use Rattle.via.specs.Registers.{readOf}
+use Rattle.via.specs.Writes.{viaWritten}
+use Rattle.via.specs.Registers.{registerRead}
 
 cleared : (a m : ℕ) → a < 128 → clear a m < 128
 cleared a m h = lt-of-le-of-lt (and-le-l a (255 - m)) h
 
-pub written-accepted : (r value : ℕ) (v : Via) → acceptedVia v ≡ true → acceptedVia (written r value v) ≡ true
-unfolding written
+pub written-accepted : (r value : ℕ) (v : Via) → acceptedVia v ≡ true → acceptedVia (viaWritten r value v) ≡ true
+unfolding viaWritten
 written-accepted r value v h =
     let f = v .flags in
     let e = v .enables in
     let g = below v h .0 in
     let k = below v h .1 in
-    accept (written r value v)
+    accept (viaWritten r value v)
     (either (eqb r 1) _ _ (cleared f (portAFlags (v .pcr)) g)
     (either (eqb r 5 || eqb r 7) _ _ (cleared f 64 g)
     (either (eqb r 9) _ _ (cleared f 32 g)
@@ -33,12 +33,12 @@ written-accepted r value v h =
     (either (bit 7 value) _ _ (or-lt 7 e (value % 128) k (mod-lt value (omega arith))) (cleared e (value % 128) k))
     k)
 
-pub read-accepted : (r : ℕ) (i : Inputs) (v : Via) → acceptedVia v ≡ true → acceptedVia (readOf r i v .via) ≡ true
-unfolding readOf
+pub read-accepted : (r : ℕ) (i : Inputs) (v : Via) → acceptedVia v ≡ true → acceptedVia (registerRead r i v .via) ≡ true
+unfolding registerRead
 read-accepted r i v h =
     let f = v .flags in
     let g = below v h .0 in
-    accept (readOf r i v .via)
+    accept (registerRead r i v .via)
     (either (eqb r 1) _ _ (cleared f (portAFlags (v .pcr)) g)
     (either (eqb r 4) _ _ (cleared f 64 g)
     (either (eqb r 8) _ _ (cleared f 32 g) g)))

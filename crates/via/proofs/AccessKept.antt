@@ -3,13 +3,13 @@ use mathlib.Core.Path.{_≡_, refl}
 use Prim.Native.Nat.{ℕ}
 use Rattle.via.specs.declared.Inputs.{Inputs}
 use Rattle.via.specs.declared.Via.{Via}
-use Rattle.via.specs.Writes.{portsWritten, written}
-use Rattle.via.specs.Registers.{readOf}
+use Rattle.via.specs.Writes.{portsWritten, viaWritten}
+use Rattle.via.specs.Registers.{registerRead}
 
-pub read-ports : (r : ℕ) (i : Inputs) (v : Via) → readOf r i v .via .ports ≡ v .ports
-unfolding readOf
+pub read-ports : (r : ℕ) (i : Inputs) (v : Via) → registerRead r i v .via .ports ≡ v .ports
+unfolding registerRead
 read-ports r i v = refl
 
-pub written-ports : (r value : ℕ) (v : Via) → written r value v .ports ≡ portsWritten r value (v .ports)
-unfolding written
+pub written-ports : (r value : ℕ) (v : Via) → viaWritten r value v .ports ≡ portsWritten r value (v .ports)
+unfolding viaWritten
 written-ports r value v = refl

@@ -10,8 +10,8 @@ use Rattle.via_timer.specs.declared.Counter.{Counter}
 use Rattle.via_timer.proofs.Exact.{exactly, passages, again, unarmed}
 use Rattle.via.specs.Setters.{withFlags}
 use Rattle.via_bits.specs.Bytes.{bit, clear}
-use Rattle.via.specs.Via.{latchOf, counter1, counter2, settled, ticks}
-use Rattle.via.specs.Writes.{written}
+use Rattle.via.specs.Via.{latchOf, counter1, counter2, withCounters, ticks}
+use Rattle.via.specs.Writes.{viaWritten}
 use Rattle.via.specs.declared.Via.{Via}
 use Rattle.via.proofs.Bits.{or-bit, clear-bit}
 use Rattle.via.proofs.Waits.{first, second, waits}
@@ -68,33 +68,33 @@ load1 value v = value * 256 + v .t1 .low
 
 -- "an armed T1 loaded with N raises its flag exactly N+1 ticks later": n ticks after the load flag 6 is set exactly where N is
 -- below n.
-pub t1-exactly : (value n : ℕ) (v : Via) → bit 6 (ticks n (written 5 value v) .flags) ≡ ltb (load1 value v) n
-unfolding written latchOf
+pub t1-exactly : (value n : ℕ) (v : Via) → bit 6 (ticks n (viaWritten 5 value v) .flags) ≡ ltb (load1 value v) n
+unfolding viaWritten latchOf
 t1-exactly value n v =
-    flag-6 n (written 5 value v)
+    flag-6 n (viaWritten 5 value v)
     ∙ ap₂ (λ (x y : Bool). x || y) (off6 (v .flags))
     (exactly (bit 6 (v .acr)) (load1 value v) (load1 value v) n)
 
 -- The VIA at T1's passage number q + 1 after the load, in free run, N+1 + q (N+2) ticks after it.
 abbrev pub passage : ℕ → ℕ → Via → Via
-passage q value v = ticks (load1 value v + 1 + q * (load1 value v + 2)) (written 5 value v)
+passage q value v = ticks (load1 value v + 1 + q * (load1 value v + 2)) (viaWritten 5 value v)
 
 -- "and in free run every N+2 ticks after": cleared at any passage, as by reading register 4, flag 6 is set n ticks later exactly
 -- where N+1 is below n.
 pub t1-every : (value q n : ℕ) (v : Via) → bit 6 (v .acr) ≡ true
     → bit 6 (ticks n (withFlags (passage q value v) (clear (passage q value v .flags) 64)) .flags) ≡ ltb (load1 value v + 1) n
-unfolding written latchOf
+unfolding viaWritten latchOf
 t1-every value q n v free =
     let l = load1 value v in
     let m = l + 1 + q * (l + 2) in
-    let w = written 5 value v in
+    let w = viaWritten 5 value v in
     let b = second (bit 5 (v .acr)) m (v .t2) in
     let top = at 65535 true true true in
     let seen : Via → Via = λ u. withFlags u (clear (u .flags) 64) in
     let came : first m w ≡ top = ap (λ (t : Bool). steps m t l (at l true false false)) free ∙ passages l q in
-    ap (λ (u : Via). bit 6 (ticks n (seen u) .flags)) (waits m w ∙ ap (λ (a : Counter). settled w a b) came)
-    ∙ flag-6 n (seen (settled w top b))
-    ∙ ap₂ (λ (x y : Bool). x || y) (off6 (settled w top b .flags))
+    ap (λ (u : Via). bit 6 (ticks n (seen u) .flags)) (waits m w ∙ ap (λ (a : Counter). withCounters w a b) came)
+    ∙ flag-6 n (seen (withCounters w top b))
+    ∙ ap₂ (λ (x y : Bool). x || y) (off6 (withCounters w top b .flags))
     (ap (λ (t : Bool). steps n t l (at 65535 true true false) .fired) free ∙ again l n)
 
 -- A T1 that is not armed sets no flag.
@@ -108,17 +108,17 @@ t1-unarmed n v e =
 -- "9 loads the counter from value and low latch, clears flag 5, arms .. at that passage, if armed, flag 5 is set": n ticks after a
 -- load with N flag 5 is set exactly where N is below n.
 pub t2-exactly : (value n : ℕ) (v : Via) → bit 5 (v .acr) ≡ false
-    → bit 5 (ticks n (written 9 value v) .flags) ≡ ltb (value * 256 + v .t2 .low) n
-unfolding written
+    → bit 5 (ticks n (viaWritten 9 value v) .flags) ≡ ltb (value * 256 + v .t2 .low) n
+unfolding viaWritten
 t2-exactly value n v e =
     let l = value * 256 + v .t2 .low in
-    flag-5 n (written 9 value v)
+    flag-5 n (viaWritten 9 value v)
     ∙ ap₂ (λ (x y : Bool). x || y) (off5 (v .flags))
-    (ap (λ (s : Bool). second s n (written 9 value v .t2) .fired) e ∙ exactly false 0 l n)
+    (ap (λ (s : Bool). second s n (viaWritten 9 value v .t2) .fired) e ∙ exactly false 0 l n)
 
 -- "It stands still while ACR bit 5 is 1."
 pub t2-still : (n : ℕ) (v : Via) → bit 5 (v .acr) ≡ true → (ticks n v .t2 ≡ v .t2) × (bit 5 (ticks n v .flags) ≡ bit 5 (v .flags))
 t2-still n v e = (
-  ap (λ (x : Via). x .t2) (waits n v ∙ ap (λ (s : Bool). settled v (first n v) (second s n (v .t2))) e),
+  ap (λ (x : Via). x .t2) (waits n v ∙ ap (λ (s : Bool). withCounters v (first n v) (second s n (v .t2))) e),
   flag-5 n v ∙ ap (λ (s : Bool). bit 5 (v .flags) || second s n (v .t2) .fired) e ∙ or-false (bit 5 (v .flags)),
 )

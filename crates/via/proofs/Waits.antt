@@ -10,7 +10,7 @@ use Rattle.via_timer.specs.Timer.{at, stepBy, step, steps}
 use Rattle.via_timer.specs.declared.Counter.{Counter}
 use Rattle.via.specs.Setters.{withCounter2, withArmed2, withFlags}
 use Rattle.via_bits.specs.Bytes.{bit}
-use Rattle.via.specs.Via.{latchOf, counter1, counter2, settled, tickOf, ticks, resetOf}
+use Rattle.via.specs.Via.{latchOf, counter1, counter2, withCounters, tickOf, ticks, resetOf}
 use Rattle.via.specs.declared.Timer2.{Timer2}
 use Rattle.via.specs.declared.Via.{Via}
 
@@ -81,9 +81,9 @@ never-due (suc n) t =
     never-due-by (c .due) (eqb (c .value) 0) 0 c
 
 -- ---- the VIA after one pair of counts and then another
-settle-more : (v : Via) (a b a' b' : Counter) → settled (settled v a b) a' b' ≡ settled v (joined a a') (joined b b')
+settle-more : (v : Via) (a b a' b' : Counter) → withCounters (withCounters v a b) a' b' ≡ withCounters v (joined a a') (joined b b')
 settle-more v a b a' b' =
-    ap (withFlags (settled v (joined a a') (joined b b'))) (raised (v .flags) (a .fired) (b .fired) (a' .fired) (b' .fired))
+    ap (withFlags (withCounters v (joined a a') (joined b b'))) (raised (v .flags) (a .fired) (b .fired) (a' .fired) (b' .fired))
 
 -- T2, which may stand still
 abbrev pub second : Bool → ℕ → Timer2 → Counter
@@ -101,7 +101,7 @@ second-more false n t =
     ∙ joined-step false 0 b
 
 -- Timers that have not moved.
-settled-still : (still : Bool) (v : Via) → v ≡ settled v (counter1 (v .t1)) (cond still (counter2 (v .t2)) (counter2 (v .t2)))
+settled-still : (still : Bool) (v : Via) → v ≡ withCounters v (counter1 (v .t1)) (cond still (counter2 (v .t2)) (counter2 (v .t2)))
 settled-still true v = sym (ap (withFlags v) (or-zero-r (bitOr (v .flags) 0) ∙ or-zero-r (v .flags)))
 settled-still false v = sym (ap (withFlags v) (or-zero-r (bitOr (v .flags) 0) ∙ or-zero-r (v .flags)))
 
@@ -109,7 +109,7 @@ settled-still false v = sym (ap (withFlags v) (or-zero-r (bitOr (v .flags) 0) �
 abbrev pub first : ℕ → Via → Counter
 first n v = steps n (bit 6 (v .acr)) (latchOf (v .t1)) (counter1 (v .t1))
 
-pub waits : (n : ℕ) (v : Via) → ticks n v ≡ settled v (first n v) (second (bit 5 (v .acr)) n (v .t2))
+pub waits : (n : ℕ) (v : Via) → ticks n v ≡ withCounters v (first n v) (second (bit 5 (v .acr)) n (v .t2))
 unfolding ticks steps tickOf
 waits zero v = settled-still (bit 5 (v .acr)) v
 waits (suc n) v =
@@ -119,7 +119,7 @@ waits (suc n) v =
     let b = second still n (v .t2) in
     ap tickOf (waits n v)
     ∙ settle-more v a b (step free (latchOf (v .t1)) (unfired a)) (oneMore still (v .t2) b)
-    ∙ ap₂ (settled v) (joined-step free (latchOf (v .t1)) a) (second-more still n (v .t2))
+    ∙ ap₂ (withCounters v) (joined-step free (latchOf (v .t1)) a) (second-more still n (v .t2))
 
 -- two resets with no wait between equal one
 pub reset-twice : (v : Via) → resetOf (resetOf v) ≡ resetOf v

@@ -1,4 +1,4 @@
--- Reading the VIA's registers 0 to 15, by document 01: the value, and the flags that the read clears. The code is in registers.
+-- Reading the VIA's registers 0 to 15, by document 01: the value, and the flags that the read clears.
 use Prim.Native.Nat.{ℕ, _+_, _/_, _%_}
 use mathlib.Core.Bool.{Bool, cond}
 use lib.Dec.{eqb}
@@ -45,6 +45,6 @@ flagsRead r s =
     (cond (eqb r 8) (clear (s .flags) 32)
     (s .flags)))
 
-unfoldable pub readOf : ℕ → Inputs → Via → Access
+unfoldable pub registerRead : ℕ → Inputs → Via → Access
 unfolding valueRead flagsRead
-readOf r i s = record { via = withFlags s (flagsRead r s); value = valueRead r i s }
+registerRead r i s = record { via = withFlags s (flagsRead r s); value = valueRead r i s }

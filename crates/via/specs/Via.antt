@@ -1,5 +1,4 @@
 -- The VIA by document 01: fresh, its ports, its timers tick by tick, its flags and its level, reset.
--- The code of `raisedOf`, `asking`, `levelOf` and `acceptedVia` is in viaflags.
 use Prim.Native.Nat.{ℕ, zero, suc, _+_, _*_}
 use mathlib.Core.Bool.{Bool, true, false, cond, not, _&&_}
 use lib.Dec.{eqb, ltb}
@@ -44,8 +43,8 @@ abbrev pub counter2 : Timer2 → Counter
 counter2 t = at (t .counter) (t .armed) false false
 
 -- The VIA whose timers came to a and b: "At that passage, if armed, flag 6 is set", of T2 "flag 5 is set".
-abbrev pub settled : Via → Counter → Counter → Via
-settled v a b =
+abbrev pub withCounters : Via → Counter → Counter → Via
+withCounters v a b =
     withFlags
     (withT2
     (withT1 v (withDue1 (withArmed1 (withCounter1 (v .t1) (a .value)) (a .armed)) (a .due)))
@@ -56,7 +55,7 @@ settled v a b =
 unfoldable pub tickOf : Via → Via
 unfolding latchOf
 tickOf v =
-    settled v (step (bit 6 (v .acr)) (latchOf (v .t1)) (counter1 (v .t1)))
+    withCounters v (step (bit 6 (v .acr)) (latchOf (v .t1)) (counter1 (v .t1)))
     (cond (bit 5 (v .acr)) (counter2 (v .t2)) (step false 0 (counter2 (v .t2))))
 
 -- n ticks, one after the other.

@@ -51,9 +51,9 @@ flagsWritten r v s =
     (s .flags))))
 
 -- "Registers 10 to 12 store."
-unfoldable pub written : ℕ → ℕ → Via → Via
+unfoldable pub viaWritten : ℕ → ℕ → Via → Via
 unfolding portsWritten timer1Written timer2Written portAFlags flagsWritten enabledBy
-written r v s =
+viaWritten r v s =
     withEnables
     (withFlags
     (withPcr

@@ -1,9 +1,9 @@
-// The VIA: ports, two timers, registers written, reset; what is asked of its flags is in viaflags, reading in registers. The state goes in by value, and the next one comes out.
+// The VIA: ports, two timers, registers written, reset; what is asked of its flags is in via_flags, reading in via_registers. The state goes in by value, and the next one comes out.
 ghost use mathlib.Core.Path.{_≡_};
 ghost use mathlib.Core.Bool.{cond, false};
 ghost use Prim.Native.Nat.{_<_};
 ghost use Rattle.via_timer.specs.Timer.{steps};
-ghost use Rattle.via.specs.Writes.{timer1Written, written};
+ghost use Rattle.via.specs.Writes.{timer1Written, viaWritten};
 ghost use Rattle.via.specs.Via.{freshVia, latchOf, counter1, counter2, ticks, resetOf};
 use via_timer::Counter;
 
@@ -163,7 +163,7 @@ impl Via {
     // The value is written to a register.
     pub fn write(mut self, register: u8, value: u8) -> Via
         requires { ⌜ register < 16 ⌝ }
-        ensures { λ r. ⌜ r ≡ written register value self ⌝ }
+        ensures { λ r. ⌜ r ≡ viaWritten register value self ⌝ }
     {
         match register {
             0 => self.ports.outb = value,

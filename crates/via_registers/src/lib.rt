@@ -2,7 +2,7 @@
 ghost use mathlib.Core.Path.{_≡_};
 ghost use Prim.Native.Nat.{_<_, _+_, _/_, _%_};
 ghost use Rattle.via.specs.Via.{portLevel};
-ghost use Rattle.via.specs.Registers.{flagsByte, valueRead, flagsRead, readOf};
+ghost use Rattle.via.specs.Registers.{flagsByte, valueRead, flagsRead, registerRead};
 use via::Access;
 use via::Inputs;
 use via::Via;
@@ -72,7 +72,7 @@ fn flags_read(via: Via, register: u8) -> u8
 // A register is read, with these levels on the input lines.
 pub fn read(via: Via, register: u8, inputs: Inputs) -> Access
     requires { ⌜ register < 16 ⌝ }
-    ensures { λ r. ⌜ r ≡ readOf register inputs via ⌝ }
+    ensures { λ r. ⌜ r ≡ registerRead register inputs via ⌝ }
 {
     let mut after = via;
     after.flags = flags_read(via, register);

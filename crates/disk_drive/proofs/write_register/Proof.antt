@@ -2,7 +2,7 @@ use borrow.Author.Needs.{needs}
 use borrow.Author.Tests.{ne-eqb}
 use mathlib.Core.Path.{sym, ap, _∙_}
 use mathlib.Core.Bool.{cond}
-use Rattle.disk_spec.specs.Drive.{withStep, removed}
+use Rattle.disk_spec.specs.Drive.{withStep, withDiskOut}
 use Rattle.disk_spec.specs.Control.{registerWritten}
 use Rattle.disk_spec.proofs.ControlLaws.{step-at-once, motor-at-once, eject-at-once}
 use Rattle.disk_drive.proofs.write_register.Statement.{statement}
@@ -29,7 +29,7 @@ returns-2 c =
     let a = c .before .before .before .before .args in
     let d = a .d in
     c .remove .ensures
-    ∙ ap (λ b. cond b (removed d) d) (sym (c .before .if2 .taken))
+    ∙ ap (λ b. cond b (withDiskOut d) d) (sym (c .before .if2 .taken))
     ∙ eject-at-once (a .value) d
     ∙ sym (ap (λ r. registerWritten r (a .value) d) (c .before .before .before .match .keys4))
 
@@ -57,7 +57,7 @@ unfolding registerWritten
 returns-6 c =
     let a = c .before .before .before .args in
     let d = a .d in
-    ap (λ b. cond b (removed d) d) (sym (c .if2 .left))
+    ap (λ b. cond b (withDiskOut d) d) (sym (c .if2 .left))
     ∙ eject-at-once (a .value) d
     ∙ sym (ap (λ r. registerWritten r (a .value) d) (c .before .before .match .keys4))
 

@@ -7,10 +7,10 @@ use Rattle.disk_spec.specs.Control.{registerWritten}
 use Rattle.disk_spec.specs.declared.Strobe.{Strobe}
 use Rattle.disk_spec.specs.declared.Watched.{Watched}
 use Rattle.disk_spec.specs.Watched.{registerOf}
-use Rattle.disk_spec.specs.Strobe.{quiet, strobeAfter, strobeWrites}
+use Rattle.disk_spec.specs.Strobe.{noStrobe, strobeAfter, strobeWrites}
 use Rattle.levels.proofs.Laws.{no}
 use Rattle.disk_spec.specs.declared.Drives.{Drives}
-use Rattle.disk_spec.specs.Drives.{withStrobe, selected, withSelected, writtenBy, drivesAfter}
+use Rattle.disk_spec.specs.Drives.{withStrobe, driveAt, withDriveAt, drivesWritten, drivesAfter}
 use Rattle.disk_drives.proofs.after.Statement.{statement}
 use Rattle.disk_drives.proofs.after.Tie as tie
 use Rattle.disk_drives.proofs.after.Reads as reads
@@ -25,7 +25,7 @@ off-requires : tie.Need-off-requires
 off-requires c κs = search needs
 
 -- LSTRB off before and after: no write, and no strobe.
-unstrobed : (v w : Watched) (d : Drives) {s : Strobe} → not (v .lstrb || w .lstrb) ≡ true → s ≡ quiet → withStrobe d s ≡ drivesAfter v w d
+unstrobed : (v w : Watched) (d : Drives) {s : Strobe} → not (v .lstrb || w .lstrb) ≡ true → s ≡ noStrobe → withStrobe d s ≡ drivesAfter v w d
 unfolding drivesAfter strobeAfter strobeWrites
 unstrobed v w d {s} h e = go (v .lstrb) (w .lstrb) refl refl h
   where
@@ -36,16 +36,16 @@ unstrobed v w d {s} h e = go (v .lstrb) (w .lstrb) refl refl h
 
 -- A write that acts, on the drive that SELECT names.
 written : (b : Bool) (v w : Watched) (d : Drives) {g : ℕ} {x : Drive} {s : Strobe} → strobeWrites v w (d .strobe) ≡ true → w .select ≡ b
-    → g ≡ registerOf w → x ≡ registerWritten g (w .ca2) (selected b d) → s ≡ strobeAfter v w (d .strobe)
-    → withStrobe (withSelected b d x) s ≡ drivesAfter v w d
+    → g ≡ registerOf w → x ≡ registerWritten g (w .ca2) (driveAt b d) → s ≡ strobeAfter v w (d .strobe)
+    → withStrobe (withDriveAt b d x) s ≡ drivesAfter v w d
 unfolding drivesAfter
 written b v w d {g} {x} {s} acts on named put strobed =
     let z = strobeAfter v w (d .strobe) in
-    let whole : Bool → ℕ → Drives = λ (e : Bool) (n : ℕ). withStrobe (withSelected e d (registerWritten n (w .ca2) (selected e d))) z in
-    ap (λ (y : Strobe). withStrobe (withSelected b d x) y) strobed
-    ∙ ap (λ (y : Drive). withStrobe (withSelected b d y) z) put
+    let whole : Bool → ℕ → Drives = λ (e : Bool) (n : ℕ). withStrobe (withDriveAt e d (registerWritten n (w .ca2) (driveAt e d))) z in
+    ap (λ (y : Strobe). withStrobe (withDriveAt b d x) y) strobed
+    ∙ ap (λ (y : Drive). withStrobe (withDriveAt b d y) z) put
     ∙ ap (whole b) named
-    ∙ sym (ap (λ (t : Bool). withStrobe (writtenBy t w d) z) acts ∙ ap (λ (e : Bool). whole e (registerOf w)) on)
+    ∙ sym (ap (λ (t : Bool). withStrobe (drivesWritten t w d) z) acts ∙ ap (λ (e : Bool). whole e (registerOf w)) on)
 
 returns : tie.Need-returns
 returns c = let a = c .before .before .before .before .args in unstrobed (a .before) (a .after) (a .d) (c .before .if1 .taken) (c .off .ensures)

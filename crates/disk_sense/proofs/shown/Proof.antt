@@ -1,5 +1,5 @@
 use borrow.Author.Needs.{needs}
-use Rattle.disk_spec.specs.Sense.{shownOf}
+use Rattle.disk_spec.specs.Sense.{senseShown}
 use Rattle.disk_sense.proofs.shown.Statement.{statement}
 use Rattle.disk_sense.proofs.shown.Tie as tie
 use Rattle.disk_sense.proofs.shown.Reads as reads
@@ -14,11 +14,11 @@ sense-requires : tie.Need-sense-requires
 sense-requires c κs = search needs
 
 returns : tie.Need-returns
-unfolding shownOf
+unfolding senseShown
 returns c = simp (← c .before .before .drives-sense .ensures, c .before .if1 .taken, ← c .sense .ensures)
 
 returns-2 : tie.Need-returns-2
-unfolding shownOf
+unfolding senseShown
 returns-2 c = simp (← c .before .drives-sense .ensures, c .if1 .left)
 
 pub shown-spec : {M : Type 1} → statement M

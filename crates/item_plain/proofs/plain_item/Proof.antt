@@ -1,11 +1,11 @@
 use borrow.Author.Needs.{needs}
-use Rattle.item_spec.specs.Items.{plainOf}
+use Rattle.item_spec.specs.Items.{plainRecord}
 use borrow.Author.Tests.{eq-eqb, ne-eqb}
 use Rattle.item_plain.proofs.plain_item.Statement.{statement}
 use Rattle.item_plain.proofs.plain_item.Tie as tie
 
 returns : tie.Need-returns
-unfolding plainOf
+unfolding plainRecord
 returns c = simp (ne-eqb _ _ (c .if1 .taken))
 
 le16-requires : tie.Need-le16-requires
@@ -21,15 +21,15 @@ enum-told-3 : tie.Need-enum-told-3
 enum-told-3 c = search needs
 
 returns-2 : tie.Need-returns-2
-unfolding plainOf
+unfolding plainRecord
 returns-2 c = simp (eq-eqb _ _ (c .before .before .before .if1 .left), ← c .before .before .le16 .ensures, c .enum-told .given .1)
 
 returns-3 : tie.Need-returns-3
-unfolding plainOf
+unfolding plainRecord
 returns-3 c = simp (eq-eqb _ _ (c .before .before .before .if1 .left), ← c .before .before .le16 .ensures, c .enum-told2 .given .1)
 
 returns-4 : tie.Need-returns-4
-unfolding plainOf
+unfolding plainRecord
 returns-4 c = simp (eq-eqb _ _ (c .before .before .before .if1 .left), ← c .before .before .le16 .ensures, c .enum-told3 .given .1)
 
 pub plain-item-spec : {M : Type 1} → statement M

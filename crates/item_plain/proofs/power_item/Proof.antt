@@ -1,11 +1,11 @@
 use borrow.Author.Needs.{needs}
-use Rattle.item_spec.specs.Items.{powerOf}
+use Rattle.item_spec.specs.Items.{powerRecord}
 use borrow.Author.Tests.{eq-eqb, ne-eqb}
 use Rattle.item_plain.proofs.power_item.Statement.{statement}
 use Rattle.item_plain.proofs.power_item.Tie as tie
 
 returns : tie.Need-returns
-unfolding powerOf
+unfolding powerRecord
 returns c = simp (ne-eqb _ _ (c .if1 .taken))
 
 le16-requires : tie.Need-le16-requires
@@ -15,7 +15,7 @@ le32-requires : tie.Need-le32-requires
 le32-requires c κs = search needs
 
 returns-2 : tie.Need-returns-2
-unfolding powerOf
+unfolding powerRecord
 returns-2 c = simp (eq-eqb _ _ (c .before .before .if1 .left), ← c .before .le16 .ensures, ← c .le32 .ensures)
 
 pub power-item-spec : {M : Type 1} → statement M

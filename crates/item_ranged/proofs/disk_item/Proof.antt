@@ -1,5 +1,5 @@
 use borrow.Author.Needs.{needs}
-use Rattle.item_spec.specs.Ranged.{diskOf}
+use Rattle.item_spec.specs.Ranged.{diskRecord}
 use borrow.Author.Tests.{eq-eqb, ne-eqb}
 use Rattle.item_spec.proofs.Any.{any4}
 use Rattle.item_ranged.proofs.disk_item.Statement.{statement}
@@ -9,7 +9,7 @@ use Rattle.item_ranged.proofs.disk_item.Lts as lts
 use Rattle.octets.proofs.le16.Reads as le16-reads
 
 returns : tie.Need-returns
-unfolding diskOf
+unfolding diskRecord
 returns c = simp (ne-eqb _ _ (c .if1 .taken))
 
 shared-slice-read-external : tie.Need-shared-slice-read-external
@@ -25,14 +25,14 @@ shared-slice-read-sides : tie.Need-shared-slice-read-sides
 shared-slice-read-sides c = search needs
 
 returns-2 : tie.Need-returns-2
-unfolding diskOf
+unfolding diskRecord
 returns-2 c = simp (eq-eqb _ _ (c .before .before .before .before .before .if1 .left), any4, c .if2 .taken)
 
 le16-requires : tie.Need-le16-requires
 le16-requires c κs = search needs
 
 returns-3 : tie.Need-returns-3
-unfolding diskOf
+unfolding diskRecord
 returns-3 c = simp (eq-eqb _ _ (c .before .before .before .before .before .before .if1 .left), any4, c .before .if2 .left, ← c .le16 .ensures)
 
 pub disk-item-spec : {M : Type 1} → statement M

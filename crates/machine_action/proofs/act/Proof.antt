@@ -1,7 +1,7 @@
 use mathlib.Core.Path.{subst}
 use Rattle.machine_spec.specs.Action.{actedOf}
 use borrow.Author.Tests.{lt-ltb, le-ltb, le-leb, lt-leb, eq-eqb, ne-eqb}
-use Rattle.item_spec.specs.Items.{InRange}
+use Rattle.item_spec.specs.Items.{ItemInRange}
 use borrow.Author.Needs.{needs}
 use Rattle.machine_action.proofs.act.Statement.{statement}
 use Rattle.machine_action.proofs.act.Tie as tie
@@ -23,25 +23,25 @@ enum-known-item : tie.Need-enum-known-item
 enum-known-item c = search needs
 
 read-via-requires : tie.Need-read-via-requires
-read-via-requires c κs = let a = c .before .before .before in (subst InRange (c .before .item .given .1) (a .pre .0), a .pre .1 .1)
+read-via-requires c κs = let a = c .before .before .before in (subst ItemInRange (c .before .item .given .1) (a .pre .0), a .pre .1 .1)
 
 enum-known-item-2 : tie.Need-enum-known-item-2
 enum-known-item-2 c = search needs
 
 read-iwm-requires : tie.Need-read-iwm-requires
-read-iwm-requires c κs = let a = c .before .before .before in (subst InRange (c .before .item2 .given .1) (a .pre .0), a .pre .1)
+read-iwm-requires c κs = let a = c .before .before .before in (subst ItemInRange (c .before .item2 .given .1) (a .pre .0), a .pre .1)
 
 enum-known-item-3 : tie.Need-enum-known-item-3
 enum-known-item-3 c = search needs
 
 write-via-requires : tie.Need-write-via-requires
-write-via-requires c κs = subst InRange (c .before .item3 .given .1) (c .before .before .before .pre .0)
+write-via-requires c κs = subst ItemInRange (c .before .item3 .given .1) (c .before .before .before .pre .0)
 
 enum-known-item-4 : tie.Need-enum-known-item-4
 enum-known-item-4 c = search needs
 
 write-iwm-requires : tie.Need-write-iwm-requires
-write-iwm-requires c κs = subst InRange (c .before .item4 .given .1) (c .before .before .before .pre .0)
+write-iwm-requires c κs = subst ItemInRange (c .before .item4 .given .1) (c .before .before .before .pre .0)
 
 enum-told : tie.Need-enum-told
 enum-told c = search needs
@@ -59,13 +59,13 @@ enum-known-item-5 : tie.Need-enum-known-item-5
 enum-known-item-5 c = search needs
 
 set-line-requires : tie.Need-set-line-requires
-set-line-requires c κs = subst InRange (c .before .item5 .given .1) (c .before .before .before .pre .0) .0
+set-line-requires c κs = subst ItemInRange (c .before .item5 .given .1) (c .before .before .before .pre .0) .0
 
 enum-known-item-6 : tie.Need-enum-known-item-6
 enum-known-item-6 c = search needs
 
 set-sense-requires : tie.Need-set-sense-requires
-set-sense-requires c κs = let r = subst InRange (c .before .item6 .given .1) (c .before .before .before .pre .0) in (r .0, r .1)
+set-sense-requires c κs = let r = subst ItemInRange (c .before .item6 .given .1) (c .before .before .before .pre .0) in (r .0, r .1)
 
 enum-told-3 : tie.Need-enum-told-3
 enum-told-3 c = search needs

@@ -1,7 +1,7 @@
 use mathlib.Core.Path.{ap, _∙_}
 use native.Mathlib.Omega.{arith}
 use borrow.Author.Needs.{needs}
-use Rattle.clock_spec.specs.Command.{bit}
+use Rattle.clock_spec.specs.Command.{bitNumber}
 use Rattle.clock_spec.proofs.CommandRange.{bit-le, cast}
 use Rattle.machine_spec.specs.Pins.{selOf}
 use Rattle.machine_pins.proofs.sel_of.Statement.{statement}
@@ -20,7 +20,7 @@ returns : tie.Need-returns
 unfolding selOf
 returns c =
     let b = c .pin-level .result in
-    (cast b ∙ ap bit (c .pin-level .ensures), omega (arith, cast b, bit-le b))
+    (cast b ∙ ap bitNumber (c .pin-level .ensures), omega (arith, cast b, bit-le b))
 
 pub sel-of-spec : {M : Type 1} → statement M
 sel-of-spec = tie.close (tie.spec pin-level-requires cast-result returns)

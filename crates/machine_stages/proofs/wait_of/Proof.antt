@@ -1,5 +1,5 @@
 use borrow.Author.Needs.{needs}
-use Rattle.machine_spec.specs.Stages.{waitOf}
+use Rattle.machine_spec.specs.Stages.{itemWait}
 use borrow.Author.Tests.{lt-ltb, le-ltb, le-leb, lt-leb, eq-eqb, ne-eqb}
 use Rattle.machine_stages.proofs.wait_of.Statement.{statement}
 use Rattle.machine_stages.proofs.wait_of.Tie as tie
@@ -40,47 +40,47 @@ enum-known-item-11 : tie.Need-enum-known-item-11
 enum-known-item-11 c = search needs
 
 returns : tie.Need-returns
-unfolding waitOf
+unfolding itemWait
 returns c = simp (c .before .item .given .1)
 
 returns-2 : tie.Need-returns-2
-unfolding waitOf
+unfolding itemWait
 returns-2 c = simp (c .before .item2 .given .1)
 
 returns-3 : tie.Need-returns-3
-unfolding waitOf
+unfolding itemWait
 returns-3 c = simp (c .before .item3 .given .1)
 
 returns-4 : tie.Need-returns-4
-unfolding waitOf
+unfolding itemWait
 returns-4 c = simp (c .before .item4 .given .1)
 
 returns-5 : tie.Need-returns-5
-unfolding waitOf
+unfolding itemWait
 returns-5 c = simp (c .before .item5 .given .1)
 
 returns-6 : tie.Need-returns-6
-unfolding waitOf
+unfolding itemWait
 returns-6 c = simp (c .before .item6 .given .1)
 
 returns-7 : tie.Need-returns-7
-unfolding waitOf
+unfolding itemWait
 returns-7 c = simp (c .before .item7 .given .1)
 
 returns-8 : tie.Need-returns-8
-unfolding waitOf
+unfolding itemWait
 returns-8 c = simp (c .before .item8 .given .1)
 
 returns-9 : tie.Need-returns-9
-unfolding waitOf
+unfolding itemWait
 returns-9 c = simp (c .before .item9 .given .1)
 
 returns-10 : tie.Need-returns-10
-unfolding waitOf
+unfolding itemWait
 returns-10 c = simp (c .before .item10 .given .1)
 
 returns-11 : tie.Need-returns-11
-unfolding waitOf
+unfolding itemWait
 returns-11 c = simp (c .before .item11 .given .1)
 
 pub wait-of-spec : {M : Type 1} → statement M

@@ -4,7 +4,7 @@ use Rattle.machine_spec.specs.declared.Machine.{Machine}
 use Rattle.machine_spec.specs.Machine.{Levels}
 use Rattle.machine_spec.proofs.MachineLaws.{parts}
 use Rattle.machine_spec.specs.Action.{actedOf}
-use Rattle.machine_spec.specs.Stages.{waited}
+use Rattle.machine_spec.specs.Stages.{afterWait}
 use Rattle.machine_spec.specs.Step.{stepOf}
 use Rattle.machine_spec.proofs.Step.{met, quiet-step}
 use borrow.Author.Needs.{needs}
@@ -58,7 +58,7 @@ returns-2 c =
     let a = c .before .before in
     let s = a .before .before .before in
     a .act .ensures
-    ∙ ap (λ (x : Machine). actedOf x (s .args .item)) (a .before .wait .ensures ∙ ap (λ (n : ℕ). waited n (s .args .m)) (a .before .before .wait-of .ensures))
+    ∙ ap (λ (x : Machine). actedOf x (s .args .item)) (a .before .wait .ensures ∙ ap (λ (n : ℕ). afterWait n (s .args .m)) (a .before .before .wait-of .ensures))
     ∙ sym (quiet-step (s .args .m) (s .args .item) (s .pre .0) (c .before .moves-lines .ensures (c .if1 .left)))
 
 pub step-spec : {M : Type 1} → statement M

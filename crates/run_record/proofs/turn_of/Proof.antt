@@ -1,5 +1,5 @@
 use Rattle.levels.specs.Levels.{allLevels}
-use Rattle.item_spec.specs.Items.{InRange}
+use Rattle.item_spec.specs.Items.{ItemInRange}
 use Rattle.item_spec.proofs.ItemRange.{decoded-range}
 use Rattle.machine_spec.specs.declared.Did.{Did}
 use Rattle.machine_spec.proofs.MachineLaws.{parts}
@@ -50,7 +50,7 @@ unfolding turnOf
 returns-2 c = simp (← c .before .before .before .before .before .before .decode .ensures, c .before .before .before .before .d .given .1, ← c .before .before .refuses .ensures, ne-eqb _ _ (c .before .if1 .taken), ← c .no2 .ensures)
 
 -- the item that the decoder let through is in range
-range : (c : tie.Else1) → InRange (c .before .before .before .d .given .0 .0)
+range : (c : tie.Else1) → ItemInRange (c .before .before .before .d .given .0 .0)
 range c = decoded-range _ _ (sym (c .before .before .before .before .before .decode .ensures) ∙ c .before .before .before .d .given .1)
 
 step-requires : tie.Need-step-requires

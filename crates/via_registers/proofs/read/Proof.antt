@@ -1,5 +1,5 @@
 use borrow.Author.Needs.{needs}
-use Rattle.via.specs.Registers.{readOf}
+use Rattle.via.specs.Registers.{registerRead}
 use Rattle.via_registers.proofs.read.Statement.{statement}
 use Rattle.via_registers.proofs.read.Tie as tie
 use Rattle.via_registers.proofs.read.Reads as reads
@@ -14,7 +14,7 @@ value-read-requires : tie.Need-value-read-requires
 value-read-requires c κs = search needs
 
 returns : tie.Need-returns
-unfolding readOf
+unfolding registerRead
 returns c = simp (← c .before .flags-read .ensures, ← c .value-read .ensures)
 
 pub read-spec : {M : Type 1} → statement M

@@ -1,7 +1,7 @@
 use mathlib.Core.Path.{sym, ap, _∙_}
 use Rattle.clock_spec.specs.Store.{act}
 use Rattle.clock_spec.specs.Phase.{counts}
-use Rattle.clock.specs.Step.{next, acts, edged}
+use Rattle.clock.specs.Step.{next, acts, afterEdge}
 use borrow.Author.Tests.{ltb-true}
 use Rattle.clock.proofs.Stays.{fall-stays}
 use borrow.Author.Needs.{needs}
@@ -15,7 +15,7 @@ shift-requires : tie.Need-shift-requires
 shift-requires c κs = ltb-true _ _ (sym (ap counts (c .before .p .given .1)) ∙ c .before .before .before .pre)
 
 returns : tie.Need-returns
-unfolding edged next acts act
+unfolding afterEdge next acts act
 returns c = simp (c .before .before .before .p .given .1, c .before .shift .ensures)
 
 returns-2 : tie.Need-returns-2

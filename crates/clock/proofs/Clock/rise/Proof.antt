@@ -1,7 +1,7 @@
 use mathlib.Core.Path.{sym, ap, _∙_}
 use Rattle.clock_spec.specs.Store.{act}
 use Rattle.clock_spec.specs.Phase.{counts}
-use Rattle.clock.specs.Step.{next, acts, edged}
+use Rattle.clock.specs.Step.{next, acts, afterEdge}
 use Rattle.clock.proofs.Stays.{rise-stays}
 use borrow.Author.Needs.{needs}
 use Rattle.clock.proofs.Clock.rise.Statement.{statement}
@@ -20,11 +20,11 @@ take-requires : tie.Need-take-requires
 take-requires c κs = sym (ap counts (c .before .p2 .given .1)) ∙ c .before .before .before .pre
 
 returns : tie.Need-returns
-unfolding edged next acts act
+unfolding afterEdge next acts act
 returns c = simp (c .before .before .before .p .given .1, c .heard .ensures)
 
 returns-2 : tie.Need-returns-2
-unfolding edged next acts
+unfolding afterEdge next acts
 returns-2 c = c .take .ensures ∙ simp (c .before .before .p2 .given .1)
 
 returns-3 : tie.Need-returns-3

@@ -1,6 +1,6 @@
 use mathlib.Core.Path.{sym, ap, _∙_}
 use Rattle.clock_spec.specs.Store.{act}
-use Rattle.clock.specs.Step.{next, acts, stepWires, edged}
+use Rattle.clock.specs.Step.{next, acts, stepWires, afterEdge}
 use Rattle.clock_spec.proofs.PhaseRange.{accepted-counts}
 use borrow.Author.Needs.{needs}
 use Rattle.clock.proofs.Clock.step.Statement.{statement}
@@ -31,24 +31,24 @@ rise-requires : tie.Need-rise-requires
 rise-requires c κs = accepted-counts 20 _ _ (c .before .before .before .before .pre)
 
 returns : tie.Need-returns
-unfolding stepWires edged next acts act
-returns c = ap (edged 20 (c .before .before .before .before .args .self)) (sym (c .before .enum-told .given .1) ∙ c .before .before .before .edge-between .ensures)
+unfolding stepWires afterEdge next acts act
+returns c = ap (afterEdge 20 (c .before .before .before .before .args .self)) (sym (c .before .enum-told .given .1) ∙ c .before .before .before .edge-between .ensures)
 
 returns-2 : tie.Need-returns-2
-unfolding stepWires edged next acts act
-returns-2 c = ap (edged 20 (c .before .before .before .before .args .self)) (sym (c .before .enum-told2 .given .1) ∙ c .before .before .before .edge-between .ensures)
+unfolding stepWires afterEdge next acts act
+returns-2 c = ap (afterEdge 20 (c .before .before .before .before .args .self)) (sym (c .before .enum-told2 .given .1) ∙ c .before .before .before .edge-between .ensures)
 
 returns-3 : tie.Need-returns-3
-unfolding stepWires edged next acts act
-returns-3 c = ap (edged 20 (c .before .before .before .args .self)) (sym (c .enum-told3 .given .1) ∙ c .before .before .edge-between .ensures)
+unfolding stepWires afterEdge next acts act
+returns-3 c = ap (afterEdge 20 (c .before .before .before .args .self)) (sym (c .enum-told3 .given .1) ∙ c .before .before .edge-between .ensures)
 
 returns-4 : tie.Need-returns-4
-unfolding stepWires edged
-returns-4 c = c .fall .ensures ∙ ap (edged 20 (c .before .before .before .before .args .self)) (sym (c .before .enum-told4 .given .1) ∙ c .before .before .before .edge-between .ensures)
+unfolding stepWires afterEdge
+returns-4 c = c .fall .ensures ∙ ap (afterEdge 20 (c .before .before .before .before .args .self)) (sym (c .before .enum-told4 .given .1) ∙ c .before .before .before .edge-between .ensures)
 
 returns-5 : tie.Need-returns-5
-unfolding stepWires edged
-returns-5 c = c .rise .ensures ∙ ap (edged 20 (c .before .before .before .before .before .args .self)) (sym (c .before .before .b .given .1) ∙ c .before .before .before .before .edge-between .ensures)
+unfolding stepWires afterEdge
+returns-5 c = c .rise .ensures ∙ ap (afterEdge 20 (c .before .before .before .before .before .args .self)) (sym (c .before .before .b .given .1) ∙ c .before .before .before .before .edge-between .ensures)
 
 pub step-spec : {M : Type 1} → statement M
 step-spec =

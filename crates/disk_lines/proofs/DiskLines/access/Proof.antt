@@ -1,5 +1,5 @@
 use mathlib.Core.Path.{refl}
-use Rattle.disk_lines.specs.Lines.{accessed}
+use Rattle.disk_lines.specs.Lines.{afterAccess}
 use borrow.Author.Needs.{needs}
 use Rattle.disk_lines.proofs.DiskLines.access.Statement.{statement}
 use Rattle.disk_lines.proofs.DiskLines.access.Tie as tie
@@ -11,7 +11,7 @@ element-write-d : tie.Need-element-write-d
 element-write-d c = search needs
 
 returns : tie.Need-returns
-unfolding accessed
+unfolding afterAccess
 returns c = refl
 
 pub access-spec : {M : Type 1} → statement M

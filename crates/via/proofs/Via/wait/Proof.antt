@@ -2,7 +2,7 @@ use mathlib.Core.Path.{sym, ap₂, _∙_}
 use Prim.Native.Nat.{ℕ}
 use lib.Bits.{bitOr}
 use Rattle.via.specs.Setters.{withFlags}
-use Rattle.via.specs.Via.{settled}
+use Rattle.via.specs.Via.{withCounters}
 use Rattle.via.proofs.Waits.{waits}
 use borrow.Author.Needs.{needs}
 use Rattle.via.proofs.Via.wait.Statement.{statement}
@@ -30,9 +30,9 @@ returns c =
     let second = c .before .before .before .before .before .before .before .before in
     let first = second .before .before in
     let a = first .before .before .args in
-    ap₂ (λ (f g : ℕ). withFlags (settled (a .self) (first .run1 .result) (second .run2 .result)) (bitOr (bitOr (a .self .flags) f) g))
+    ap₂ (λ (f g : ℕ). withFlags (withCounters (a .self) (first .run1 .result) (second .run2 .result)) (bitOr (bitOr (a .self .flags) f) g))
     (c .before .before .pick .ensures) (c .pick2 .ensures)
-    ∙ ap₂ (settled (a .self)) (first .run1 .ensures) (second .run2 .ensures)
+    ∙ ap₂ (withCounters (a .self)) (first .run1 .ensures) (second .run2 .ensures)
     ∙ sym (waits (a .n) (a .self))
 
 pub wait-spec : {M : Type 1} → statement M

@@ -1,6 +1,6 @@
 use borrow.Author.Needs.{needs}
 use Rattle.via.proofs.Rest.{fifteen}
-use Rattle.via.specs.Writes.{timer1Written, written}
+use Rattle.via.specs.Writes.{timer1Written, viaWritten}
 use borrow.Author.Tests.{lt-ltb, le-ltb, le-leb, lt-leb, eq-eqb, ne-eqb}
 use Rattle.via.proofs.Via.write.Statement.{statement}
 use Rattle.via.proofs.Via.write.Tie as tie
@@ -24,68 +24,68 @@ enable-requires : tie.Need-enable-requires
 enable-requires c κs = search needs
 
 returns : tie.Need-returns
-unfolding written
+unfolding viaWritten
 returns c = simp (c .before .match .keys1)
 
 returns-2 : tie.Need-returns-2
-unfolding written
+unfolding viaWritten
 returns-2 c = simp (c .before .before .before .match .keys2, ← c .before .port-a-flags .ensures)
 
 returns-3 : tie.Need-returns-3
-unfolding written
+unfolding viaWritten
 returns-3 c = simp (c .before .match .keys3)
 
 returns-4 : tie.Need-returns-4
-unfolding written
+unfolding viaWritten
 returns-4 c = simp (c .before .match .keys4)
 
 returns-5 : tie.Need-returns-5
-unfolding written
+unfolding viaWritten
 returns-5 c = simp (c .before .match .keys5)
 
 returns-6 : tie.Need-returns-6
-unfolding written timer1Written
+unfolding viaWritten timer1Written
 returns-6 c = simp (c .before .before .match .keys6, c .before .load .ensures)
 
 returns-7 : tie.Need-returns-7
-unfolding written
+unfolding viaWritten
 returns-7 c = simp (c .before .match .keys7)
 
 returns-8 : tie.Need-returns-8
-unfolding written
+unfolding viaWritten
 returns-8 c = simp (c .before .before .match .keys8)
 
 returns-9 : tie.Need-returns-9
-unfolding written
+unfolding viaWritten
 returns-9 c = simp (c .before .match .keys9)
 
 returns-10 : tie.Need-returns-10
-unfolding written
+unfolding viaWritten
 returns-10 c = simp (c .before .before .before .before .match .keys10, ← c .before .before .before .word .ensures)
 
 returns-11 : tie.Need-returns-11
-unfolding written
+unfolding viaWritten
 returns-11 c = simp (c .match .keys11)
 
 returns-12 : tie.Need-returns-12
-unfolding written
+unfolding viaWritten
 returns-12 c = simp (c .match .keys12)
 
 returns-13 : tie.Need-returns-13
-unfolding written
+unfolding viaWritten
 returns-13 c = simp (c .match .keys13)
 
 returns-14 : tie.Need-returns-14
-unfolding written
+unfolding viaWritten
 returns-14 c = simp (c .before .match .keys14)
 
 returns-15 : tie.Need-returns-15
-unfolding written
+unfolding viaWritten
 returns-15 c = simp (c .before .match .keys15, ← c .enable .ensures)
 
 -- tried: search needs
 returns-16 : tie.Need-returns-16
-unfolding written
+unfolding viaWritten
 returns-16 c =
     let s = c .before .before in
     simp (fifteen (s .args .register) (s .pre) (c .before .match .rest))
