@@ -1,50 +1,41 @@
+use borrow.Author.Tests.{lt-ltb}
+use Rattle.clock_spec.specs.Phase.{moreFollows}
 use borrow.Author.Needs.{needs}
 use Rattle.clock_phase.proofs.more_follows.Statement.{statement}
 use Rattle.clock_phase.proofs.more_follows.Tie as tie
-use Rattle.clock_phase.proofs.more_follows.Reads as reads
-use Rattle.clock_phase.proofs.more_follows.Lts as lts
-use Rattle.clock_command.proofs.hear.Reads as hear-reads
-use Rattle.clock_phase.proofs.is_more.Reads as is-more-reads
 
--- src/lib.rt:109:27
 enum-told : tie.Need-enum-told
 enum-told c = search needs
 
--- src/lib.rt:110:20
 enum-known-bytes : tie.Need-enum-known-bytes
 enum-known-bytes c = search needs
 
--- src/lib.rt:110:34
 hear-requires : tie.Need-hear-requires
 hear-requires c κs = search needs
 
--- src/lib.rt:110:26
 is-more-requires : tie.Need-is-more-requires
 is-more-requires c κs = search needs
 
--- src/lib.rt:111:20
 enum-known-bytes-2 : tie.Need-enum-known-bytes-2
 enum-known-bytes-2 c = search needs
 
--- src/lib.rt:111:37
 hear-requires-2 : tie.Need-hear-requires-2
 hear-requires-2 c κs = search needs
 
--- src/lib.rt:111:29
 is-more-requires-2 : tie.Need-is-more-requires-2
 is-more-requires-2 c κs = search needs
 
--- src/lib.rt:105:1
 returns : tie.Need-returns
-returns c = ?
+unfolding moreFollows
+returns c = simp (c .enum-told .given .1)
 
--- src/lib.rt:105:1
 returns-2 : tie.Need-returns-2
-returns-2 c = ?
+unfolding moreFollows
+returns-2 c = simp (c .before .before .before .bytes .given .1, lt-ltb (c .before .before .before .bytes .given .0 .0) 256 (search needs), ← c .before .hear .ensures, c .is-more .ensures)
 
--- src/lib.rt:105:1
 returns-3 : tie.Need-returns-3
-returns-3 c = ?
+unfolding moreFollows
+returns-3 c = simp (c .before .before .before .bytes2 .given .1, lt-ltb (c .before .before .before .bytes2 .given .0 .0) 256 (search needs), lt-ltb (c .before .before .before .bytes2 .given .0 .1 .0) 256 (search needs), ← c .before .hear2 .ensures, c .is-more2 .ensures)
 
 pub more-follows-spec : {M : Type 1} → statement M
 more-follows-spec =
