@@ -35,7 +35,7 @@ use Rattle.levels.proofs.Laws.{both, joined}
 -- ---- the phase
 
 -- A third byte is the last.
-third-last : (c : Command) → isMore (byThird c) ≡ true → ⊥
+pub third-last : (c : Command) → isMore (byThird c) ≡ true → ⊥
 third-last (Write t) h = false≢true h
 third-last (Read t) h = false≢true h
 third-last (Extended z a) h = false≢true h

@@ -10,10 +10,11 @@ use lib.Seq.{getD-set-same, getD-set-other, drop-set-lt}
 use borrow.Author.Tests.{eqb-true, eqb-false}
 use Rattle.levels.specs.Levels.{allBelow}
 use Rattle.clock_spec.specs.Command.{cellsOf, TargetInRange}
-use Rattle.clock_spec.specs.Shared.{Written}
+use Rattle.clock_spec.specs.Shared.{Event, Written}
 use Rattle.clock_spec.specs.Writable.{writable}
-use Rattle.clock_spec.specs.Store.{unusedClear, put, act}
+use Rattle.clock_spec.specs.Store.{freshStore, unusedClear, put, act, withEvent}
 use Rattle.clock_spec.specs.declared.Chip.{Chip}
+use Rattle.clock_spec.specs.declared.Chip.the-variants.{First, Later}
 use Rattle.clock_spec.specs.declared.Target.{Target}
 use Rattle.clock_spec.specs.declared.Target.the-variants.{Seconds, Test, Protect, Cell}
 use Rattle.clock_spec.specs.declared.Store.{Store}
@@ -56,3 +57,13 @@ unfolding act
 act-unused none s r = refl
 act-unused (some w) s r =
     cond-case (λ (x : Store). unusedClear x ≡ unusedClear s) (writable (w .to) (s .protect)) (λ e. put-unused (w .to) (w .byte) s r) (λ e. refl)
+
+-- Nor do SE and the time off touch them; and the fresh chip has them so.
+pub counted-unused : (e : Event) (s : Store) → unusedClear (withEvent e s) ≡ unusedClear s
+unfolding unusedClear
+counted-unused e s = refl
+
+pub fresh-unused : (k : Chip) → unusedClear (freshStore k) ≡ true
+unfolding unusedClear allBelow
+fresh-unused First = refl
+fresh-unused Later = refl
