@@ -1,9 +1,13 @@
 // The run: a machine, a list of items and an answer buffer; the stop number, the counts and the next machine.
 ghost use mathlib.Core.Path.{_≡_};
+ghost use mathlib.Core.Bool.{true};
 ghost use Prim.Native.Nat.{_≤_};
 ghost use lib.ListN.{length};
+ghost use Rattle.machine_spec.specs.Machine.{acceptedOf};
 ghost use Rattle.run_spec.specs.Outcome.{halt, ranOf, over, runOf};
+use item_spec::Decoded;
 use item_spec::Framed;
+use machine_act::Change;
 use machine_spec::Machine;
 use run_spec::Ran;
 
@@ -19,15 +23,19 @@ fn unaccepted(m: Machine) -> Ran
     }
 }
 
-// Runs the list from the machine given. The stop is 0 at the end of the list, else 1, 6 or 7.
-pub fn run(mut m: Machine, list: &[u8], answers: &mut [u8]) -> Ran
+// Runs the list from an accepted machine. The VIA, the disk lines and the IN lines stay in m and are changed here alone; m's own clock, drives and sense registers
+// are not looked at: what counts of them stands beside it.
+fn carried(mut m: Machine, list: &[u8], answers: &mut [u8]) -> Ran
+    requires { ⌜ acceptedOf m ≡ true ⌝ }
     ensures { λ r. ⌜ r ≡ ranOf (runOf m (now (list .entry)) (length (now (answers .entry)))) ⌝ }
     ensures { λ _. ⌜ now (answers .exit) ≡ over (runOf m (now (list .entry)) (length (now (answers .entry)))) (now (answers .entry)) ⌝ }
     ensures { λ r. ⌜ r .written ≤ length (now (answers .entry)) ⌝ }
 {
-    if !machine::accepted(m) {
-        return unaccepted(m);
-    }
+    let c = m.clock;
+    let mut core = clock_parts::core_of(c);
+    let mut cells = clock_parts::cells_of(c);
+    let mut drives = m.drives;
+    let mut sense = m.sense;
     let mut stop: u8 = 0;
     let mut at: usize = 0;
     let mut out: usize = 0;
@@ -43,16 +51,51 @@ pub fn run(mut m: Machine, list: &[u8], answers: &mut [u8]) -> Ran
             stop = 1;
             break;
         };
-        let t = run_record::turn_of(m, &rest[2..n]);
-        item_record::put(answers, out, item_record::answer_bytes(t.answer));
-        m = t.machine;
+        let d = run_record::judge(drives, &rest[2..n]);
+        let mut answer = item_record::no(item_plain::refusal(d));
+        if let Decoded::Done(item) = d {
+            let before = machine_pins::watched(m);
+            let ticks = machine_act::wait_of(item);
+            m.via = m.via.wait(ticks);
+            drives = disk_drives::wait(drives, ticks);
+            let a = machine_act::act(m, core, drives, item, &sense, &mut cells);
+            let disk = a.disk;
+            m.disk = disk;
+            core = a.core;
+            drives = a.drives;
+            let change = a.change;
+            match change {
+                Change::Nothing => {}
+                Change::Flags(f) => m.via.flags = f,
+                Change::Register(r, b) => m.via = m.via.write(r, b),
+                Change::Line(i, level) => m.inputs[i] = level,
+                Change::Sense(i, level) => sense[i] = level,
+                Change::Reset => m.via = m.via.reset(),
+                Change::Fresh => m.via = via::fresh(),
+            }
+            drives = disk_drives::after(drives, before, machine_pins::watched(m));
+            answer = machine_answer::answer(m, a.value);
+        }
+        item_record::put(answers, out, item_record::answer_bytes(answer));
         at += n;
         out += 8;
     }
     Ran {
-        machine: m,
+        machine: machine_act::whole_machine(m, core, cells, drives, sense),
         stop: stop,
         consumed: at,
         written: out,
     }
+}
+
+// Runs the list from the machine given. The stop is 0 at the end of the list, else 1, 6 or 7.
+pub fn run(m: Machine, list: &[u8], answers: &mut [u8]) -> Ran
+    ensures { λ r. ⌜ r ≡ ranOf (runOf m (now (list .entry)) (length (now (answers .entry)))) ⌝ }
+    ensures { λ _. ⌜ now (answers .exit) ≡ over (runOf m (now (list .entry)) (length (now (answers .entry)))) (now (answers .entry)) ⌝ }
+    ensures { λ r. ⌜ r .written ≤ length (now (answers .entry)) ⌝ }
+{
+    if machine::accepted(m) {
+        return carried(m, list, answers);
+    }
+    unaccepted(m)
 }

@@ -1,38 +1,26 @@
-// One whole record: what it says is decoded, judged by the state, carried out and answered.
+// One whole record: what it says is decoded, and judged by the state.
 ghost use mathlib.Core.Path.{_≡_};
-ghost use mathlib.Core.Bool.{true};
 ghost use Prim.Native.Nat.{_≤_};
 ghost use lib.ListN.{length};
-ghost use Rattle.machine_spec.specs.Machine.{acceptedOf};
+ghost use Rattle.machine_spec.specs.declared.Machine.{Machine};
 ghost use Rattle.run_spec.specs.Turn.{turnOf};
+ghost use Rattle.run_record.specs.Judged.{turnJudged, JudgedInRange};
+use disk_spec::Drives;
 use item_spec::Decoded;
-use machine_spec::Machine;
-use run_spec::Turn;
 
-// One whole record, its bytes after the length.
-pub fn turn_of(m: Machine, s: &[u8]) -> Turn
-    requires { ⌜ acceptedOf m ≡ true ⌝ }
+// The item of a record's bytes after the length, or the number of its refusal by the bytes or by a state with these drives.
+pub fn judge(d: Drives, s: &[u8]) -> Decoded
     requires { ⌜ 2 ≤ length (now s) ⌝ }
-    ensures { λ r. ⌜ r ≡ turnOf m (now (s .entry)) ⌝ }
+    ensures { λ r. ⌜ ((m : Machine) → m .drives ≡ d → turnOf m (now (s .entry)) ≡ turnJudged m r) ⌝ }
+    ensures { λ r. ⌜ JudgedInRange r ⌝ }
 {
-    let d = item_decode::decode(s);
-    let Decoded::Done(item) = d else {
-        return Turn {
-            machine: m,
-            answer: item_record::no(item_plain::refusal(d)),
-        };
+    let x = item_decode::decode(s);
+    let Decoded::Done(item) = x else {
+        return x;
     };
-    let n = machine_answer::refuses(m, item);
+    let n = machine_answer::refuses(d, item);
     if n != 0 {
-        return Turn {
-            machine: m,
-            answer: item_record::no(n),
-        };
+        return Decoded::Refused(n);
     }
-    let did = machine_step::step(m, item);
-    let next = did.machine;
-    Turn {
-        machine: next,
-        answer: machine_answer::answer(did),
-    }
+    x
 }

@@ -35,7 +35,7 @@ fn flags_byte(via: Via) -> u8
 }
 
 // The value that reading a register gives.
-fn value_read(via: Via, register: u8, inputs: Inputs) -> u8
+pub fn value_read(via: Via, register: u8, inputs: Inputs) -> u8
     requires { ⌜ register < 16 ⌝ }
     ensures { λ r. ⌜ r ≡ valueRead register inputs via ⌝ }
 {
@@ -60,7 +60,7 @@ fn value_read(via: Via, register: u8, inputs: Inputs) -> u8
 }
 
 // The flags after reading a register.
-fn flags_read(via: Via, register: u8) -> u8
+pub fn flags_read(via: Via, register: u8) -> u8
     ensures { λ r. ⌜ r ≡ flagsRead register via ⌝ }
 {
     let f = via.flags;

@@ -7,9 +7,9 @@ use Rattle.machine_answer.proofs.answer.Tie as tie
 use Rattle.machine_answer.proofs.answer.Reads as reads
 use Rattle.machine_answer.proofs.answer.Lts as lts
 use Rattle.disk_lines.proofs.byte.Reads as byte-reads
+use Rattle.machine_pins.proofs.sel_of.Reads as sel-of-reads
 use Rattle.via_flags.proofs.level.Reads as level-reads
 use Rattle.machine_pins.proofs.interrupt_level.Reads as interrupt-level-reads
-use Rattle.machine_pins.proofs.sel_of.Reads as sel-of-reads
 
 level-requires : tie.Need-level-requires
 level-requires c κs = search needs
@@ -21,7 +21,7 @@ array-read-interrupt-level-2 : tie.Need-array-read-interrupt-level-2
 array-read-interrupt-level-2 c = search needs
 
 interrupt-level-requires : tie.Need-interrupt-level-requires
-interrupt-level-requires c κs = let l = c .before .before .before .pre .1 in (rw (c .level .ensures) (via-level _), level-at _ _ l, level-at _ _ l)
+interrupt-level-requires c κs = let l = c .before .before .pre .1 in (rw (c .level .ensures) (via-level _), level-at _ _ l, level-at _ _ l)
 
 byte-requires : tie.Need-byte-requires
 byte-requires c κs = search needs

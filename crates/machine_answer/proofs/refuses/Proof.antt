@@ -15,14 +15,14 @@ refuses-place-requires c κs = search needs
 
 returns : tie.Need-returns
 unfolding refusesOf
-returns c = simp (c .before .before .before .item .given .1, ← c .before .refuses-place .ensures, c .if1 .taken)
+returns c = λ m e. simp (c .before .before .before .item .given .1, e, ← c .before .refuses-place .ensures, c .if1 .taken)
 
 returns-2 : tie.Need-returns-2
 unfolding refusesOf
-returns-2 c = simp (c .before .before .before .item .given .1, ← c .before .refuses-place .ensures, c .if1 .left)
+returns-2 c = λ m e. simp (c .before .before .before .item .given .1, e, ← c .before .refuses-place .ensures, c .if1 .left)
 
 returns-3 : tie.Need-returns-3
-returns-3 c = kinds-unrefused (c .before .args .m) (c .before .args .item) (c .match .keys2)
+returns-3 c = λ m e. kinds-unrefused m (c .before .args .item) (c .match .keys2)
 
 pub refuses-spec : {M : Type 1} → statement M
 refuses-spec =

@@ -1,0 +1,221 @@
+use mathlib.Core.Path.{_≡_, refl, ap, subst, _∙_}
+use denote.Ref.{now}
+use Rattle.levels.specs.Levels.{allLevels}
+use Rattle.via.specs.Registers.{registerRead}
+use Rattle.via.specs.Via.{freshVia, raisedOf, resetOf}
+use Rattle.clock_spec.specs.Phase.{shownLevel}
+use Rattle.clock_spec.specs.Shared.{advance, stops}
+use Rattle.clock_parts.specs.Parts.{coreSeconds}
+use Rattle.clock_parts.proofs.Laws.{enabled-idle}
+use Rattle.disk_lines.specs.declared.DiskLines.{DiskLines}
+use Rattle.disk_lines.proofs.Laws.{access-levels}
+use Rattle.item_spec.specs.Items.{ItemInRange}
+use Rattle.machine_spec.specs.declared.Machine.{Machine}
+use Rattle.machine_spec.specs.Machine.{wires, cellCount}
+use Rattle.machine_spec.specs.Pins.{wiresOf}
+use Rattle.machine_spec.specs.Accesses.{viaRead, iwmRead}
+use Rattle.machine_spec.specs.Action.{actedOf}
+use Rattle.machine_act.specs.Parts.{wholeMachine, machineChange, senseChange, clockedOf}
+use Rattle.machine_act.proofs.Laws.{quietly}
+use borrow.Author.Needs.{needs}
+use Rattle.machine_act.proofs.act.Statement.{statement}
+use Rattle.machine_act.proofs.act.Tie as tie
+use Rattle.machine_act.proofs.act.Reads as reads
+use Rattle.machine_act.proofs.act.Lts as lts
+use Rattle.clock_parts.proofs.add_seconds.Reads as add-seconds-reads
+use Rattle.clock_parts.proofs.idle.Reads as idle-reads
+use Rattle.disk_drives.proofs.place.Reads as place-reads
+use Rattle.disk_drives.proofs.power_cut.Reads as power-cut-reads
+use Rattle.disk_lines.proofs.DiskLines.access.Reads as access-reads
+use Rattle.disk_lines.proofs.off.Reads as off-reads
+use Rattle.machine_act.proofs.clocked.Reads as clocked-reads
+use Rattle.machine_act.proofs.iwm_value.Reads as iwm-value-reads
+use Rattle.machine_act.proofs.sense_index.Reads as sense-index-reads
+use Rattle.machine_act.proofs.via_value.Reads as via-value-reads
+use Rattle.via.proofs.Via.write.Reads as write-reads
+use Rattle.via_registers.proofs.flags_read.Reads as flags-read-reads
+
+-- The machine that the parts make.
+abbrev whole : tie.Start → Machine
+whole c = wholeMachine (c .args .m) (c .args .k) (now (c .args .cells)) (c .args .d) (now (c .args .sense))
+
+-- An action that moves no wire.
+quiet : (c : tie.Start) (y : Machine) → y ≡ actedOf (whole c) (c .args .item) .machine → wires (actedOf (whole c) (c .args .item) .machine) ≡ wires (whole c)
+    → y ≡ clockedOf (whole c) (c .args .item)
+quiet c y e w = quietly (whole c) (c .args .item) y (c .pre .1 .1) e w
+
+enum-known-item : tie.Need-enum-known-item
+enum-known-item c = search needs
+
+via-value-requires : tie.Need-via-value-requires
+via-value-requires c κs = (subst ItemInRange (c .before .item .given .1) (c .before .before .before .before .pre .0), c .before .before .before .before .pre .1 .0 .1)
+
+flags-read-requires : tie.Need-flags-read-requires
+flags-read-requires c κs = search needs
+
+enum-known-item-2 : tie.Need-enum-known-item-2
+enum-known-item-2 c = search needs
+
+access-requires : tie.Need-access-requires
+access-requires c κs = subst ItemInRange (c .before .item2 .given .1) (c .before .before .before .before .pre .0)
+
+iwm-value-requires : tie.Need-iwm-value-requires
+iwm-value-requires c κs = (ap (λ (d : DiskLines). allLevels (d .lines)) (c .access .ensures) ∙ access-levels _ _ (c .before .before .before .before .before .pre .1 .0 .0), c .before .before .before .before .before .pre .1 .0 .2)
+
+enum-known-item-3 : tie.Need-enum-known-item-3
+enum-known-item-3 c = search needs
+
+write-requires : tie.Need-write-requires
+write-requires c κs = subst ItemInRange (c .before .item3 .given .1) (c .before .before .before .before .pre .0)
+
+clocked-requires : tie.Need-clocked-requires
+clocked-requires c κs = search needs
+
+enum-known-item-4 : tie.Need-enum-known-item-4
+enum-known-item-4 c = search needs
+
+access-requires-2 : tie.Need-access-requires-2
+access-requires-2 c κs = subst ItemInRange (c .before .item4 .given .1) (c .before .before .before .before .pre .0)
+
+enum-told : tie.Need-enum-told
+enum-told c = search needs
+
+enum-told-2 : tie.Need-enum-told-2
+enum-told-2 c = search needs
+
+add-seconds-requires : tie.Need-add-seconds-requires
+add-seconds-requires c κs = search needs
+
+enum-known-item-5 : tie.Need-enum-known-item-5
+enum-known-item-5 c = search needs
+
+cast-t32 : tie.Need-cast-t32
+cast-t32 c = search needs
+
+enum-known-item-6 : tie.Need-enum-known-item-6
+enum-known-item-6 c = search needs
+
+sense-index-requires : tie.Need-sense-index-requires
+sense-index-requires c κs = let r = subst ItemInRange (c .before .item6 .given .1) (c .before .before .before .before .pre .0) in (r .0, r .1)
+
+enum-told-3 : tie.Need-enum-told-3
+enum-told-3 c = search needs
+
+off-requires : tie.Need-off-requires
+off-requires c κs = search needs
+
+idle-requires : tie.Need-idle-requires
+idle-requires c κs = search needs
+
+enum-known-item-7 : tie.Need-enum-known-item-7
+enum-known-item-7 c = search needs
+
+off-requires-2 : tie.Need-off-requires-2
+off-requires-2 c κs = search needs
+
+add-seconds-requires-2 : tie.Need-add-seconds-requires-2
+add-seconds-requires-2 c κs = search needs
+
+idle-requires-2 : tie.Need-idle-requires-2
+idle-requires-2 c κs = search needs
+
+power-cut-requires : tie.Need-power-cut-requires
+power-cut-requires c κs = search needs
+
+enum-known-item-8 : tie.Need-enum-known-item-8
+enum-known-item-8 c = search needs
+
+place-requires : tie.Need-place-requires
+place-requires c κs = search needs
+
+returns : tie.Need-returns
+unfolding actedOf viaRead registerRead iwmRead raisedOf machineChange senseChange
+returns c = (quiet (c .before .before .before .before .before .before) _ (simp (c .before .before .before .item .given .1, c .flags-read .ensures)) (simp (c .before .before .before .item .given .1)), (simp (c .before .before .before .item .given .1) (c .before .via-value .ensures), tt))
+
+returns-2 : tie.Need-returns-2
+unfolding actedOf viaRead registerRead iwmRead raisedOf machineChange senseChange
+returns-2 c = (quiet (c .before .before .before .before .before .before) _ (simp (c .before .before .before .item2 .given .1, c .before .access .ensures)) (simp (c .before .before .before .item2 .given .1)), (simp (c .before .before .before .item2 .given .1, c .iwm-value .ensures, c .before .access .ensures), tt))
+
+returns-3 : tie.Need-returns-3
+unfolding actedOf machineChange senseChange
+returns-3 c = (simp (c .before .before .before .before .item3 .given .1, ← c .before .before .write .ensures, ← c .clocked .ensures), (simp (c .before .before .before .before .item3 .given .1), subst ItemInRange (c .before .before .before .before .item3 .given .1) (c .before .before .before .before .before .before .before .pre .0)))
+
+returns-4 : tie.Need-returns-4
+unfolding actedOf viaRead registerRead iwmRead raisedOf machineChange senseChange
+returns-4 c = (quiet (c .before .before .before .before .before) _ (simp (c .before .before .item4 .given .1, c .access2 .ensures)) (simp (c .before .before .item4 .given .1)), (simp (c .before .before .item4 .given .1), tt))
+
+returns-5 : tie.Need-returns-5
+unfolding actedOf viaRead registerRead iwmRead raisedOf machineChange senseChange
+returns-5 c = (quiet (c .before .before .before .before) _ (simp (c .before .enum-told .given .1)) (simp (c .before .enum-told .given .1)), (simp (c .before .enum-told .given .1), tt))
+
+returns-6 : tie.Need-returns-6
+unfolding actedOf viaRead registerRead iwmRead raisedOf machineChange senseChange
+returns-6 c = (quiet (c .before .before .before .before .before) _ (simp (c .before .before .enum-told2 .given .1, c .before .add-seconds .ensures)) (simp (c .before .before .enum-told2 .given .1)), (simp (c .before .before .enum-told2 .given .1), tt))
+
+returns-7 : tie.Need-returns-7
+unfolding actedOf viaRead registerRead iwmRead raisedOf machineChange senseChange
+returns-7 c = (quiet (c .before .before .before .before) _ (simp (c .before .item5 .given .1)) (simp (c .before .item5 .given .1)), (simp (c .before .item5 .given .1), (subst ItemInRange (c .before .item5 .given .1) (c .before .before .before .before .pre .0)) .0))
+
+returns-8 : tie.Need-returns-8
+unfolding actedOf viaRead registerRead iwmRead raisedOf machineChange senseChange
+returns-8 c = (quiet (c .before .before .before .before .before) _ (simp (c .before .before .item6 .given .1, c .sense-index .ensures .0)) (simp (c .before .before .item6 .given .1)), (simp (c .before .before .item6 .given .1), c .sense-index .ensures .1))
+
+returns-9 : tie.Need-returns-9
+unfolding actedOf machineChange senseChange wiresOf resetOf
+returns-9 c =
+    let a = c .before .before .before .before .before .args in
+    (simp (c .before .before .enum-told3 .given .1, c .before .off .ensures, c .idle .ensures, enabled-idle cellCount (a .k) (now (a .cells)) (wiresOf (a .m .via .ports) (shownLevel (a .k .phase))) (wiresOf (resetOf (a .m .via) .ports) (shownLevel (a .k .phase))) refl), (simp (c .before .before .enum-told3 .given .1), tt))
+
+returns-10 : tie.Need-returns-10
+unfolding actedOf machineChange senseChange wiresOf freshVia
+returns-10 c =
+    let a = c .before .before .before .before .before .before .before .before .args in
+    (simp (c .before .before .before .before .before .item7 .given .1, c .before .before .before .off2 .ensures, c .power-cut .ensures, c .before .idle2 .ensures, c .before .before .add-seconds2 .ensures, enabled-idle cellCount (coreSeconds (a .k) (advance (stops (a .k .test)) (c .before .before .before .before .before .item7 .given .0 .1 .0) (a .k .seconds))) (now (a .cells)) (wiresOf (a .m .via .ports) (shownLevel (a .k .phase))) (wiresOf (freshVia .ports) (shownLevel (a .k .phase))) refl), (simp (c .before .before .before .before .before .item7 .given .1), tt))
+
+returns-11 : tie.Need-returns-11
+unfolding actedOf viaRead registerRead iwmRead raisedOf machineChange senseChange
+returns-11 c = (quiet (c .before .before .before .before .before) _ (simp (c .before .before .item8 .given .1, c .place .ensures)) (simp (c .before .before .item8 .given .1)), (simp (c .before .before .item8 .given .1), tt))
+
+pub act-spec : {M : Type 1} → statement M
+act-spec =
+    tie.close
+    (tie.spec
+    enum-known-item
+    via-value-requires
+    flags-read-requires
+    enum-known-item-2
+    access-requires
+    iwm-value-requires
+    enum-known-item-3
+    write-requires
+    clocked-requires
+    enum-known-item-4
+    access-requires-2
+    enum-told
+    enum-told-2
+    add-seconds-requires
+    enum-known-item-5
+    cast-t32
+    enum-known-item-6
+    sense-index-requires
+    enum-told-3
+    off-requires
+    idle-requires
+    enum-known-item-7
+    off-requires-2
+    add-seconds-requires-2
+    idle-requires-2
+    power-cut-requires
+    enum-known-item-8
+    place-requires
+    returns
+    returns-2
+    returns-3
+    returns-4
+    returns-5
+    returns-6
+    returns-7
+    returns-8
+    returns-9
+    returns-10
+    returns-11)

@@ -1,0 +1,219 @@
+// An item over the machine in parts: its wait, and its action with the clock's look at its wires. The VIA, the disk lines and the IN lines stay in the machine;
+// the clock's core and the drives go by value beside it; the cells and the sense registers are lent.
+ghost use mathlib.Core.Path.{_≡_};
+ghost use mathlib.Core.Bool.{true};
+ghost use Prim.Native.Nat.{_<_, _+_, _*_};
+ghost use lib.ListN.{getD};
+ghost use Rattle.levels.specs.Levels.{allLevels};
+ghost use Rattle.clock_spec.specs.Phase.{shownLevel, acceptedPhase};
+ghost use Rattle.clock.specs.Step.{stepWires};
+ghost use Rattle.clock_parts.specs.Parts.{wholeClock};
+ghost use Rattle.disk_lines.specs.Lines.{readLine, senseAt};
+ghost use Rattle.disk_spec.specs.Drives.{drivesShown};
+ghost use Rattle.item_spec.specs.Items.{ItemInRange};
+ghost use Rattle.via.specs.Registers.{valueRead};
+ghost use Rattle.machine_spec.specs.Pins.{wiresOf, selOf};
+ghost use Rattle.machine_spec.specs.Wiring.{inputsOf};
+ghost use Rattle.machine_spec.specs.Machine.{Levels, cellCount};
+ghost use Rattle.machine_spec.specs.Stages.{itemWait};
+ghost use Rattle.machine_spec.specs.Action.{actedOf};
+ghost use Rattle.machine_act.specs.Parts.{wholeMachine, machineAfter, clockedOf, ChangeInRange, PhaseAccepted};
+use clock_parts::Core;
+use disk_lines::DiskLines;
+use disk_spec::Drives;
+use item_spec::Item;
+use machine_spec::Machine;
+use via::Ports;
+
+// What an item changes in what stays in place: at most one thing.
+pub enum Change {
+    Nothing,
+    // The VIA's flags.
+    Flags(u8),
+    // A VIA register, and the value written to it.
+    Register(u8, u8),
+    // An IN line, and a sense register, each with its level.
+    Line(usize, u8),
+    Sense(usize, u8),
+    // The VIA by RS and by PW.
+    Reset,
+    Fresh,
+}
+
+// What an item leaves: the value read, the disk lines, the clock's core, the drives, and the change.
+pub struct Acted {
+    pub value: u8,
+    pub disk: DiskLines,
+    pub core: Core,
+    pub drives: Drives,
+    pub change: Change,
+}
+
+// The machine put together: m, with its clock, its drives and its sense registers taken from beside it.
+pub fn whole_machine(m: Machine, k: Core, cells: [u8; 20], d: Drives, sense: [u8; 32]) -> Machine
+    ensures { λ r. ⌜ r ≡ wholeMachine m k cells d sense ⌝ }
+{
+    let v = m.via;
+    let l = m.disk;
+    let inputs = m.inputs;
+    Machine {
+        via: v,
+        clock: clock_parts::whole_clock(k, cells),
+        disk: l,
+        inputs: inputs,
+        sense: sense,
+        drives: d,
+    }
+}
+
+// The item's wait, in VIA ticks.
+pub fn wait_of(item: Item) -> u16
+    ensures { λ r. ⌜ r ≡ itemWait item ⌝ }
+{
+    match item {
+        Item::ReadVia { wait, .. } => wait,
+        Item::ReadIwm { wait, .. } => wait,
+        Item::WriteVia { wait, .. } => wait,
+        Item::WriteIwm { wait, .. } => wait,
+        Item::Blank { wait } => wait,
+        Item::Second { wait } => wait,
+        Item::Line { wait, .. } => wait,
+        Item::Sense { wait, .. } => wait,
+        Item::Reset { wait } => wait,
+        Item::Power { wait, .. } => wait,
+        Item::Disk { wait, .. } => wait,
+    }
+}
+
+// What RD of a VIA register gives.
+fn via_value(m: Machine, k: Core, register: u8) -> u8
+    requires { ⌜ register < 16 ⌝ }
+    requires { ⌜ allLevels (m .inputs) ≡ true ⌝ }
+    ensures { λ r. ⌜ r ≡ valueRead register (inputsOf (shownLevel (k .phase)) (m .inputs)) (m .via) ⌝ }
+{
+    let p = k.phase;
+    let inputs = m.inputs;
+    let outside = machine_pins::inputs_of(clock_phase::shown_line(p), inputs);
+    via_registers::value_read(m.via, register, outside)
+}
+
+// What RD of an IWM location gives, the lines being those after the access. Location 14 alone asks the sense.
+fn iwm_value(d: DiskLines, drives: Drives, location: u8, ports: Ports, sense: &[u8; 32]) -> u8
+    requires { ⌜ allLevels (d .lines) ≡ true ⌝ }
+    requires { ⌜ allLevels (now sense) ≡ true ⌝ }
+    ensures { λ r. ⌜ r ≡ readLine location (drivesShown (senseAt d (selOf ports)) (getD (now (sense .entry)) (senseAt d (selOf ports)) 0) drives) d ⌝ }
+{
+    if location != 14 {
+        return 255;
+    }
+    let at = disk_lines::sense_at(d, machine_pins::sel_of(ports));
+    let stored = sense[at as usize];
+    d.read(location, disk_drives::shown(drives, at, stored))
+}
+
+// The clock's look at its wires, which a write to the VIA may have moved.
+fn clocked(k: Core, was: Ports, next: Ports, cells: &mut [u8; 20]) -> Core
+    requires { ⌜ acceptedPhase cellCount (k .phase) (wiresOf was (shownLevel (k .phase)) .enable) ≡ true ⌝ }
+    ensures { λ r. ⌜ wholeClock r (now (cells .exit)) ≡ stepWires cellCount (wholeClock k (now (cells .entry))) (wiresOf was (shownLevel (k .phase))) (wiresOf next (shownLevel (k .phase))) ⌝ }
+{
+    let p = k.phase;
+    let line = clock_phase::shown_line(p);
+    clock_parts::step(
+        k,
+        machine_pins::wires_of(was, line),
+        machine_pins::wires_of(next, line),
+        cells,
+    )
+}
+
+// The place of a sense register among the 32.
+fn sense_index(drive: u8, register: u8) -> usize
+    requires { ⌜ (drive < 2) × (register < 16) ⌝ }
+    ensures { λ r. ⌜ (r ≡ 16 * drive + register) × (r < 32) ⌝ }
+{
+    (16 * drive + register) as usize
+}
+
+// What an item does, its wait having passed, and the clock's look at its wires.
+pub fn act(
+    m: Machine,
+    k: Core,
+    d: Drives,
+    item: Item,
+    sense: &[u8; 32],
+    cells: &mut [u8; 20],
+) -> Acted
+    requires { ⌜ ItemInRange item ⌝ }
+    requires { ⌜ Levels (wholeMachine m k (now cells) d (now sense)) ⌝ }
+    requires { ⌜ PhaseAccepted (wholeMachine m k (now cells) d (now sense)) ⌝ }
+    ensures { λ r. ⌜ machineAfter r m (now (cells .exit)) (now (sense .entry)) ≡ clockedOf (wholeMachine m k (now (cells .entry)) d (now (sense .entry))) item ⌝ }
+    ensures { λ r. ⌜ r .value ≡ actedOf (wholeMachine m k (now (cells .entry)) d (now (sense .entry))) item .value ⌝ }
+    ensures { λ r. ⌜ ChangeInRange (r .change) ⌝ }
+{
+    let mut value: u8 = 0;
+    let mut disk = m.disk;
+    let mut core = k;
+    let mut drives = d;
+    let mut change = Change::Nothing;
+    match item {
+        Item::ReadVia { register, .. } => {
+            value = via_value(m, k, register);
+            change = Change::Flags(via_registers::flags_read(m.via, register));
+        }
+        Item::ReadIwm { location, .. } => {
+            disk = m.disk.access(location);
+            value = iwm_value(disk, d, location, m.via.ports, sense);
+        }
+        Item::WriteVia {
+            register,
+            value,
+            ..
+        } => {
+            let next = m.via.write(register, value);
+            core = clocked(k, m.via.ports, next.ports, cells);
+            change = Change::Register(register, value);
+        }
+        Item::WriteIwm { location, .. } => disk = m.disk.access(location),
+        Item::Blank { .. } => change = Change::Flags(m.via.flags | 2),
+        Item::Second { .. } => {
+            core = clock_parts::add_seconds(k, 1);
+            change = Change::Flags(m.via.flags | 1);
+        }
+        Item::Line { line, level, .. } => change = Change::Line(line as usize, level),
+        Item::Sense {
+            drive,
+            register,
+            level,
+            ..
+        } => {
+            change = Change::Sense(sense_index(drive, register), level);
+        }
+        Item::Reset { .. } => {
+            disk = disk_lines::off();
+            core = clock_parts::idle(k);
+            change = Change::Reset;
+        }
+        Item::Power { seconds, .. } => {
+            disk = disk_lines::off();
+            core = clock_parts::idle(clock_parts::add_seconds(k, seconds));
+            drives = disk_drives::power_cut(d);
+            change = Change::Fresh;
+        }
+        Item::Disk {
+            drive,
+            insert,
+            locked,
+            sides,
+            ..
+        } => {
+            drives = disk_drives::place(d, drive == 1, insert == 1, locked == 1, sides == 1);
+        }
+    }
+    Acted {
+        value: value,
+        disk: disk,
+        core: core,
+        drives: drives,
+        change: change,
+    }
+}

@@ -1,0 +1,328 @@
+use lib.ListN.{take}
+use Rattle.levels.specs.Levels.{allLevels}
+use Rattle.octets.specs.Octets.{putAt}
+use Rattle.item_spec.specs.Record.{answerBytes, noOf}
+use Rattle.item_spec.specs.Items.{ItemInRange}
+use Rattle.item_spec.specs.declared.Answer.{Answer}
+use Rattle.via.specs.Via.{ticks}
+use Rattle.disk_spec.specs.Drives.{drivesTicks}
+use Rattle.machine_spec.specs.declared.Machine.{Machine}
+use Rattle.machine_spec.specs.declared.Did.{Did}
+use Rattle.machine_spec.specs.Step.{stepOf}
+use Rattle.machine_spec.proofs.MachineLaws.{parts}
+use Rattle.machine_spec.proofs.Keeps.{step-keeps}
+use Rattle.run_spec.specs.Turn.{turnOf}
+use Rattle.run_spec.specs.declared.Ran.{Ran}
+use Rattle.run_record.specs.Judged.{turnJudged, JudgedInRange}
+use Rattle.run.proofs.Turns as turns
+use borrow.Author.Needs.{needs}
+use Prim.Native.Nat.{ℕ, _+_, _-_, _≤_, _<_}
+use lib.ListN.{length, drop, length-drop}
+use mathlib.Core.Path.{_≡_, refl, sym, ap, subst, _∙_}
+use mathlib.Core.Logic.{⊎-elim}
+use native.Mathlib.Omega.{arith}
+use denote.Ref.{now}
+use Rattle.item_spec.specs.Record.{frameOf}
+use Rattle.item_spec.specs.declared.Framed.the-variants.{Whole}
+use Rattle.clock.specs.declared.Clock.{Clock}
+use Rattle.machine_spec.specs.Machine.{withVia, withDisk, withClock}
+use Rattle.machine_act.specs.Parts.{wholeMachine, machineChange, senseChange, ChangeInRange}
+use Rattle.run.proofs.Loop as loop
+use Rattle.run.proofs.Loop.{Head, at-rest}
+use Rattle.run.proofs.carried.Statement.{statement}
+use Rattle.run.proofs.carried.Tie as tie
+use Rattle.run.proofs.carried.Reads as reads
+use Rattle.run.proofs.carried.Lts as lts
+use Rattle.disk_drives.proofs.after.Reads as after-reads
+use Rattle.disk_drives.proofs.wait.Reads as wait-reads
+use Rattle.item_plain.proofs.refusal.Reads as refusal-reads
+use Rattle.machine_act.proofs.act.Reads as act-reads
+use Rattle.clock_parts.proofs.cells_of.Reads as cells-of-reads
+use Rattle.clock_parts.proofs.core_of.Reads as core-of-reads
+use Rattle.machine_pins.proofs.watched.Reads as watched-reads
+use Rattle.item_record.proofs.answer_bytes.Reads as answer-bytes-reads
+use Rattle.item_record.proofs.frame.Reads as frame-reads
+use Rattle.item_record.proofs.no.Reads as no-reads
+use Rattle.machine_answer.proofs.answer.Reads as answer-reads
+use Rattle.run_record.proofs.judge.Reads as judge-reads
+use Rattle.machine_act.proofs.whole_machine.Reads as whole-machine-reads
+use Rattle.item_record.proofs.put.Reads as put-reads
+use Rattle.machine_act.proofs.wait_of.Reads as wait-of-reads
+use Rattle.via.proofs.Via.reset.Reads as reset-reads
+use Rattle.via.proofs.Via.wait.Reads as Via-wait-reads
+use Rattle.via.proofs.Via.write.Reads as write-reads
+use Rattle.via.proofs.fresh.Reads as fresh-reads
+
+abbrev Inv-loop : tie.InvT-loop
+Inv-loop list answers₀ m₀ core₀ cells₀ drives₀ sense₀ stop₀ at₀ out₀ answers m core cells drives sense stop at out = Head list answers₀ m₀ answers (wholeMachine m core cells drives sense) at out × (stop ≡ 0)
+
+abbrev μ-loop : tie.MeasureT-loop
+μ-loop list answers₀ m₀ core₀ cells₀ drives₀ sense₀ stop₀ at₀ out₀ answers m core cells drives sense stop at out = length list - at
+
+-- where a wholeMachine record was found
+found : (c : tie.After-known-told Inv-loop μ-loop) → frameOf (drop (c .before .before .before .before .before .before .before .loop .at) (now (c .before .before .before .before .before .before .before .before .before .before .before .before .before .before .before .args .list))) ≡ Whole (c .before .n .given .0 .0)
+found c = loop.frame-rest (now (c .before .before .before .before .before .before .before .before .before .before .before .before .before .before .before .args .list)) (c .before .before .before .before .before .before .before .loop .at) (c .before .before .before .frame .ensures) (c .before .n .given .1)
+
+fits : (c : tie.After-known-told Inv-loop μ-loop) → (4 ≤ c .before .n .given .0 .0) × (c .before .n .given .0 .0 ≤ length (now (c .before .before .before .before .before .before .before .before .before .before .before .before .before .before .before .args .list)) - c .before .before .before .before .before .before .before .loop .at)
+fits c = loop.fit (now (c .before .before .before .before .before .before .before .before .before .before .before .before .before .before .before .args .list)) (c .before .before .before .before .before .before .before .loop .at) (c .before .n .given .0 .0) (found c)
+
+-- where the ways of the change meet
+stored : (c : tie.At-match3-came Inv-loop μ-loop)
+    → (c .match3 .m ≡ machineChange (c .before .before .before .before .act .result .change) (withDisk (withVia (c .before .before .before .before .before .before .before .before .before .before .before .before .before .before .before .before .before .before .before .before .before .before .before .before .before .before .loop .m) (c .before .before .before .before .before .before .before .before .wait .result)) (c .before .before .before .before .act .result .disk)))
+    × (c .match3 .sense ≡ senseChange (c .before .before .before .before .act .result .change) (c .before .before .before .before .before .before .before .before .before .before .before .before .before .before .before .before .before .before .before .before .before .before .before .before .before .before .loop .sense))
+unfolding machineChange senseChange
+stored c =
+    ⊎-elim (λ w. (simp (w .2, w .1 .given .1), simp (w .3, w .1 .given .1)))
+    (⊎-elim (λ w. (simp (w .4, w .1 .given .1), simp (w .5, w .1 .given .1)))
+    (⊎-elim (λ w. (simp (w .5, w .1 .given .1, w .4 .ensures), simp (w .6, w .1 .given .1)))
+    (⊎-elim (λ w. (simp (w .3, w .1 .given .1), simp (w .4, w .1 .given .1)))
+    (⊎-elim (λ w. (simp (w .3, w .1 .given .1), simp (w .4, w .1 .given .1)))
+    (⊎-elim (λ w. (simp (w .4, w .1 .given .1, w .3 .ensures), simp (w .5, w .1 .given .1)))
+    (λ w. (simp (w .3, w .1 .given .1, w .2 .ensures), simp (w .4, w .1 .given .1)))))))) (c .match3 .came)
+
+-- the item carried out
+stepped : (c : tie.After-after Inv-loop μ-loop) → record { machine = wholeMachine (c .before .before .match3 .m) (c .before .before .before .before .before .before .act .result .core) (c .before .before .before .before .before .before .act .last .1 .1 .1 .1 .1 .0) (c .after .result) (c .before .before .match3 .sense); value = c .before .before .before .before .before .before .act .result .value } ≡ stepOf (wholeMachine (c .before .before .before .before .before .before .before .before .before .before .before .before .before .before .before .before .before .before .before .before .before .before .before .before .before .before .before .before .loop .m) (c .before .before .before .before .before .before .before .before .before .before .before .before .before .before .before .before .before .before .before .before .before .before .before .before .before .before .before .before .loop .core) (c .before .before .before .before .before .before .before .before .before .before .before .before .before .before .before .before .before .before .before .before .before .before .before .before .before .before .before .before .loop .cells) (c .before .before .before .before .before .before .before .before .before .before .before .before .before .before .before .before .before .before .before .before .before .before .before .before .before .before .before .before .loop .drives) (c .before .before .before .before .before .before .before .before .before .before .before .before .before .before .before .before .before .before .before .before .before .before .before .before .before .before .before .before .loop .sense)) (c .before .before .before .before .before .before .before .before .before .before .before .before .before .before .before .d .given .0 .0)
+stepped c = turns.stepped (c .before .before .before .before .before .before .before .before .before .before .before .before .before .before .before .before .before .before .before .before .before .before .before .before .before .before .before .before .loop .m) (c .before .before .before .before .before .before .before .before .before .before .before .before .before .before .before .before .before .before .before .before .before .before .before .before .before .before .before .before .loop .core) (c .before .before .before .before .before .before .before .before .before .before .before .before .before .before .before .before .before .before .before .before .before .before .before .before .before .before .before .before .loop .cells) (c .before .before .before .before .before .before .before .before .before .before .before .before .before .before .before .before .before .before .before .before .before .before .before .before .before .before .before .before .loop .drives) (c .before .before .before .before .before .before .before .before .before .before .before .before .before .before .before .before .before .before .before .before .before .before .before .before .before .before .before .before .loop .sense) (c .before .before .before .before .before .before .before .before .before .before .before .before .before .before .before .d .given .0 .0) _ (c .before .before .before .before .before .before .before .before .before .before .wait .ensures ∙ ap (λ (n : ℕ). ticks n (c .before .before .before .before .before .before .before .before .before .before .before .before .before .before .before .before .before .before .before .before .before .before .before .before .before .before .before .before .loop .m .via)) (c .before .before .before .before .before .before .before .before .before .before .before .before .wait-of .ensures)) _ (c .before .before .before .before .before .before .before .before .before .wait2 .ensures ∙ ap (λ (n : ℕ). drivesTicks n (c .before .before .before .before .before .before .before .before .before .before .before .before .before .before .before .before .before .before .before .before .before .before .before .before .before .before .before .before .loop .drives)) (c .before .before .before .before .before .before .before .before .before .before .before .before .wait-of .ensures)) (c .before .before .before .before .before .before .act .result) _ (c .before .before .before .before .before .before .act .ensures .0) (c .before .before .before .before .before .before .act .ensures .1 .0) _ _ (stored (c .before .before) .0) (stored (c .before .before) .1) _ (simp (c .after .ensures, c .before .before .before .before .before .before .before .before .before .before .before .before .before .watched .ensures, c .before .watched2 .ensures))
+
+range : (c : tie.After-known-told2 Inv-loop μ-loop) → ItemInRange (c .before .d .given .0 .0)
+range c = subst JudgedInRange (c .before .d .given .1) (c .before .before .before .before .before .judge .ensures .1)
+
+-- its record
+did : (c : tie.After-answer Inv-loop μ-loop) → record { machine = wholeMachine (c .before .before .before .match3 .m) (c .before .before .before .before .before .before .before .act .result .core) (c .before .before .before .before .before .before .before .act .last .1 .1 .1 .1 .1 .0) (c .before .after .result) (c .before .before .before .match3 .sense); answer = c .answer .result }
+    ≡ turnOf (wholeMachine (c .before .before .before .before .before .before .before .before .before .before .before .before .before .before .before .before .before .before .before .before .before .before .before .before .before .before .before .before .before .loop .m) (c .before .before .before .before .before .before .before .before .before .before .before .before .before .before .before .before .before .before .before .before .before .before .before .before .before .before .before .before .before .loop .core) (c .before .before .before .before .before .before .before .before .before .before .before .before .before .before .before .before .before .before .before .before .before .before .before .before .before .before .before .before .before .loop .cells) (c .before .before .before .before .before .before .before .before .before .before .before .before .before .before .before .before .before .before .before .before .before .before .before .before .before .before .before .before .before .loop .drives) (c .before .before .before .before .before .before .before .before .before .before .before .before .before .before .before .before .before .before .before .before .before .before .before .before .before .before .before .before .before .loop .sense)) (take (c .before .before .before .before .before .before .before .before .before .before .before .before .before .before .before .before .before .before .before .before .before .before .before .n .given .0 .0 - 2) (drop 2 (take (length (now (c .before .before .before .before .before .before .before .before .before .before .before .before .before .before .before .before .before .before .before .before .before .before .before .before .before .before .before .before .before .before .before .before .before .before .before .before .before .args .list)) - c .before .before .before .before .before .before .before .before .before .before .before .before .before .before .before .before .before .before .before .before .before .before .before .before .before .before .before .before .before .loop .at) (drop (c .before .before .before .before .before .before .before .before .before .before .before .before .before .before .before .before .before .before .before .before .before .before .before .before .before .before .before .before .before .loop .at) (now (c .before .before .before .before .before .before .before .before .before .before .before .before .before .before .before .before .before .before .before .before .before .before .before .before .before .before .before .before .before .before .before .before .before .before .before .before .before .args .list))))))
+unfolding turnJudged
+did c = turns.done (c .before .before .before .before .before .before .before .before .before .before .before .before .before .before .before .before .before .before .before .before .before .before .before .before .before .before .before .before .before .loop .m) (c .before .before .before .before .before .before .before .before .before .before .before .before .before .before .before .before .before .before .before .before .before .before .before .before .before .before .before .before .before .loop .core) (c .before .before .before .before .before .before .before .before .before .before .before .before .before .before .before .before .before .before .before .before .before .before .before .before .before .before .before .before .before .loop .cells) (c .before .before .before .before .before .before .before .before .before .before .before .before .before .before .before .before .before .before .before .before .before .before .before .before .before .before .before .before .before .loop .drives) (c .before .before .before .before .before .before .before .before .before .before .before .before .before .before .before .before .before .before .before .before .before .before .before .before .before .before .before .before .before .loop .sense) (c .before .before .before .before .before .before .before .before .before .before .before .before .before .before .before .before .d .given .0 .0) _ (c .before .before .before .before .before .before .before .before .before .before .before .wait .ensures ∙ ap (λ (n : ℕ). ticks n (c .before .before .before .before .before .before .before .before .before .before .before .before .before .before .before .before .before .before .before .before .before .before .before .before .before .before .before .before .before .loop .m .via)) (c .before .before .before .before .before .before .before .before .before .before .before .before .before .wait-of .ensures)) _ (c .before .before .before .before .before .before .before .before .before .before .wait2 .ensures ∙ ap (λ (n : ℕ). drivesTicks n (c .before .before .before .before .before .before .before .before .before .before .before .before .before .before .before .before .before .before .before .before .before .before .before .before .before .before .before .before .before .loop .drives)) (c .before .before .before .before .before .before .before .before .before .before .before .before .before .wait-of .ensures)) (c .before .before .before .before .before .before .before .act .result) _ (c .before .before .before .before .before .before .before .act .ensures .0) (c .before .before .before .before .before .before .before .act .ensures .1 .0) _ _ (stored (c .before .before .before) .0) (stored (c .before .before .before) .1) _ (simp (c .before .after .ensures, c .before .before .before .before .before .before .before .before .before .before .before .before .before .before .watched .ensures, c .before .before .watched2 .ensures)) _ (c .before .before .before .before .before .before .before .before .before .before .before .before .before .before .before .before .before .before .before .before .judge .ensures .0 (wholeMachine (c .before .before .before .before .before .before .before .before .before .before .before .before .before .before .before .before .before .before .before .before .before .before .before .before .before .before .before .before .before .loop .m) (c .before .before .before .before .before .before .before .before .before .before .before .before .before .before .before .before .before .before .before .before .before .before .before .before .before .before .before .before .before .loop .core) (c .before .before .before .before .before .before .before .before .before .before .before .before .before .before .before .before .before .before .before .before .before .before .before .before .before .before .before .before .before .loop .cells) (c .before .before .before .before .before .before .before .before .before .before .before .before .before .before .before .before .before .before .before .before .before .before .before .before .before .before .before .before .before .loop .drives) (c .before .before .before .before .before .before .before .before .before .before .before .before .before .before .before .before .before .before .before .before .before .before .before .before .before .before .before .before .before .loop .sense)) refl ∙ ap (turnJudged (wholeMachine (c .before .before .before .before .before .before .before .before .before .before .before .before .before .before .before .before .before .before .before .before .before .before .before .before .before .before .before .before .before .loop .m) (c .before .before .before .before .before .before .before .before .before .before .before .before .before .before .before .before .before .before .before .before .before .before .before .before .before .before .before .before .before .loop .core) (c .before .before .before .before .before .before .before .before .before .before .before .before .before .before .before .before .before .before .before .before .before .before .before .before .before .before .before .before .before .loop .cells) (c .before .before .before .before .before .before .before .before .before .before .before .before .before .before .before .before .before .before .before .before .before .before .before .before .before .before .before .before .before .loop .drives) (c .before .before .before .before .before .before .before .before .before .before .before .before .before .before .before .before .before .before .before .before .before .before .before .before .before .before .before .before .before .loop .sense))) (c .before .before .before .before .before .before .before .before .before .before .before .before .before .before .before .before .d .given .1)) _ (c .answer .ensures)
+
+-- where the ways of the record meet: the parts together are the turn's machine
+met : (c : tie.At-match2-came Inv-loop μ-loop) → record { machine = wholeMachine (c .match2 .m) (c .match2 .core) (c .match2 .cells) (c .match2 .drives) (c .match2 .sense); answer = c .match2 .answer } ≡ turnOf (wholeMachine (c .before .before .before .before .before .before .before .before .before .before .before .before .loop .m) (c .before .before .before .before .before .before .before .before .before .before .before .before .loop .core) (c .before .before .before .before .before .before .before .before .before .before .before .before .loop .cells) (c .before .before .before .before .before .before .before .before .before .before .before .before .loop .drives) (c .before .before .before .before .before .before .before .before .before .before .before .before .loop .sense)) (take (c .before .before .before .before .before .before .n .given .0 .0 - 2) (drop 2 (take (length (now (c .before .before .before .before .before .before .before .before .before .before .before .before .before .before .before .before .before .before .before .before .args .list)) - c .before .before .before .before .before .before .before .before .before .before .before .before .loop .at) (drop (c .before .before .before .before .before .before .before .before .before .before .before .before .loop .at) (now (c .before .before .before .before .before .before .before .before .before .before .before .before .before .before .before .before .before .before .before .before .args .list))))))
+unfolding turnJudged
+met c =
+    ⊎-elim (λ w. simp (w .18, w .19, w .20, w .21, w .22, w .23) (did (record { before = record { before = record { before = record { before = record { before = record { before = record { before = record { before = record { before = record { before = record { before = record { before = record { before = record { before = record { before = record { before = record { before = record { before = c .before; match2 = w .0 }; d = w .1 }; known-told2 = w .2 }; watched = w .3 }; wait-of = w .4 }; wait-arg = w .5 }; wait = w .6 }; wait2 = w .7 }; sense2 = w .8 }; cells = w .9 }; act = w .10 }; disk = w .11 }; core = w .12 }; drives2 = w .13 }; match3 = w .14 }; watched2 = w .15 }; after = w .16 }; answer = w .17 })))
+    (λ w. simp (w .2, w .3, w .4, w .5, w .6, w .7) (sym (c .before .before .before .judge .ensures .0 (wholeMachine (c .before .before .before .before .before .before .before .before .before .before .before .before .loop .m) (c .before .before .before .before .before .before .before .before .before .before .before .before .loop .core) (c .before .before .before .before .before .before .before .before .before .before .before .before .loop .cells) (c .before .before .before .before .before .before .before .before .before .before .before .before .loop .drives) (c .before .before .before .before .before .before .before .before .before .before .before .before .loop .sense)) refl ∙ ap (turnJudged (wholeMachine (c .before .before .before .before .before .before .before .before .before .before .before .before .loop .m) (c .before .before .before .before .before .before .before .before .before .before .before .before .loop .core) (c .before .before .before .before .before .before .before .before .before .before .before .before .loop .cells) (c .before .before .before .before .before .before .before .before .before .before .before .before .loop .drives) (c .before .before .before .before .before .before .before .before .before .before .before .before .loop .sense))) (w .1 .given .1)
+    ∙ ap (λ (y : Answer). record { machine = (wholeMachine (c .before .before .before .before .before .before .before .before .before .before .before .before .loop .m) (c .before .before .before .before .before .before .before .before .before .before .before .before .loop .core) (c .before .before .before .before .before .before .before .before .before .before .before .before .loop .cells) (c .before .before .before .before .before .before .before .before .before .before .before .before .loop .drives) (c .before .before .before .before .before .before .before .before .before .before .before .before .loop .sense)); answer = y }) (sym (c .before .no2 .ensures ∙ ap noOf (c .before .before .refusal .ensures ∙ simp (w .1 .given .1))))))) (c .match2 .came)
+
+-- the buffer keeps its length
+lengths : (c : tie.Left-loop Inv-loop μ-loop) → length (c .loop-test .answers) ≡ length (now (c .before .before .before .before .before .before .before .before .before .args .answers))
+lengths c =
+    let h = c .before .loop .inv .0 .long in
+    ⊎-elim (λ w. ap length (w .1) ∙ h) (⊎-elim (λ w. ap length (w .2) ∙ h) (λ w. ap length (w .12) ∙ w .9 .kept .0 ∙ h)) (c .loop-test .came)
+
+-- where the ways out of the loop meet
+left : (c : tie.Left-loop Inv-loop μ-loop) → loop.Ret (now (c .before .before .before .before .before .before .before .before .before .args .list)) (now (c .before .before .before .before .before .before .before .before .before .args .answers)) (c .before .before .before .before .before .before .before .before .before .args .t1) (record { machine = (wholeMachine (c .before .loop .m) (c .before .loop .core) (c .before .loop .cells) (c .before .loop .drives) (c .before .loop .sense)); stop = c .loop-test .stop; consumed = c .before .loop .at; written = c .loop-test .out }) (c .loop-test .answers)
+left c =
+    let l = now (c .before .before .before .before .before .before .before .before .before .args .list) in let a = now (c .before .before .before .before .before .before .before .before .before .args .answers) in let m = c .before .before .before .before .before .before .before .before .before .args .t1 in let h = c .before .loop in
+    ⊎-elim (λ w. simp (w .1, w .2, w .3) (loop.ended l a m (c .before .before .before .before .before .before .before .before .before .pre) (h .answers) (wholeMachine (c .before .loop .m) (c .before .loop .core) (c .before .loop .cells) (c .before .loop .drives) (c .before .loop .sense)) (h .at) (h .out) (h .inv .0) (h .stop) (h .inv .1) (w .0 .left)))
+    (⊎-elim (λ w. simp (w .2, w .3, w .4) (loop.full l a m (c .before .before .before .before .before .before .before .before .before .pre) (h .answers) (wholeMachine (c .before .loop .m) (c .before .loop .core) (c .before .loop .cells) (c .before .loop .drives) (c .before .loop .sense)) (h .at) (h .out) (h .inv .0) (w .0 .taken) (w .1 .taken)))
+    (λ w. simp (w .12, w .13, w .14) (loop.cutoff l a m (c .before .before .before .before .before .before .before .before .before .pre) (h .answers) (wholeMachine (c .before .loop .m) (c .before .loop .core) (c .before .loop .cells) (c .before .loop .drives) (c .before .loop .sense)) (h .at) (h .out) (h .inv .0) (w .0 .taken) (w .1 .left)
+    (loop.frame-rest l (h .at) (w .3 .ensures) (w .5 .given .1)) (w .9 .last .0) (w .9 .ensures ∙ ap (putAt (h .answers) (h .out)) (w .8 .ensures ∙ ap answerBytes (w .7 .ensures)))))) (c .loop-test .came)
+
+core-of-requires : tie.Need-core-of-requires Inv-loop μ-loop
+core-of-requires c κs = search needs
+
+cells-of-requires : tie.Need-cells-of-requires Inv-loop μ-loop
+cells-of-requires c κs = search needs
+
+loop-holds : tie.Need-loop-holds Inv-loop μ-loop
+loop-holds c = (simp (c .before .before .cells-of .ensures) (subst (λ (x : Clock). Head (now (c .before .before .before .before .before .before .before .args .list)) (now (c .before .before .before .before .before .before .before .args .answers)) (c .before .before .before .before .before .before .before .args .t1) (now (c .before .before .before .before .before .before .before .args .answers)) (withClock (c .before .before .before .before .before .before .before .args .t1) x) 0 0) (sym (c .before .before .before .core-of .ensures)) (loop.head-first (now (c .before .before .before .before .before .before .before .args .list)) (now (c .before .before .before .before .before .before .before .args .answers)) (c .before .before .before .before .before .before .before .args .t1) (c .before .before .before .before .before .before .before .pre))), refl)
+
+sub-if1 : tie.Need-sub-if1 Inv-loop μ-loop
+sub-if1 c = search needs
+
+sub-rest : tie.Need-sub-rest Inv-loop μ-loop
+sub-rest c = search needs
+
+part-rest-start : tie.Need-part-rest-start Inv-loop μ-loop
+part-rest-start c = search needs
+
+part-rest-end : tie.Need-part-rest-end Inv-loop μ-loop
+part-rest-end c = search needs
+
+frame-requires : tie.Need-frame-requires Inv-loop μ-loop
+frame-requires c κs = search needs
+
+enum-known-n : tie.Need-enum-known-n Inv-loop μ-loop
+enum-known-n c = search needs
+
+enum-told : tie.Need-enum-told Inv-loop μ-loop
+enum-told c = search needs
+
+no-requires : tie.Need-no-requires Inv-loop μ-loop
+no-requires c κs = search needs
+
+answer-bytes-requires : tie.Need-answer-bytes-requires Inv-loop μ-loop
+answer-bytes-requires c κs = search needs
+
+put-requires : tie.Need-put-requires Inv-loop μ-loop
+put-requires c κs = search needs
+
+add-out : tie.Need-add-out Inv-loop μ-loop
+add-out c = omega (arith, c .before .before .before .before .before .before .before .before .before .before .if1 .left, c .before .before .before .before .before .before .before .before .before .before .before .before .loop .inv .0, c .before .before .before .before .before .before .before .before .before .before .before .before .before .before .before .before .before .before .before .before .good)
+
+sub-judge : tie.Need-sub-judge Inv-loop μ-loop
+sub-judge c = omega (arith, fits c)
+
+part-judge-start : tie.Need-part-judge-start Inv-loop μ-loop
+part-judge-start c = omega (arith, fits c)
+
+part-judge-end : tie.Need-part-judge-end Inv-loop μ-loop
+part-judge-end c = simp at-rest (simp length-drop (omega (arith, fits c)))
+
+judge-requires : tie.Need-judge-requires Inv-loop μ-loop
+judge-requires c κs = loop.body-long (now (c .before .before .before .before .before .before .before .before .before .before .before .before .before .before .before .before .args .list)) (c .before .before .before .before .before .before .before .before .loop .at) (c .before .before .n .given .0 .0) (found (c .before))
+
+refusal-requires : tie.Need-refusal-requires Inv-loop μ-loop
+refusal-requires c κs = search needs
+
+no-requires-2 : tie.Need-no-requires-2 Inv-loop μ-loop
+no-requires-2 c κs = search needs
+
+enum-known-d : tie.Need-enum-known-d Inv-loop μ-loop
+enum-known-d c = search needs
+
+watched-requires : tie.Need-watched-requires Inv-loop μ-loop
+watched-requires c κs = search needs
+
+wait-of-requires : tie.Need-wait-of-requires Inv-loop μ-loop
+wait-of-requires c κs = search needs
+
+wait-requires : tie.Need-wait-requires Inv-loop μ-loop
+wait-requires c κs = search needs
+
+wait-requires-2 : tie.Need-wait-requires-2 Inv-loop μ-loop
+wait-requires-2 c κs = search needs
+
+act-requires : tie.Need-act-requires Inv-loop μ-loop
+act-requires c κs = (range (c .before .before .before .before .before .before .before), turns.ready (c .before .before .before .before .before .before .before .before .before .before .before .before .before .before .before .before .before .before .before .before .before .loop .m) (c .before .before .before .before .before .before .before .before .before .before .before .before .before .before .before .before .before .before .before .before .before .loop .core) (c .before .before .before .before .before .before .before .before .before .before .before .before .before .before .before .before .before .before .before .before .before .loop .cells) (c .before .before .before .before .before .before .before .before .before .before .before .before .before .before .before .before .before .before .before .before .before .loop .drives) (c .before .before .before .before .before .before .before .before .before .before .before .before .before .before .before .before .before .before .before .before .before .loop .sense) (c .before .before .before .before .before .before .before .before .d .given .0 .0) _ (c .before .before .before .wait .ensures ∙ ap (λ (n : ℕ). ticks n (c .before .before .before .before .before .before .before .before .before .before .before .before .before .before .before .before .before .before .before .before .before .loop .m .via)) (c .before .before .before .before .before .wait-of .ensures)) (c .before .before .wait2 .result) (c .before .before .before .before .before .before .before .before .before .before .before .before .before .before .before .before .before .before .before .before .before .loop .inv .0 .ok))
+
+enum-told-2 : tie.Need-enum-told-2 Inv-loop μ-loop
+enum-told-2 c = search needs
+
+enum-known-change : tie.Need-enum-known-change Inv-loop μ-loop
+enum-known-change c = search needs
+
+enum-known-change-2 : tie.Need-enum-known-change-2 Inv-loop μ-loop
+enum-known-change-2 c = search needs
+
+write-requires : tie.Need-write-requires Inv-loop μ-loop
+write-requires c κs = subst ChangeInRange (c .before .before .change2 .given .1) (c .before .before .before .before .before .before .before .act .ensures .1 .1)
+
+enum-known-change-3 : tie.Need-enum-known-change-3 Inv-loop μ-loop
+enum-known-change-3 c = search needs
+
+element-write-m : tie.Need-element-write-m Inv-loop μ-loop
+element-write-m c = subst ChangeInRange (c .before .change3 .given .1) (c .before .before .before .before .before .before .act .ensures .1 .1)
+
+enum-known-change-4 : tie.Need-enum-known-change-4 Inv-loop μ-loop
+enum-known-change-4 c = search needs
+
+array-write-sense : tie.Need-array-write-sense Inv-loop μ-loop
+array-write-sense c = subst ChangeInRange (c .before .change4 .given .1) (c .before .before .before .before .before .before .act .ensures .1 .1)
+
+enum-told-3 : tie.Need-enum-told-3 Inv-loop μ-loop
+enum-told-3 c = search needs
+
+reset-requires : tie.Need-reset-requires Inv-loop μ-loop
+reset-requires c κs = search needs
+
+enum-told-4 : tie.Need-enum-told-4 Inv-loop μ-loop
+enum-told-4 c = search needs
+
+fresh-requires : tie.Need-fresh-requires Inv-loop μ-loop
+fresh-requires c κs = search needs
+
+watched-requires-2 : tie.Need-watched-requires-2 Inv-loop μ-loop
+watched-requires-2 c κs = search needs
+
+after-requires : tie.Need-after-requires Inv-loop μ-loop
+after-requires c κs = search needs
+
+answer-requires : tie.Need-answer-requires Inv-loop μ-loop
+answer-requires c κs = let l = parts _ (step-keeps (wholeMachine (c .before .before .before .before .before .before .before .before .before .before .before .before .before .before .before .before .before .before .before .before .before .before .before .before .before .before .before .before .loop .m) (c .before .before .before .before .before .before .before .before .before .before .before .before .before .before .before .before .before .before .before .before .before .before .before .before .before .before .before .before .loop .core) (c .before .before .before .before .before .before .before .before .before .before .before .before .before .before .before .before .before .before .before .before .before .before .before .before .before .before .before .before .loop .cells) (c .before .before .before .before .before .before .before .before .before .before .before .before .before .before .before .before .before .before .before .before .before .before .before .before .before .before .before .before .loop .drives) (c .before .before .before .before .before .before .before .before .before .before .before .before .before .before .before .before .before .before .before .before .before .before .before .before .before .before .before .before .loop .sense)) (c .before .before .before .before .before .before .before .before .before .before .before .before .before .before .before .d .given .0 .0) (range (c .before .before .before .before .before .before .before .before .before .before .before .before .before .before)) (c .before .before .before .before .before .before .before .before .before .before .before .before .before .before .before .before .before .before .before .before .before .before .before .before .before .before .before .before .loop .inv .0 .ok)) .levels in (ap (λ (y : Did). allLevels (y .machine .disk .lines)) (stepped c) ∙ l .0, ap (λ (y : Did). allLevels (y .machine .inputs)) (stepped c) ∙ l .1)
+
+enum-told-5 : tie.Need-enum-told-5 Inv-loop μ-loop
+enum-told-5 c = search needs
+
+answer-bytes-requires-2 : tie.Need-answer-bytes-requires-2 Inv-loop μ-loop
+answer-bytes-requires-2 c κs = search needs
+
+put-requires-2 : tie.Need-put-requires-2 Inv-loop μ-loop
+put-requires-2 c κs = search needs
+
+add-at : tie.Need-add-at Inv-loop μ-loop
+add-at c = omega (arith, fits (c .before .before .before .before .before .before .before .before .before .before), c .before .before .before .before .before .before .before .before .before .before .before .before .before .before .before .before .before .loop .inv .0, c .before .before .before .before .before .before .before .before .before .before .before .before .before .before .before .before .before .before .before .before .before .before .before .before .before .good)
+
+add-out-2 : tie.Need-add-out-2 Inv-loop μ-loop
+add-out-2 c = omega (arith, c .before .before .before .before .before .before .before .before .before .before .before .before .before .before .before .if1 .left, c .before .before .before .before .before .before .before .before .before .before .before .before .before .before .before .before .before .loop .inv .0, c .before .before .before .before .before .before .before .before .before .before .before .before .before .before .before .before .before .before .before .before .before .before .before .before .before .good)
+
+loop-less : tie.Need-loop-less Inv-loop μ-loop
+loop-less c = omega (arith, fits (c .before .before .before .before .before .before .before .before .before .before), c .before .before .before .before .before .before .before .before .before .before .before .before .before .before .before .before .loop-test .taken)
+
+loop-again : tie.Need-loop-again Inv-loop μ-loop
+loop-again c = (loop.again (now (c .before .before .before .before .before .before .before .before .before .before .before .before .before .before .before .before .before .before .before .before .before .before .before .before .before .args .list)) (now (c .before .before .before .before .before .before .before .before .before .before .before .before .before .before .before .before .before .before .before .before .before .before .before .before .before .args .answers)) (c .before .before .before .before .before .before .before .before .before .before .before .before .before .before .before .before .before .before .before .before .before .before .before .before .before .args .t1) (c .before .before .before .before .before .before .before .before .before .before .before .before .before .before .before .before .before .before .before .before .before .before .before .before .before .pre) (c .before .before .before .before .before .before .before .before .before .before .before .before .before .before .before .before .before .loop .answers) (wholeMachine (c .before .before .before .before .before .before .before .before .before .before .before .before .before .before .before .before .before .loop .m) (c .before .before .before .before .before .before .before .before .before .before .before .before .before .before .before .before .before .loop .core) (c .before .before .before .before .before .before .before .before .before .before .before .before .before .before .before .before .before .loop .cells) (c .before .before .before .before .before .before .before .before .before .before .before .before .before .before .before .before .before .loop .drives) (c .before .before .before .before .before .before .before .before .before .before .before .before .before .before .before .before .before .loop .sense)) (c .before .before .before .before .before .before .before .before .before .before .before .before .before .before .before .before .before .loop .at) (c .before .before .before .before .before .before .before .before .before .before .before .before .before .before .before .before .before .loop .out) (c .before .before .before .before .before .before .before .before .before .before .before .before .before .before .before .before .before .loop .inv .0) (c .before .before .before .before .before .before .before .before .before .before .before .before .before .before .before .before .loop-test .taken) (c .before .before .before .before .before .before .before .before .before .before .before .before .before .before .before .if1 .left) (c .before .before .before .before .before .before .before .before .before .before .before .n .given .0 .0) (found (c .before .before .before .before .before .before .before .before .before .before)) _ (met (c .before .before .before .before .before)) (c .before .before .before .answer-bytes2 .result) (c .before .before .before .answer-bytes2 .ensures) (c .before .before .put2 .last .0) (c .before .before .put2 .ensures), c .before .before .before .before .before .before .before .before .before .before .before .before .before .before .before .before .before .loop .inv .1)
+
+whole-machine-requires : tie.Need-whole-machine-requires Inv-loop μ-loop
+whole-machine-requires c κs = search needs
+
+same-length : tie.Need-same-length Inv-loop μ-loop
+same-length c = lengths (c .before)
+
+returns : tie.Need-returns Inv-loop μ-loop
+returns c = simp (c .whole-machine .ensures) (loop.ret (now (c .before .before .before .before .before .before .before .before .before .before .args .list)) (now (c .before .before .before .before .before .before .before .before .before .before .args .answers)) (c .before .before .before .before .before .before .before .before .before .before .args .t1) (left (c .before)))
+
+pub carried-spec : {M : Type 1} → statement M
+carried-spec =
+    tie.close
+    (tie.spec
+    Inv-loop
+    μ-loop
+    core-of-requires
+    cells-of-requires
+    loop-holds
+    sub-if1
+    sub-rest
+    part-rest-start
+    part-rest-end
+    frame-requires
+    enum-known-n
+    enum-told
+    no-requires
+    answer-bytes-requires
+    put-requires
+    add-out
+    sub-judge
+    part-judge-start
+    part-judge-end
+    judge-requires
+    refusal-requires
+    no-requires-2
+    enum-known-d
+    watched-requires
+    wait-of-requires
+    wait-requires
+    wait-requires-2
+    act-requires
+    enum-told-2
+    enum-known-change
+    enum-known-change-2
+    write-requires
+    enum-known-change-3
+    element-write-m
+    enum-known-change-4
+    array-write-sense
+    enum-told-3
+    reset-requires
+    enum-told-4
+    fresh-requires
+    watched-requires-2
+    after-requires
+    answer-requires
+    enum-told-5
+    answer-bytes-requires-2
+    put-requires-2
+    add-at
+    add-out-2
+    loop-less
+    loop-again
+    whole-machine-requires
+    same-length
+    returns)
