@@ -4,13 +4,13 @@ use mathlib.Core.Bool.{true}
 use Prim.Native.Nat.{ℕ, _/_, _%_, _<_}
 use native.Mathlib.Omega.{arith}
 use lib.ListN.{length, length-set}
-use Rattle.levels.specs.Levels.{allLevels}
+use Rattle.levels.specs.Levels.{allBelow, allLevels}
 use Rattle.levels.proofs.Laws.{set-levels, level-at}
 use Rattle.disk_lines.specs.Lines.{linesOff, afterAccess, senseAt}
 use Rattle.disk_lines.specs.declared.DiskLines.{DiskLines}
 
 pub off-levels : allLevels (linesOff .lines) ≡ true
-unfolding linesOff allLevels
+unfolding linesOff allBelow
 off-levels = refl
 
 pub access-levels : (k : ℕ) (d : DiskLines) → allLevels (d .lines) ≡ true → allLevels (afterAccess k d .lines) ≡ true
