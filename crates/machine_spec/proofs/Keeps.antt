@@ -4,7 +4,7 @@ use mathlib.Core.Bool.{Bool, true}
 use Rattle.via.proofs.Accepted.{ticks-accepted}
 use Rattle.clock_spec.specs.Phase.{acceptedPhase, shownLevel}
 use Rattle.clock.specs.Step.{stepWires}
-use Rattle.clock.proofs.Keep.{keeps-step, step-unused}
+use Rattle.clock.proofs.Keep.{keeps-step, step-chip, step-unused}
 use Rattle.machine_spec.specs.Pins.{wiresOf}
 use Rattle.disk_spec.proofs.DrivesLaws.{drivesTicks-accepted, drivesAfter-accepted}
 use Rattle.item_spec.specs.Items.{ItemInRange}
@@ -13,7 +13,7 @@ use Rattle.machine_spec.specs.declared.Machine.{Machine}
 use Rattle.machine_spec.specs.Machine.{wires, strobeLevels, acceptedOf}
 use Rattle.machine_spec.proofs.MachineLaws.{parts, whole}
 use Rattle.machine_spec.specs.Action.{actedOf}
-use Rattle.machine_spec.proofs.Action.{acted-accepted, acted-unused}
+use Rattle.machine_spec.proofs.Action.{acted-cells, acted-accepted, acted-unused}
 use Rattle.machine_spec.proofs.ActionKeeps.{act-keeps, act-keeps-drives}
 use Rattle.machine_spec.specs.Stages.{itemWait, afterWait}
 use Rattle.machine_spec.specs.Step.{stepOf}
@@ -41,3 +41,10 @@ step-keeps m i h a =
       drives = drivesAfter-accepted (strobeLevels m) (strobeLevels d) (d .drives)
           (act-keeps-drives w i (strobeLevels m) (drivesTicks-accepted (itemWait i) (strobeLevels m) (m .drives) (p .drives)));
     })
+
+-- W-206: the chip is "chosen at the start".
+pub size-kept : (m : Machine) (i : Item) → stepOf m i .machine .clock .store .chip ≡ m .clock .store .chip
+unfolding stepOf
+size-kept m i =
+    let w = afterWait (itemWait i) m in
+    step-chip (actedOf w i .machine .clock) (wires m) (wires (actedOf w i .machine)) ∙ acted-cells w i .0
