@@ -128,32 +128,49 @@ complete-made k (b ∷ d ∷ c ∷ x ∷ ys) bs m =
     let l : length bs ≡ 8 * length (b ∷ d ∷ c ∷ x ∷ ys) = made-length (b ∷ d ∷ c ∷ x ∷ ys) bs m in
     not-16-24 k bs (λ e. omega arith) (λ e. omega arith)
 
--- ---- stretches that hold none
+-- ---- stretches in which nothing more comes to be whole
 
--- However the stretch goes on, no later rise ends a complete write; the same of its bytes.
+-- However the stretch goes on, f finds nothing at a later rise; the same of its bytes, by g.
+abbrev pub Never : {X : Type 0} → (List Bool → Option X) → List Bool → Type 0
+Never f bs = (more : List Bool) (b : Bool) → f (b ∷ (more ++ bs)) ≡ none
+
+abbrev pub NeverBytes : {X : Type 0} → (List ℕ → Option X) → List ℕ → Type 0
+NeverBytes g ys = (z : ℕ) (zs : List ℕ) → g (z ∷ (zs ++ ys)) ≡ none
+
+module _ {X : Type 0} (f : List Bool → Option X) where
+  pub never-more : (bs : List Bool) (x : Bool) → Never f bs → Never f (x ∷ bs)
+  never-more bs x d more b = ap (λ (l : List Bool). f (b ∷ l)) (sym (append-snoc more x bs)) ∙ d (more ++ (x ∷ [])) b
+
+  -- From the bytes to the bits, where f finds nothing in bits that are not whole bytes and goes by g in whole ones.
+  pub never-made : (g : List ℕ → Option X) → ((bs : List Bool) → (length bs % 8 ≡ 0 → ⊥) → f bs ≡ none)
+      → ((ys : List ℕ) (bs : List Bool) → Made bs ys → f bs ≡ g ys)
+      → (ys : List ℕ) (bs : List Bool) → Made bs ys → NeverBytes g ys → Never f bs
+  never-made g part made ys bs m d more b = go (eqb (length l % 8) 0) refl
+    where
+      l : List Bool
+      l = b ∷ (more ++ bs)
+
+      some-bytes : (zs : List ℕ) → 1 ≤ length zs → Made l (zs ++ ys) → f l ≡ none
+      some-bytes [] h q = absurd (omega arith)
+      some-bytes (z ∷ zs) h q = made (z ∷ (zs ++ ys)) l q ∙ d z zs
+
+      go : (t : Bool) → eqb (length l % 8) 0 ≡ t → f l ≡ none
+      go false e = part l (eqb-false (length l % 8) 0 e)
+      go true e =
+          let o : length l % 8 ≡ 0 = eqb-true (length l % 8) 0 e in
+          let j : length (b ∷ more) ≡ 8 * (length (b ∷ more) / 8) = omega (arith, length-append more bs, made-length ys bs m) in
+          let r = made-more (length (b ∷ more) / 8) (b ∷ more) bs ys j m in
+          some-bytes (r .0) (omega (arith, r .1)) (r .2)
+
+-- No later rise ends a complete write.
 abbrev pub Dead : Chip → List Bool → Type 0
-Dead k bs = (more : List Bool) (b : Bool) → complete k (b ∷ (more ++ bs)) ≡ none
+Dead k bs = Never (complete k) bs
 
 abbrev pub DeadBytes : Chip → List ℕ → Type 0
-DeadBytes k ys = (z : ℕ) (zs : List ℕ) → wholeWrite k (z ∷ (zs ++ ys)) ≡ none
+DeadBytes k ys = NeverBytes (wholeWrite k) ys
 
 pub dead-more : (k : Chip) (bs : List Bool) (x : Bool) → Dead k bs → Dead k (x ∷ bs)
-dead-more k bs x d more b = ap (λ (l : List Bool). complete k (b ∷ l)) (sym (append-snoc more x bs)) ∙ d (more ++ (x ∷ [])) b
+dead-more k = never-more (complete k)
 
 pub dead-made : (k : Chip) (ys : List ℕ) (bs : List Bool) → Made bs ys → DeadBytes k ys → Dead k bs
-dead-made k ys bs m d more b = go (eqb (length l % 8) 0) refl
-  where
-    l : List Bool
-    l = b ∷ (more ++ bs)
-
-    some-bytes : (zs : List ℕ) → 1 ≤ length zs → Made l (zs ++ ys) → complete k l ≡ none
-    some-bytes [] h q = absurd (omega arith)
-    some-bytes (z ∷ zs) h q = complete-made k (z ∷ (zs ++ ys)) l q ∙ d z zs
-
-    go : (t : Bool) → eqb (length l % 8) 0 ≡ t → complete k l ≡ none
-    go false e = complete-part k l (eqb-false (length l % 8) 0 e)
-    go true e =
-        let o : length l % 8 ≡ 0 = eqb-true (length l % 8) 0 e in
-        let j : length (b ∷ more) ≡ 8 * (length (b ∷ more) / 8) = omega (arith, length-append more bs, made-length ys bs m) in
-        let r = made-more (length (b ∷ more) / 8) (b ∷ more) bs ys j m in
-        some-bytes (r .0) (omega (arith, r .1)) (r .2)
+dead-made k = never-made (complete k) (wholeWrite k) (complete-part k) (complete-made k)

@@ -53,7 +53,7 @@ module _ (c : Clock) (w : Wires) (ok : Accepted c w) where
       step-chip (withStore c′ (withEvent (e .event) (c′ .store))) (wiresAt S h) (e .wires) ∙ chip-is h
 
   -- The phase is tied to the bits of the stretch at every entry.
-  tied : (h : History) → Tie (storeAfter c w h .chip) (clockAfter c w h .phase) (wiresAt S h .enable) (rises S h)
+  pub tied : (h : History) → Tie (storeAfter c w h .chip) (clockAfter c w h .phase) (wiresAt S h .enable) (rises S h)
   unfolding clockAfter stepWires between rises wiresAt
   tied [] = tie-start (c .store .chip) (c .phase) (w .enable) (parts (c .store .chip) (c .phase) (w .enable) (ok .phase))
   tied (e ∷ h) =

@@ -102,7 +102,7 @@ DeadIn k none = Unit {0}
 DeadIn k (some bs) = Dead k bs
 
 -- The bits are those of the bytes ys and n more of value v.
-abbrev Taken : Bytes → ℕ → ℕ → Option (List Bool) → Type 0
+abbrev pub Taken : Bytes → ℕ → ℕ → Option (List Bool) → Type 0
 Taken ys n v none = ⊥
 Taken ys n v (some bs) = (n ≤ length bs) × Made (drop n bs) (newestFirst ys) × (num (take n bs) ≡ v) × (n < 8)
 
@@ -138,7 +138,7 @@ byte-tied k s ys b bs (Reads t) e m = dead-made k (b ∷ newestFirst ys) bs m (h
 byte-tied k s ys b bs (Writes t) e m = dead-made k (b ∷ newestFirst ys) bs m (heard-dead k ys b (ap isMore e))
 byte-tied k s ys b bs Ignored e m = dead-made k (b ∷ newestFirst ys) bs m (heard-dead k ys b (ap isMore e))
 
-eighth : (ys : Bytes) (n v : ℕ) (b : Bool) (bs : List Bool) → n ≡ 7 → Taken ys n v (some bs) → Made (b ∷ bs) ((2 * v + bitNumber b) ∷ newestFirst ys)
+pub eighth : (ys : Bytes) (n v : ℕ) (b : Bool) (bs : List Bool) → n ≡ 7 → Taken ys n v (some bs) → Made (b ∷ bs) ((2 * v + bitNumber b) ∷ newestFirst ys)
 eighth ys n v b bs q (l, m, f, i) =
     let f7 : num (take 7 bs) ≡ v = rw q at f in
     let m7 : Made (drop 7 bs) (newestFirst ys) = rw q at m in
