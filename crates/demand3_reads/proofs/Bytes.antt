@@ -30,16 +30,16 @@ readOfBytes k (c ∷ []) = readBy (meant k c)
 readOfBytes k (d ∷ c ∷ []) = readBy (extend (meant k c) d)
 readOfBytes k (b ∷ d ∷ c ∷ ys) = none
 
-not-8-16 : (k : Chip) (bs : List Bool) → (length bs ≡ 8 → ⊥) → (length bs ≡ 16 → ⊥) → wholeRead k bs ≡ none
+pub not-8-16 : (k : Chip) (bs : List Bool) → (length bs ≡ 8 → ⊥) → (length bs ≡ 16 → ⊥) → wholeRead k bs ≡ none
 not-8-16 k bs h i = simp (ne-eqb (length bs) 8 h, ne-eqb (length bs) 16 i)
 
 pub read-part : (k : Chip) (bs : List Bool) → (length bs % 8 ≡ 0 → ⊥) → wholeRead k bs ≡ none
 read-part k bs h = not-8-16 k bs (λ e. h (omega arith)) (λ e. h (omega arith))
 
-is-8 : (k : Chip) (bs : List Bool) → length bs ≡ 8 → wholeRead k bs ≡ readBy (meant k (num bs))
+pub is-8 : (k : Chip) (bs : List Bool) → length bs ≡ 8 → wholeRead k bs ≡ readBy (meant k (num bs))
 is-8 k bs h = simp (eq-eqb (length bs) 8 h)
 
-is-16 : (k : Chip) (bs : List Bool) → length bs ≡ 16 → wholeRead k bs ≡ readBy (extend (meant k (num (drop 8 bs))) (num (take 8 bs)))
+pub is-16 : (k : Chip) (bs : List Bool) → length bs ≡ 16 → wholeRead k bs ≡ readBy (extend (meant k (num (drop 8 bs))) (num (take 8 bs)))
 is-16 k bs h = simp (ne-eqb (length bs) 8 (λ e. omega arith), eq-eqb (length bs) 16 h)
 
 pub read-made : (k : Chip) (ys : List ℕ) (bs : List Bool) → Made bs ys → wholeRead k bs ≡ readOfBytes k ys

@@ -3,3 +3,5 @@ pub mod Told
 pub mod Pieces
 pub mod Widths
 pub mod Runs
+pub mod Samples
+pub mod Faithful
