@@ -1,5 +1,5 @@
 -- The machine drives its clock as the history's entries do; so demand 3 holds of every run, from every accepted machine and from the fresh one.
-use mathlib.Core.Path.{_≡_, refl, sym, ap, _∙_}
+use mathlib.Core.Path.{_≡_, refl, sym, ap, subst, _∙_}
 use mathlib.Core.Bool.{Bool, true, false, cond, _&&_}
 use mathlib.Core.List.{List, [], _∷_}
 use Prim.Native.Nat.{ℕ, _-_, _^_, _<_}
@@ -40,9 +40,9 @@ use Rattle.run_spec.specs.Turn.{refusedTurn, doneTurn, turnBy, turnOf}
 use Rattle.run_spec.specs.Outcome.{Piece, whole, broken, pieces, halt, onto, onPiece, runPieces, runOf}
 use Rattle.history.specs.History.{wiresAt}
 use Rattle.history.specs.Start.{Accepted, freshStart}
-use Rattle.history.specs.Demand3.{clockAfter}
+use Rattle.history.specs.Demand3.{clockAfter, StoreIs}
 use Rattle.history.specs.Items.{stateAfter, FollowsEntries}
-use Rattle.demand3.specs.Runs.{afterPiece, eventBy, eventAt, traceOf, answeredAfter, answeredPieces, startOfRun, Run3}
+use Rattle.demand3.specs.Runs.{afterPiece, eventBy, eventAt, traceOf, answeredAfter, historyOfPieces, answeredPieces, startOfRun, Run3}
 use Rattle.history.proofs.Keeps.{step-still}
 use Rattle.history.proofs.Driven.{machine3}
 
@@ -150,11 +150,8 @@ run3 m a ok list room =
     let r = ran-is m a list room in
     let d = machine3 (λ (m : Machine). m .clock) wires afterPiece traceOf drives m ok in
     record {
-      cells = λ i l. ap (λ (x : Machine). getD (x .clock .store .cells) i 0) r ∙ d is .cells i l;
-      chip = ap (λ (x : Machine). x .clock .store .chip) r ∙ d is .chip;
-      seconds = ap (λ (x : Machine). x .clock .store .seconds) r ∙ d is .seconds;
-      protect = ap (λ (x : Machine). x .clock .store .protect) r ∙ d is .protect;
-      test = ap (λ (x : Machine). x .clock .store .test) r ∙ d is .test;
+      reached = r;
+      store = subst (λ (x : Machine). StoreIs (startOfRun m) (historyOfPieces m is) (x .clock .store)) (sym r) (d is .store);
       underProtect = λ is js ls q p k. d is .underProtect js p k;
     }
 

@@ -169,10 +169,10 @@ module _ (c : Clock) (w : Wires) (ok : Accepted c w) where
   -- What the store has of a target is what the history says of it: demand 3.
   fetched : (h : History) (a : Target) → TargetInRange (c .store .chip) a → fetch a (storeAfter c w h) ≡ saidAt S R h a
   unfolding fetch
-  fetched h (Seconds k) l = ap (λ (x : ℕ). x / 256 ^ k % 256) (demand3 c w ok h .seconds)
-  fetched h Test l = demand3 c w ok h .test
+  fetched h (Seconds k) l = ap (λ (x : ℕ). x / 256 ^ k % 256) (demand3 c w ok h .store .seconds)
+  fetched h Test l = demand3 c w ok h .store .test
   fetched h Protect l = refl
-  fetched h (Cell i) l = demand3 c w ok h .cells i l
+  fetched h (Cell i) l = demand3 c w ok h .store .cells i l
 
   told : (h : History) → Told (c .store .chip) (clockAfter c w h .phase) (wiresAt S h .enable) (rises S h) (sentAt S R h)
   unfolding clockAfter stepWires between rises wiresAt readAt sentAt

@@ -9,7 +9,7 @@ use Rattle.clock_spec.specs.declared.Wires.{Wires}
 use Rattle.clock.specs.declared.Clock.{Clock}
 use Rattle.history.specs.History.{Entry, History, wiresAt, gainSince}
 use Rattle.history.specs.Start.{startOf, Accepted}
-use Rattle.history.specs.Demand3.{clockAfter}
+use Rattle.history.specs.Demand3.{clockAfter, StoreIs}
 use Rattle.history.specs.Items.{stateAfter, historyOf, entriesSince, FollowsEntries, Machine3}
 use Rattle.history.proofs.Holds.{demand3}
 use Rattle.history.proofs.Keeps.{accepted-after}
@@ -72,16 +72,12 @@ module _ {M I : Type 0} (clock : M → Clock) (wires : M → Wires) (step : I �
       let d = demand3 (clock m) (wires m) ok h in
       let r = driven m ok is .0 in
       record {
-        cells = λ i l. ap (λ (c : Clock). getD (c .store .cells) i 0) r ∙ d .cells i l;
-        chip = ap (λ (c : Clock). c .store .chip) r ∙ d .chip;
-        seconds = ap (λ (c : Clock). c .store .seconds) r ∙ d .seconds;
-        protect = ap (λ (c : Clock). c .store .protect) r ∙ d .protect;
-        test = ap (λ (c : Clock). c .store .test) r ∙ d .test;
+        store = subst (λ (c : Clock). StoreIs (startOf (clock m) (wires m)) h (c .store)) (sym r) (d .store);
         underProtect = λ js p k.
             let es : List Entry = entriesSince step trace m is js in
             let q : clock (stateAfter step m (js ++ is)) ≡ clockAfter (clock m) (wires m) (es ++ h) =
             driven m ok (js ++ is) .0 ∙ ap (clockAfter (clock m) (wires m)) (history-since step trace m is js) in
-            let u = d .underProtect es (sym (d .protect) ∙ sym (ap (λ (c : Clock). c .store .protect) r) ∙ p) k in (
+            let u = d .underProtect es p k in (
               ap (λ (c : Clock). c .store .cells) q ∙ u .0 ∙ sym (ap (λ (c : Clock). c .store .cells) r),
               ap (λ (c : Clock). c .store .seconds) q ∙ u .1 ∙ sym (ap (λ (c : Clock). wrap (c .store .seconds + gainSince (startOf (clock m) (wires m)) h es)) r),
             );

@@ -157,11 +157,13 @@ module _ (c : Clock) (w : Wires) (ok : Accepted c w) where
 -- Demand 3, of every history from every accepted start.
 pub demand3 : (c : Clock) (w : Wires) → Accepted c w → (h : History) → Demand3 c w h
 demand3 c w ok h = record {
-  cells = cell-is c w ok h;
-  chip = chip-is c w ok h;
-  seconds = seconds-is c w ok h;
-  protect = protect-is c w ok h;
-  test = test-is c w ok h;
+  store = record {
+    cells = cell-is c w ok h;
+    chip = chip-is c w ok h;
+    seconds = seconds-is c w ok h;
+    protect = protect-is c w ok h;
+    test = test-is c w ok h;
+  };
   underProtect = under-protect c w ok h;
 }
 
