@@ -11,13 +11,18 @@ use clock_spec::Command;
 use clock_spec::Target;
 use clock_spec::Verdict;
 
+// The cells of the first chip, and of the later one, for which every store has room.
+pub const FIRST_CELLS: usize = 20;
+
+pub const ALL_CELLS: usize = 256;
+
 // The number of cells that a chip has.
 pub fn cell_count(chip: Chip) -> usize
     ensures { λ r. ⌜ r ≡ cellsOf chip ⌝ }
 {
     match chip {
-        Chip::First => 20,
-        Chip::Later => 256,
+        Chip::First => FIRST_CELLS,
+        Chip::Later => ALL_CELLS,
     }
 }
 

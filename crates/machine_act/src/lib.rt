@@ -14,7 +14,7 @@ ghost use Rattle.item_spec.specs.Items.{ItemInRange};
 ghost use Rattle.via.specs.Registers.{valueRead};
 ghost use Rattle.machine_spec.specs.Pins.{wiresOf, selOf};
 ghost use Rattle.machine_spec.specs.Wiring.{inputsOf};
-ghost use Rattle.machine_spec.specs.Machine.{Levels, cellCount};
+ghost use Rattle.machine_spec.specs.Machine.{Levels};
 ghost use Rattle.machine_spec.specs.Stages.{itemWait};
 ghost use Rattle.machine_spec.specs.Action.{actedOf};
 ghost use Rattle.machine_act.specs.Parts.{wholeMachine, machineAfter, clockedOf, ChangeInRange, PhaseAccepted};
@@ -50,7 +50,7 @@ pub struct Acted {
 }
 
 // The machine put together: m, with its clock, its drives and its sense registers taken from beside it.
-pub fn whole_machine(m: Machine, k: Core, cells: [u8; 20], d: Drives, sense: [u8; 32]) -> Machine
+pub fn whole_machine(m: Machine, k: Core, cells: [u8; 256], d: Drives, sense: [u8; 32]) -> Machine
     ensures { λ r. ⌜ r ≡ wholeMachine m k cells d sense ⌝ }
 {
     let v = m.via;
@@ -112,9 +112,9 @@ fn iwm_value(d: DiskLines, drives: Drives, location: u8, ports: Ports, sense: &[
 }
 
 // The clock's look at its wires, which a write to the VIA may have moved.
-fn clocked(k: Core, was: Ports, next: Ports, cells: &mut [u8; 20]) -> Core
-    requires { ⌜ acceptedPhase cellCount (k .phase) (wiresOf was (shownLevel (k .phase)) .enable) ≡ true ⌝ }
-    ensures { λ r. ⌜ wholeClock r (now (cells .exit)) ≡ stepWires cellCount (wholeClock k (now (cells .entry))) (wiresOf was (shownLevel (k .phase))) (wiresOf next (shownLevel (k .phase))) ⌝ }
+fn clocked(k: Core, was: Ports, next: Ports, cells: &mut [u8; 256]) -> Core
+    requires { ⌜ acceptedPhase (k .chip) (k .phase) (wiresOf was (shownLevel (k .phase)) .enable) ≡ true ⌝ }
+    ensures { λ r. ⌜ wholeClock r (now (cells .exit)) ≡ stepWires (wholeClock k (now (cells .entry))) (wiresOf was (shownLevel (k .phase))) (wiresOf next (shownLevel (k .phase))) ⌝ }
 {
     let p = k.phase;
     let line = clock_phase::shown_line(p);
@@ -141,7 +141,7 @@ pub fn act(
     d: Drives,
     item: Item,
     sense: &[u8; 32],
-    cells: &mut [u8; 20],
+    cells: &mut [u8; 256],
 ) -> Acted
     requires { ⌜ ItemInRange item ⌝ }
     requires { ⌜ Levels (wholeMachine m k (now cells) d (now sense)) ⌝ }

@@ -15,7 +15,7 @@ use Rattle.item_spec.specs.declared.Item.{Item}
 use Rattle.item_spec.specs.declared.Item.the-variants.{ReadVia, ReadIwm, WriteVia, WriteIwm, Blank, Second, Line, Sense, Reset, Power, Disk}
 use Rattle.machine_spec.specs.declared.Machine.{Machine}
 use Rattle.machine_spec.specs.declared.Did.{Did}
-use Rattle.machine_spec.specs.Machine.{withVia, withDisk, wires, strobeLevels, Levels, cellCount, acceptedOf}
+use Rattle.machine_spec.specs.Machine.{withVia, withDisk, wires, strobeLevels, Levels, acceptedOf}
 use Rattle.machine_spec.specs.Stages.{itemWait, afterWait, afterWires, afterStrobe, refusesOf, numberIf}
 use Rattle.machine_spec.specs.Action.{actedOf}
 use Rattle.machine_spec.specs.Step.{stepOf, answerOf}
@@ -49,7 +49,7 @@ module _ (m : Machine) (k : Core) (cells : List ℕ) (d : Drives) (sense : List 
   ready a =
       let x = wholeMachine m k cells d sense in
       let w : wires (wholeMachine (withVia m v₁) k cells d₁ sense) ≡ wires x = ap (λ (v : Via). wires (withVia x v)) e₁ ∙ waited-wires (itemWait i) x in
-      (parts x a .levels, ap (λ (y : Wires). acceptedPhase cellCount (k .phase) (y .enable)) w ∙ parts x a .phase)
+      (parts x a .levels, ap (λ (y : Wires). acceptedPhase (k .chip) (k .phase) (y .enable)) w ∙ parts x a .phase)
 
   module _ (f₁ : d₁ ≡ drivesTicks (itemWait i) d) (a : Acted) (cells₂ : List ℕ)
       (acts : machineAfter a (withVia m v₁) cells₂ sense ≡ clockedOf (wholeMachine (withVia m v₁) k cells d₁ sense) i)
