@@ -53,7 +53,7 @@ returns : tie.Need-returns Inv-loop μ-loop
 unfolding allBelow
 returns c =
     let l = c .before in
-    sym (l .loop .inv .1 ∙ ap (λ (x : List ℕ). l .loop .all && allBelow x) (drop-of-length-le (l .before .args .s .now) (c .loop-test .left)) ∙ whole (l .loop .all))
+    sym (l .loop .inv .1 ∙ ap (λ (x : List ℕ). l .loop .all && allBelow (l .before .args .n) x) (drop-of-length-le (l .before .args .s .now) (c .loop-test .left)) ∙ whole (l .loop .all))
 
 pub all-below-spec : {M : Type 1} → statement M
 all-below-spec =
