@@ -1,8 +1,8 @@
 /*
  * The boundary with short and odd buffers. Each buffer stands against a page that may not be touched,
  * once at its end and once at its start, so a byte read or written outside ends the program; the bytes
- * around it in its own page are compared afterwards. To be built with the sanitizers too, and run
- * under valgrind.
+ * around it in its own page are compared afterwards. Buffers of length 0 are NULL too. To be built
+ * with the sanitizers too, and run under valgrind.
  */
 #define _DEFAULT_SOURCE
 #include <stdio.h>
@@ -126,6 +126,70 @@ static void fresh_images(void)
         }
 }
 
+/* Each buffer of length 0 at NULL, alone and together with others. */
+static void null_buffers(const uint8_t *state, const uint8_t *items, size_t len)
+{
+    for (int i = 0; i < 8; i++) {
+        uint8_t copy[SWARMTEMPO_IMAGE_LEN], room[64];
+        uint64_t consumed = 77, written = 78;
+        int no_image = i & 1, no_list = i >> 1 & 1, no_room = i >> 2 & 1;
+        memcpy(copy, state, sizeof copy);
+        memset(room, 0xC3, sizeof room);
+        uint8_t stop = swarmtempo_run(no_image ? NULL : copy, no_image ? 0 : sizeof copy, no_list ? NULL : items, no_list ? 0 : len,
+                                      no_room ? NULL : room, no_room ? 0 : sizeof room, &consumed, &written);
+        uint8_t expected = no_image ? SWARMTEMPO_REFUSED_STATE : no_room && !no_list ? SWARMTEMPO_REFUSED_ROOM : SWARMTEMPO_END;
+        int runs = !no_image && !no_list && !no_room;
+        calls++;
+        if (stop != expected) fail("a stop with NULL");
+        if (consumed != (runs ? len : 0) || written != (runs ? 48u : 0)) fail("counts with NULL");
+        if (!runs && memcmp(copy, state, sizeof copy)) fail("the image changed with NULL");
+    }
+    if (swarmtempo_fresh(NULL, 0) != SWARMTEMPO_REFUSED_ROOM) fail("fresh at NULL");
+    uint8_t which = 77;
+    uint64_t start = 78, size = 79, written = 80;
+    if (swarmtempo_sheet_get(NULL, 0, NULL, 0, 7, &which, &start, &size) || which || start || size) fail("sheets at NULL");
+    if (swarmtempo_sheet_compact(NULL, 0, NULL, 0, &written) || written) fail("a sheet at NULL");
+    if (swarmtempo_convert(NULL, 0, NULL, 0, &start, &written) || start || written) fail("a capture at NULL");
+    uint8_t answered = 81, answer = 82;
+    if (swarmtempo_keyboard_fresh(NULL, 0, 3) != SWARMTEMPO_REFUSED_ROOM) fail("a fresh keyboard at NULL");
+    if (swarmtempo_keyboard_wait(NULL, 0, 1, &answered, &answer) != SWARMTEMPO_REFUSED_STATE || answered || answer) fail("a keyboard at NULL");
+    calls += 6;
+}
+
+/* Sheets of every length, sound and cut, with every room. */
+static void sheets(void)
+{
+    static const uint8_t blank[64];
+    static const uint8_t sheet[25] = {6, 0, 'S', 'V', 1, 2, 2, 10, 5, 0, 'S', 'V', 3, 0, 0, 8, 0, 'S', 'V', 1, 2, 2, 11, 12, 13};
+    for (size_t len = 0; len <= sizeof sheet; len++)
+        for (size_t room = 0; room <= 32; room++)
+            for (int at_end = 0; at_end < 2; at_end++) {
+                uint8_t which[3] = {7, 8, 9};
+                uint64_t at[4] = {~0ull, 77, 78, ~0ull};
+                int sound = len == 0 || len == 8 || len == 15 || len == 25;
+                size_t kept = len == 25 ? 17 : len;
+                place(&image, sheet, len, at_end);
+                place(&list, sheet, 8, at_end);
+                place(&answers, blank, room, at_end);
+                uint8_t refusal = swarmtempo_sheet_get(image.at, len, list.at, 8, 513, &which[1], &at[1], &at[2]);
+                if (refusal != (sound ? 0 : SWARMTEMPO_REFUSED_CUT)) fail("a look-up's refusal");
+                if (sound && (which[1] != (len ? SWARMTEMPO_SHEET_BENCH : SWARMTEMPO_SHEET_HOUSE) || at[1] + at[2] > 25)) fail("a look-up");
+                if (!sound && (which[1] || at[1] || at[2])) fail("numbers of a broken sheet");
+                if (which[0] != 7 || which[2] != 9 || at[0] != ~0ull || at[3] != ~0ull) fail("a byte beside the numbers was written");
+                refusal = swarmtempo_sheet_compact(image.at, len, answers.at, room, &at[1]);
+                uint8_t expected = !sound ? SWARMTEMPO_REFUSED_CUT : room < kept ? SWARMTEMPO_REFUSED_ROOM : 0;
+                if (refusal != expected || at[1] != (refusal ? 0 : kept)) fail("compacting");
+                if (at[0] != ~0ull || at[2] > 25) fail("a byte beside the count was written");
+                for (size_t i = at[1]; i < room; i++)
+                    if (answers.at[i]) fail("bytes past the records were written");
+                if (len && memcmp(image.at, sheet, len)) fail("the sheet was written");
+                guards_hold(&image);
+                guards_hold(&list);
+                guards_hold(&answers);
+                calls += 2;
+            }
+}
+
 int main(int argc, char **argv)
 {
     uint8_t state[2 * SWARMTEMPO_IMAGE_LEN] = {0}, items[256];
@@ -141,6 +205,8 @@ int main(int argc, char **argv)
     len += swarmtempo_pw(items + len, 0, 0xFFFFFFFF);
     len += swarmtempo_in(items + len, 0, 4, 0);
     len += swarmtempo_rd(items + len, 0, SWARMTEMPO_IWM(14));
+    null_buffers(state, items, len);
+    sheets();
     for (int at_end = 0; at_end < 2; at_end++) {
         for (size_t n = 0; n <= len; n++) conversions(items, n, at_end);
         for (size_t n = 0; n <= sizeof state; n++) call(state, n, items, len, 48, at_end);

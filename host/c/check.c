@@ -1,4 +1,7 @@
-/* Runs S2, S4, a save and restore amid a half-sent command, and a conversion; fails where an answer differs. */
+/*
+ * Runs S2, S4, a save and restore amid a half-sent command, and a conversion; asks for versions and
+ * words, and reads answers. Fails where something differs.
+ */
 #include <stdio.h>
 #include <stdlib.h>
 #include <string.h>
@@ -95,6 +98,52 @@ static void micros(void)
     expect(swarmtempo_ticks_of_micros(0xFFFFFFFF) == 3364505581ul, "most microseconds");
 }
 
+static void version(void)
+{
+    char numbers[32];
+    expect(strcmp(swarmtempo_version(), SWARMTEMPO_VERSION) == 0, "version of header and library");
+    snprintf(numbers, sizeof numbers, "%d.%d.%d", SWARMTEMPO_VERSION_MAJOR, SWARMTEMPO_VERSION_MINOR, SWARMTEMPO_VERSION_PATCH);
+    expect(strcmp(numbers, SWARMTEMPO_VERSION) == 0, "numbers of the version");
+}
+
+/* Words for every number that a run or an answer has, all different; the same ones for all others. */
+static void refusals(void)
+{
+    const char *unknown = swarmtempo_refusal(255);
+    expect(strcmp(swarmtempo_refusal(SWARMTEMPO_REFUSED_LENGTH), "length wrong for the kind") == 0, "words of 3");
+    for (unsigned i = 0; i < 256; i++) {
+        const char *words = swarmtempo_refusal((uint8_t)i);
+        expect(words != NULL && *words, "words");
+        expect((strcmp(words, unknown) == 0) == (i > SWARMTEMPO_REFUSED_RETIRED && i != SWARMTEMPO_REFUSED_KEY), "numbers that have words");
+        for (unsigned j = 0; j < i && j <= SWARMTEMPO_REFUSED_RETIRED; j++)
+            expect(strcmp(words, swarmtempo_refusal((uint8_t)j)) != 0, "words of two numbers");
+    }
+}
+
+static void readers(void)
+{
+    static const uint8_t done[] = {6, 0, 'O', 'K', 0x81, 5, SWARMTEMPO_CA1 | SWARMTEMPO_Q7, 1};
+    static const uint8_t refused[] = {6, 0, 'N', 'O', 8, 0, 0, 0};
+    static const uint8_t none[][8] = {
+        {0},
+        {5, 0, 'O', 'K', 1, 1, 1, 1},
+        {6, 1, 'O', 'K', 1, 1, 1, 1},
+        {6, 0, 'O', 'O', 1, 1, 1, 1},
+        {6, 0, 'N', 'K', 1, 1, 1, 1},
+        {6, 0, 'N', 'O', 0, 0, 0, 0},
+    };
+    expect(swarmtempo_answer_done(done) == 1 && swarmtempo_answer_refusal(done) == 0, "done");
+    expect(swarmtempo_answer_value(done) == 0x81 && swarmtempo_answer_level(done) == 5, "value and level");
+    expect(swarmtempo_answer_lines(done) == 0x82 && swarmtempo_answer_sel(done) == 1, "lines and SEL");
+    expect(swarmtempo_answer_done(refused) == 0 && swarmtempo_answer_refusal(refused) == SWARMTEMPO_REFUSED_DISK, "refused");
+    expect(swarmtempo_answer_value(refused) == 0, "a refusal's number is no value");
+    for (size_t i = 0; i < sizeof none / sizeof *none; i++) {
+        expect(swarmtempo_answer_refusal(none[i]) == SWARMTEMPO_NO_ANSWER && !swarmtempo_answer_done(none[i]), "no answer");
+        expect(!swarmtempo_answer_value(none[i]) && !swarmtempo_answer_level(none[i]), "value and level of no answer");
+        expect(!swarmtempo_answer_lines(none[i]) && !swarmtempo_answer_sel(none[i]), "lines and SEL of no answer");
+    }
+}
+
 /* W-214: a locked disk into the external drive; register 6 has not retired. */
 static void conversion(void)
 {
@@ -124,6 +173,9 @@ int main(void)
     sample_2();
     sample_4();
     micros();
+    version();
+    refusals();
+    readers();
     save_and_restore();
     conversion();
     return failures ? EXIT_FAILURE : EXIT_SUCCESS;

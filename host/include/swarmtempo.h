@@ -3,11 +3,19 @@
  *
  * A run takes a state image, a list of items and room for answers, and leaves the next state in the
  * image. Nothing is kept between calls, and nothing is allocated: every buffer is the caller's, is
- * lent for the call alone, and may have any alignment. The three buffers and the two counts must not
- * overlap, and no pointer may be NULL, even where its length is 0. Calls on different buffers may run
- * at the same time.
+ * lent for the call alone, and may have any alignment. A buffer of length 0 may be NULL; no other
+ * pointer may be. The three buffers and the two counts must not overlap. Calls on different buffers
+ * may run at the same time.
  *
- * Time is in VIA ticks, 783,360 a second. Numbers in buffers are little-endian.
+ * Times are in VIA ticks (783,360 a second), in microseconds or in seconds; each name says which.
+ * Numbers in buffers are little-endian.
+ *
+ * Targets: x86-64 with ELF and the System V calling convention (Linux), static or shared. The library
+ * calls nothing but, where the compiler copies or compares bytes by them, the C library's memcpy,
+ * memmove, memset, memcmp and bcmp.
+ *
+ * In this file: constants; the functions of the library; writers of items; readers of answers. The
+ * last two are inline.
  */
 #ifndef SWARMTEMPO_H
 #define SWARMTEMPO_H
@@ -19,11 +27,17 @@
 extern "C" {
 #endif
 
+/* The version of this header; swarmtempo_version() has that of the library. */
+#define SWARMTEMPO_VERSION "0.1.0"
+#define SWARMTEMPO_VERSION_MAJOR 0
+#define SWARMTEMPO_VERSION_MINOR 1
+#define SWARMTEMPO_VERSION_PATCH 0
+
 /* VIA ticks a second. */
 #define SWARMTEMPO_TICKS_PER_SECOND 783360ul
 /* Bytes of an answer. */
 #define SWARMTEMPO_ANSWER_LEN 8
-/* Bytes of a state image of this version; swarmtempo_image_len() says the same. */
+/* Bytes of a state image of this version; swarmtempo_image_len() has that of the library. */
 #define SWARMTEMPO_IMAGE_LEN 123
 /* Bytes of the longest item that the functions below write. */
 #define SWARMTEMPO_ITEM_MAX 11
@@ -43,6 +57,42 @@ extern "C" {
 /* Address of VIA register r, 0 to 15, and of IWM location k, 0 to 15. */
 #define SWARMTEMPO_VIA(r) ((uint32_t)(0xEFE1FEul + 512ul * (r)))
 #define SWARMTEMPO_IWM(k) ((uint32_t)(0xDFE1FFul + 512ul * (k)))
+
+/* The VIA's registers, for SWARMTEMPO_VIA. */
+#define SWARMTEMPO_ORB 0u
+#define SWARMTEMPO_ORA 1u
+#define SWARMTEMPO_DDRB 2u
+#define SWARMTEMPO_DDRA 3u
+#define SWARMTEMPO_T1CL 4u
+#define SWARMTEMPO_T1CH 5u
+#define SWARMTEMPO_T1LL 6u
+#define SWARMTEMPO_T1LH 7u
+#define SWARMTEMPO_T2CL 8u
+#define SWARMTEMPO_T2CH 9u
+#define SWARMTEMPO_SR 10u
+#define SWARMTEMPO_ACR 11u
+#define SWARMTEMPO_PCR 12u
+#define SWARMTEMPO_IFR 13u
+#define SWARMTEMPO_IER 14u
+#define SWARMTEMPO_ORANH 15u
+
+/*
+ * The disk lines, as bits of an answer's disk-line byte. The line of bit i is turned off by an access of
+ * SWARMTEMPO_IWM(2 * i) and on by one of SWARMTEMPO_IWM(2 * i + 1).
+ */
+#define SWARMTEMPO_CA0 0x01u
+#define SWARMTEMPO_CA1 0x02u
+#define SWARMTEMPO_CA2 0x04u
+#define SWARMTEMPO_LSTRB 0x08u
+#define SWARMTEMPO_ENABLE 0x10u
+#define SWARMTEMPO_SELECT 0x20u
+#define SWARMTEMPO_Q6 0x40u
+#define SWARMTEMPO_Q7 0x80u
+
+/*
+ * ---- The library. What is proved of it stands in docs/PROMISES.md. host/check compares what is
+ * declared here with the functions of the library and with the declarations of the Rust crate.
+ */
 
 /*
  * Runs a list on the state in `image` (exactly one image, image_len bytes).
@@ -80,46 +130,21 @@ uint8_t swarmtempo_convert(const uint8_t *list, size_t list_len, uint8_t *out, s
 /* Microseconds as VIA ticks, rounded up: 12,000 gives 9,401. One wait takes 65,535 ticks at most. */
 uint32_t swarmtempo_ticks_of_micros(uint32_t micros);
 
-/* ---- the keyboard, a part of its own: no item of a list reaches it, and its image is in no state image ---- */
-
-/* Bytes of a keyboard's image of this version; swarmtempo_keyboard_len() says the same. */
-#define SWARMTEMPO_KEYBOARD_LEN 18
-/* VIA ticks after which a waiting Inquiry answers Null. */
-#define SWARMTEMPO_INQUIRY_TICKS 195840ul
-/* Eight key codes are held already. */
-#define SWARMTEMPO_REFUSED_KEY 11u
-
-/* Command bytes. */
-#define SWARMTEMPO_INQUIRY 0x10u
-#define SWARMTEMPO_INSTANT 0x14u
-#define SWARMTEMPO_MODEL 0x16u
-#define SWARMTEMPO_TEST 0x36u
-
-/* Bytes of a keyboard's image. */
-uint64_t swarmtempo_keyboard_len(void);
-
 /*
- * Writes the image of a keyboard that was just made; `model` is what the command Model answers. Returns
- * 0, or 6 where image_len is below swarmtempo_keyboard_len(), and then writes nothing. Bytes past the
- * image keep their contents.
+ * The version of the library, as "0.1.0". While its first number is 0, another second number may
+ * have another image: a program asks that the first two are those of its header.
  */
-uint8_t swarmtempo_keyboard_fresh(uint8_t *image, size_t image_len, uint8_t model);
+const char *swarmtempo_version(void);
 
 /*
- * A command byte, a key code, and a wait in VIA ticks, each on the keyboard in `image` (exactly one
- * image, image_len bytes). Each returns 0, or the refusal: 7 where no accepted keyboard has this image,
- * 11 where a key is one too many. `*answered` is 1 where there is an answer byte, and `*answer` is that
- * byte; else both are 0. On a refusal the image keeps its bytes. A wait may be cut anywhere.
+ * What the number of a refusal or of a stop says, in English words: "none" for 0, "unknown number" for
+ * one that is none. Never NULL.
  */
-uint8_t swarmtempo_keyboard_command(uint8_t *image, size_t image_len, uint8_t command, uint8_t *answered, uint8_t *answer);
-uint8_t swarmtempo_keyboard_key(uint8_t *image, size_t image_len, uint8_t code, uint8_t *answered, uint8_t *answer);
-uint8_t swarmtempo_keyboard_wait(uint8_t *image, size_t image_len, uint32_t ticks, uint8_t *answered, uint8_t *answer);
-
-/* ---- items ---- */
+const char *swarmtempo_refusal(uint8_t number);
 
 /*
- * Sheets of settings: a bench sheet before a house sheet, each a run of records of kind SV; either may
- * be empty (a length of 0, the pointer not NULL). The two may be one buffer; no other buffers overlap.
+ * ---- Sheets of settings: a bench sheet before a house sheet, each a run of records of kind SV; either may
+ * be empty. The two may be one buffer; no other buffers overlap.
  */
 /* Bytes of a setting at most, and of the longest record. */
 #define SWARMTEMPO_SETTING_MAX 64
@@ -148,17 +173,53 @@ uint8_t swarmtempo_sheet_compact(const uint8_t *sheet, size_t sheet_len, uint8_t
                                  uint64_t *written);
 
 /*
- * Writers of items. Each writes one record at `at`, which has room for SWARMTEMPO_ITEM_MAX bytes, and
- * returns its length in bytes. `wait` is in VIA ticks and passes before the item acts.
+ * ---- The keyboard, a part of its own: no item of a list reaches it, and its image is in no state image.
  */
-static inline size_t swarmtempo_item(uint8_t *at, char k0, char k1, uint16_t wait, size_t rest)
+/* Bytes of a keyboard's image of this version; swarmtempo_keyboard_len() says the same. */
+#define SWARMTEMPO_KEYBOARD_LEN 18
+/* VIA ticks after which a waiting Inquiry answers Null. */
+#define SWARMTEMPO_INQUIRY_TICKS 195840ul
+/* Eight key codes are held already. */
+#define SWARMTEMPO_REFUSED_KEY 11u
+
+/* Command bytes. */
+#define SWARMTEMPO_INQUIRY 0x10u
+#define SWARMTEMPO_INSTANT 0x14u
+#define SWARMTEMPO_MODEL 0x16u
+#define SWARMTEMPO_TEST 0x36u
+
+/* Bytes of a keyboard's image. */
+uint64_t swarmtempo_keyboard_len(void);
+
+/*
+ * Writes the image of a keyboard that was just made; `model` is what the command Model answers. Returns
+ * 0, or 6 where image_len is below swarmtempo_keyboard_len(), and then writes nothing. Bytes past the
+ * image keep their contents.
+ */
+uint8_t swarmtempo_keyboard_fresh(uint8_t *image, size_t image_len, uint8_t model);
+
+/*
+ * A command byte, a key code, and a wait, each on the keyboard in `image` (exactly one image, image_len
+ * bytes). Each returns 0, or the refusal: 7 where no accepted keyboard has this image, 11 where a key is
+ * one too many. `*answered` is 1 where there is an answer byte, and `*answer` is that byte; else both are
+ * 0. On a refusal the image keeps its bytes. A wait may be cut anywhere.
+ */
+uint8_t swarmtempo_keyboard_command(uint8_t *image, size_t image_len, uint8_t command, uint8_t *answered, uint8_t *answer);
+uint8_t swarmtempo_keyboard_key(uint8_t *image, size_t image_len, uint8_t code, uint8_t *answered, uint8_t *answer);
+uint8_t swarmtempo_keyboard_wait(uint8_t *image, size_t image_len, uint32_t via_ticks, uint8_t *answered, uint8_t *answer);
+
+/*
+ * ---- Writers of items. Each writes one record at `at`, which has room for SWARMTEMPO_ITEM_MAX bytes, and
+ * returns its length in bytes. `wait_via_ticks` passes before the item acts.
+ */
+static inline size_t swarmtempo_item(uint8_t *at, char k0, char k1, uint16_t wait_via_ticks, size_t rest)
 {
     at[0] = (uint8_t)(4 + rest);
     at[1] = 0;
     at[2] = (uint8_t)k0;
     at[3] = (uint8_t)k1;
-    at[4] = (uint8_t)(wait & 0xFF);
-    at[5] = (uint8_t)(wait >> 8);
+    at[4] = (uint8_t)(wait_via_ticks & 0xFF);
+    at[5] = (uint8_t)(wait_via_ticks >> 8);
     return 6 + rest;
 }
 
@@ -171,73 +232,123 @@ static inline void swarmtempo_long(uint8_t *at, uint32_t number)
 }
 
 /* Reads a byte. */
-static inline size_t swarmtempo_rd(uint8_t *at, uint16_t wait, uint32_t address)
+static inline size_t swarmtempo_rd(uint8_t *at, uint16_t wait_via_ticks, uint32_t address)
 {
     swarmtempo_long(at + 6, address);
-    return swarmtempo_item(at, 'R', 'D', wait, 4);
+    return swarmtempo_item(at, 'R', 'D', wait_via_ticks, 4);
 }
 
 /* Writes a byte. */
-static inline size_t swarmtempo_wr(uint8_t *at, uint16_t wait, uint32_t address, uint8_t value)
+static inline size_t swarmtempo_wr(uint8_t *at, uint16_t wait_via_ticks, uint32_t address, uint8_t value)
 {
     swarmtempo_long(at + 6, address);
     at[10] = value;
-    return swarmtempo_item(at, 'W', 'R', wait, 5);
+    return swarmtempo_item(at, 'W', 'R', wait_via_ticks, 5);
 }
 
 /* Vertical blanking. */
-static inline size_t swarmtempo_vb(uint8_t *at, uint16_t wait)
+static inline size_t swarmtempo_vb(uint8_t *at, uint16_t wait_via_ticks)
 {
-    return swarmtempo_item(at, 'V', 'B', wait, 0);
+    return swarmtempo_item(at, 'V', 'B', wait_via_ticks, 0);
 }
 
 /* The one-second tick. */
-static inline size_t swarmtempo_se(uint8_t *at, uint16_t wait)
+static inline size_t swarmtempo_se(uint8_t *at, uint16_t wait_via_ticks)
 {
-    return swarmtempo_item(at, 'S', 'E', wait, 0);
+    return swarmtempo_item(at, 'S', 'E', wait_via_ticks, 0);
 }
 
 /* Sets IN line 0 to 6 (mouse switch, X2, Y2, H4, PA7, serial chip asks, programmer's switch) to level 0 or 1. */
-static inline size_t swarmtempo_in(uint8_t *at, uint16_t wait, uint8_t line, uint8_t level)
+static inline size_t swarmtempo_in(uint8_t *at, uint16_t wait_via_ticks, uint8_t line, uint8_t level)
 {
     at[6] = line;
     at[7] = level;
-    return swarmtempo_item(at, 'I', 'N', wait, 2);
+    return swarmtempo_item(at, 'I', 'N', wait_via_ticks, 2);
 }
 
 /* Sets the level of sense register 6 to 11, 13 or 14 of drive 0 (internal) or 1 (external). */
-static inline size_t swarmtempo_sn(uint8_t *at, uint16_t wait, uint8_t drive, uint8_t reg, uint8_t level)
+static inline size_t swarmtempo_sn(uint8_t *at, uint16_t wait_via_ticks, uint8_t drive, uint8_t reg, uint8_t level)
 {
     at[6] = drive;
     at[7] = reg;
     at[8] = level;
-    return swarmtempo_item(at, 'S', 'N', wait, 3);
+    return swarmtempo_item(at, 'S', 'N', wait_via_ticks, 3);
 }
 
 /*
  * Inserts a disk into drive 0 (internal) or 1 (external), or removes it: insert 1 or 0; locked and
  * double_sided, 0 or 1, count on insertion only.
  */
-static inline size_t swarmtempo_di(uint8_t *at, uint16_t wait, uint8_t drive, uint8_t insert, uint8_t locked, uint8_t double_sided)
+static inline size_t swarmtempo_di(uint8_t *at, uint16_t wait_via_ticks, uint8_t drive, uint8_t insert, uint8_t locked, uint8_t double_sided)
 {
     at[6] = drive;
     at[7] = insert;
     at[8] = locked;
     at[9] = double_sided;
-    return swarmtempo_item(at, 'D', 'I', wait, 4);
+    return swarmtempo_item(at, 'D', 'I', wait_via_ticks, 4);
 }
 
 /* Reset. */
-static inline size_t swarmtempo_rs(uint8_t *at, uint16_t wait)
+static inline size_t swarmtempo_rs(uint8_t *at, uint16_t wait_via_ticks)
 {
-    return swarmtempo_item(at, 'R', 'S', wait, 0);
+    return swarmtempo_item(at, 'R', 'S', wait_via_ticks, 0);
 }
 
-/* Power cut of so many seconds. */
-static inline size_t swarmtempo_pw(uint8_t *at, uint16_t wait, uint32_t seconds)
+/* Power cut: seconds off. */
+static inline size_t swarmtempo_pw(uint8_t *at, uint16_t wait_via_ticks, uint32_t seconds)
 {
     swarmtempo_long(at + 6, seconds);
-    return swarmtempo_item(at, 'P', 'W', wait, 4);
+    return swarmtempo_item(at, 'P', 'W', wait_via_ticks, 4);
+}
+
+/*
+ * ---- Readers of answers. Each takes the SWARMTEMPO_ANSWER_LEN bytes of one answer: the answer to the
+ * i-th item of a run, counted from 0, stands at `answers + i * SWARMTEMPO_ANSWER_LEN`.
+ */
+
+/* Stands for bytes that are no answer. */
+#define SWARMTEMPO_NO_ANSWER 255u
+
+/* 0 where the item was done; the number of the refusal; SWARMTEMPO_NO_ANSWER where the bytes are no answer. */
+static inline uint8_t swarmtempo_answer_refusal(const uint8_t *at)
+{
+    if (at[0] != 6 || at[1] != 0) return SWARMTEMPO_NO_ANSWER;
+    if (at[2] == 'O' && at[3] == 'K') return SWARMTEMPO_END;
+    if (at[2] == 'N' && at[3] == 'O' && at[4] != 0) return at[4];
+    return SWARMTEMPO_NO_ANSWER;
+}
+
+/* 1 where the item was done, else 0. What follows is 0 where it was not. */
+static inline int swarmtempo_answer_done(const uint8_t *at)
+{
+    return swarmtempo_answer_refusal(at) == SWARMTEMPO_END;
+}
+
+/* The value read; 0 unless the item reads. */
+static inline uint8_t swarmtempo_answer_value(const uint8_t *at)
+{
+    return swarmtempo_answer_done(at) ? at[4] : 0;
+}
+
+/*
+ * The interrupt level after the item: 4 for the programmer's switch, plus 2 for the serial chip, plus 1 for
+ * the VIA while the serial chip is not asking.
+ */
+static inline uint8_t swarmtempo_answer_level(const uint8_t *at)
+{
+    return swarmtempo_answer_done(at) ? at[5] : 0;
+}
+
+/* The disk lines after the item, a bit each: SWARMTEMPO_CA0 to SWARMTEMPO_Q7. */
+static inline uint8_t swarmtempo_answer_lines(const uint8_t *at)
+{
+    return swarmtempo_answer_done(at) ? at[6] : 0;
+}
+
+/* The level of SEL after the item, 0 or 1. */
+static inline uint8_t swarmtempo_answer_sel(const uint8_t *at)
+{
+    return swarmtempo_answer_done(at) ? at[7] : 0;
 }
 
 #ifdef __cplusplus

@@ -1,39 +1,32 @@
-//! Finds libswarmtempo.a, or has it built: in the folder that SWARMTEMPO_LIB_DIR names, else in the
-//! repository's target/staticlib, where `rt staticlib swarmtempo` writes it.
+//! Finds libswarmtempo.a: in the folder that `SWARMTEMPO_LIB_DIR` names, else in the repository's
+//! target/staticlib, where `rt staticlib swarmtempo` writes it. Writes nothing.
 
 use std::path::{Path, PathBuf};
-use std::process::Command;
 
 const ARCHIVE: &str = "libswarmtempo.a";
 
 fn main() {
     println!("cargo:rerun-if-changed=build.rs");
     println!("cargo:rerun-if-env-changed=SWARMTEMPO_LIB_DIR");
-    let folder = match std::env::var_os("SWARMTEMPO_LIB_DIR") {
-        Some(folder) => PathBuf::from(folder),
-        None => built_here(),
-    };
+    let folder = std::env::var_os("SWARMTEMPO_LIB_DIR").map_or_else(in_repository, PathBuf::from);
     let archive = folder.join(ARCHIVE);
+    println!("cargo:rerun-if-changed={}", archive.display());
     if !archive.is_file() {
-        println!("cargo:warning={} is not there", archive.display());
+        eprintln!("{} is not there.", archive.display());
+        eprintln!(
+            "Run `rt staticlib swarmtempo` in the repository's root, which proves and writes it,"
+        );
+        eprintln!("or name the folder of the archive by SWARMTEMPO_LIB_DIR.");
         std::process::exit(1);
     }
-    println!("cargo:rerun-if-changed={}", archive.display());
+    let target = std::env::var("TARGET").unwrap_or_default();
+    if !(target.starts_with("x86_64-") && target.contains("linux")) {
+        println!("cargo:warning=the archive is for x86-64 Linux, not for {target}");
+    }
     println!("cargo:rustc-link-search=native={}", folder.display());
     println!("cargo:rustc-link-lib=static=swarmtempo");
 }
 
-fn built_here() -> PathBuf {
-    let here = std::env::var_os("CARGO_MANIFEST_DIR").expect("cargo sets it");
-    let root = Path::new(&here).join("../..");
-    let folder = root.join("target/staticlib");
-    if !folder.join(ARCHIVE).is_file() {
-        let built =
-            Command::new("rt").args(["staticlib", "swarmtempo"]).current_dir(&root).status();
-        if !built.is_ok_and(|status| status.success()) {
-            println!("cargo:warning=`rt staticlib swarmtempo` failed in the repository's root");
-            std::process::exit(1);
-        }
-    }
-    folder
+fn in_repository() -> PathBuf {
+    Path::new(env!("CARGO_MANIFEST_DIR")).join("../../target/staticlib")
 }

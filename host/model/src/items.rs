@@ -73,8 +73,10 @@ fn length_of(kind: [u8; 2]) -> Option<usize> {
     }
 }
 
-/// The wait in VIA ticks and the item of a record, given without its length (2 bytes or more); or
-/// the refusal number.
+/// The wait in VIA ticks and the item of a record, given without its length (2 bytes or more).
+///
+/// # Errors
+/// The refusal number.
 pub fn decode(record: &[u8]) -> Result<(u16, Item), u8> {
     let kind = [record[0], record[1]];
     let Some(length) = length_of(kind) else {

@@ -40,7 +40,10 @@ impl Keyboard {
         Keyboard { model, codes: VecDeque::new(), waited: None }
     }
 
-    /// An event: the answer byte, or the refusal.
+    /// An event: the answer byte.
+    ///
+    /// # Errors
+    /// The refusal.
     pub fn take(&mut self, event: KeyboardEvent) -> Result<Option<u8>, u8> {
         match event {
             KeyboardEvent::Command(byte) => {

@@ -3,6 +3,9 @@
 //!
 //! Time is in VIA ticks: 783,360 a second.
 
+#![allow(missing_docs, reason = "fields and functions have the names of the requirements")]
+#![allow(clippy::struct_excessive_bools, reason = "lines and flags are levels")]
+
 mod clock;
 mod convert;
 mod drive;

@@ -1,7 +1,7 @@
 //! The whole state, and one item carried out.
 
 use crate::clock::{Clock, Phase};
-use crate::drive::{Drives, Watched};
+use crate::drive::{Drive, Drives, Watched};
 use crate::items::Item;
 use crate::refusal;
 use crate::via::{self, Via};
@@ -167,7 +167,7 @@ impl Machine {
                 self.clock.phase = Phase::Idle;
                 self.lines = 0;
                 self.clock.store.advance(seconds);
-                self.drives.drives.iter_mut().for_each(|drive| drive.power_cut());
+                self.drives.drives.iter_mut().for_each(Drive::power_cut);
             }
         }
         0

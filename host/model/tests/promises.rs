@@ -42,6 +42,7 @@ fn has_word(text: &str, word: &str) -> bool {
 }
 
 /// The files named in a piece of text, under crates/.
+#[allow(clippy::case_sensitive_file_extension_comparisons, reason = "the kit writes them small")]
 fn files(text: &str) -> Vec<&str> {
     text.split(|c: char| " ,;()|".contains(c))
         .filter(|p| p.contains('/') && p.ends_with(".antt"))

@@ -28,9 +28,9 @@ fn s3_wrong_length() {
 #[test]
 fn s4_second_asks() {
     let mut b = Bench::new();
-    assert_eq!(b.wr(0, 0xEFFDFE, 0x81), [0, 0, 0, 1]);
+    assert_eq!(b.wr(0, 0xEF_FDFE, 0x81), [0, 0, 0, 1]);
     assert_eq!(b.ok(&record(b"SE", 0, &[])), [0, 1, 0, 1]);
-    assert_eq!(b.rd(0, 0xEFFBFE), [0x81, 1, 0, 1]);
+    assert_eq!(b.rd(0, 0xEF_FBFE), [0x81, 1, 0, 1]);
 }
 
 fn load_t1(b: &mut Bench, value: u16) {
@@ -130,11 +130,11 @@ fn every_cell_by_its_command() {
 fn refusals() {
     let mut b = Bench::new();
     let read = |address: u32| record(b"RD", 9, &address.to_le_bytes());
-    assert_eq!(b.refused(&read(0xEFE1FF)), 4);
-    assert_eq!(b.refused(&read(0x01EFE1FE)), 4);
-    assert_eq!(b.refused(&read(0xEFE1FE + 512 * 16)), 4);
-    assert_eq!(b.refused(&read(0xEFE1FE - 512)), 4);
-    assert_eq!(b.refused(&read(0xDFE1FF + 512 * 16)), 4);
+    assert_eq!(b.refused(&read(0xEF_E1FF)), 4);
+    assert_eq!(b.refused(&read(0x01EF_E1FE)), 4);
+    assert_eq!(b.refused(&read(0xEF_E1FE + 512 * 16)), 4);
+    assert_eq!(b.refused(&read(0xEF_E1FE - 512)), 4);
+    assert_eq!(b.refused(&read(0xDF_E1FF + 512 * 16)), 4);
     assert_eq!(b.refused(&record(b"IN", 9, &[7, 0])), 5);
     assert_eq!(b.refused(&record(b"IN", 9, &[0, 2])), 5);
     assert_eq!(b.refused(&record(b"SN", 9, &[2, 0, 0])), 5);

@@ -113,6 +113,11 @@ impl<R: Read> Chunks<R> {
         Ok((self.start > 0).then_some(&held[..self.start]))
     }
 
+    /// The source of the bytes.
+    pub fn source_mut(&mut self) -> &mut R {
+        &mut self.source
+    }
+
     /// True once a length below 2 was met: the bytes of later chunks make no records.
     pub fn broken(&self) -> bool {
         self.broken

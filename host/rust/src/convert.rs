@@ -3,7 +3,7 @@
 use crate::{sys, Refusal};
 
 /// How a conversion ended.
-#[derive(Clone, Copy, Debug, PartialEq, Eq)]
+#[derive(Clone, Copy, Debug, PartialEq, Eq, Hash)]
 pub struct Conversion {
     /// None at the end of the capture, [`Refusal::Cut`] where a cut record ended the work (what comes
     /// before it is written), [`Refusal::Room`] where the room was too small (nothing is written).
@@ -15,15 +15,17 @@ pub struct Conversion {
 }
 
 /// Turns an old capture over into lent room. Bytes past those written keep their contents.
+#[allow(clippy::cast_possible_truncation, reason = "numbers are at most the room's length")]
 pub fn convert_in(old: &[u8], room: &mut [u8]) -> Conversion {
-    let (refusal, written, count) = sys::convert(old, room);
-    Conversion { stop: Refusal::from_number(refusal), written, count }
+    let sys::Converted { refusal, written, count } = sys::convert(old, room);
+    let stop = Refusal::from_number(refusal);
+    Conversion { stop, written: written as usize, count: count as usize }
 }
 
 /// Turns an old capture over, with all the room it needs.
 ///
 /// ```
-/// // SN: internal drive, register 1, level 0, after 258 ticks: a disk was put in.
+/// // SN: internal drive, register 1, level 0, after 258 VIA ticks: a disk was put in.
 /// let old = [7, 0, b'S', b'N', 2, 1, 0, 1, 0];
 /// let (new, end) = swarmtempo::convert(&old);
 /// assert_eq!(new[..8], [6, 0, b'I', b'N', 2, 1, 0, 1]);

@@ -1,192 +1,15 @@
-//! Items as types, and lists of them.
+//! Items as types, and as records.
+//!
+//! A new kind is a variant of [`Item`], its letters in [`Item::KINDS`] and [`Item::kind`], its body in
+//! [`Item::write`] and [`Item::read`], its words in [`crate::text`] (written and read), a writer in
+//! `swarmtempo.h`, and a sample of it in tests/api.rs. The compiler asks for all of these but `KINDS`,
+//! `read`, the reading of text and the writer; the test of the sample asks for those.
 
-use crate::{sys, Refusal};
-
-/// VIA ticks in a second.
-pub const TICKS_PER_SECOND: u32 = 783_360;
-
-/// A wait in VIA ticks, 783,360 of which are a second.
-#[derive(Clone, Copy, Debug, Default, PartialEq, Eq, PartialOrd, Ord, Hash)]
-pub struct ViaTicks(pub u16);
-
-/// A time in seconds.
-#[derive(Clone, Copy, Debug, Default, PartialEq, Eq, PartialOrd, Ord, Hash)]
-pub struct Seconds(pub u32);
-
-/// A time in microseconds. Only the library turns it into VIA ticks:
-///
-/// ```
-/// use swarmtempo::{Item, List, Micros, TickCount, ViaTicks};
-///
-/// // 12 ms, a step of a drive: 9,400.32 ticks.
-/// let step = Micros(12_000).ticks();
-/// assert_eq!(step, TickCount(9_401));
-/// assert_eq!(step.wait(), Some(ViaTicks(9_401)));
-/// if let Some(wait) = step.wait() {
-///     List::new().push(wait, Item::Second);
-/// }
-/// // Half a second is longer than one wait.
-/// assert_eq!(Micros(500_000).ticks(), TickCount(391_680));
-/// assert_eq!(Micros(500_000).ticks().wait(), None);
-/// ```
-///
-/// It is no wait itself:
-///
-/// ```compile_fail
-/// use swarmtempo::{Item, List, Micros};
-/// List::new().push(Micros(12_000), Item::Second);
-/// ```
-#[derive(Clone, Copy, Debug, Default, PartialEq, Eq, PartialOrd, Ord, Hash)]
-pub struct Micros(pub u32);
-
-impl Micros {
-    /// In VIA ticks, rounded up (`swarmtempo_ticks_of_micros`).
-    pub fn ticks(self) -> TickCount {
-        TickCount(sys::ticks_of_micros(self.0))
-    }
-}
-
-/// A number of VIA ticks, which may be more than one wait takes.
-#[derive(Clone, Copy, Debug, Default, PartialEq, Eq, PartialOrd, Ord, Hash)]
-pub struct TickCount(pub u32);
-
-impl TickCount {
-    /// As one wait, where it is not too long.
-    pub fn wait(self) -> Option<ViaTicks> {
-        u16::try_from(self.0).ok().map(ViaTicks)
-    }
-}
-
-/// A VIA register, by the data sheet's names.
-#[derive(Clone, Copy, Debug, PartialEq, Eq, Hash)]
-#[allow(missing_docs)]
-pub enum Register {
-    ORB,
-    ORA,
-    DDRB,
-    DDRA,
-    T1CL,
-    T1CH,
-    T1LL,
-    T1LH,
-    T2CL,
-    T2CH,
-    SR,
-    ACR,
-    PCR,
-    IFR,
-    IER,
-    /// Port A again; clears no flag.
-    ORANH,
-}
-
-impl Register {
-    /// Registers 0 to 15.
-    pub const ALL: [Register; 16] = {
-        use Register::*;
-        [ORB, ORA, DDRB, DDRA, T1CL, T1CH, T1LL, T1LH, T2CL, T2CH, SR, ACR, PCR, IFR, IER, ORANH]
-    };
-    const NAMES: [&'static str; 16] = [
-        "ORB", "ORA", "DDRB", "DDRA", "T1CL", "T1CH", "T1LL", "T1LH", "T2CL", "T2CH", "SR", "ACR",
-        "PCR", "IFR", "IER", "ORANH",
-    ];
-
-    /// 0 to 15.
-    pub fn index(self) -> usize {
-        self as usize
-    }
-
-    /// Its name.
-    pub fn name(self) -> &'static str {
-        Self::NAMES[self.index()]
-    }
-}
-
-/// One of the eight disk lines.
-#[derive(Clone, Copy, Debug, PartialEq, Eq, Hash)]
-#[allow(missing_docs)]
-pub enum DiskLine {
-    CA0,
-    CA1,
-    CA2,
-    LSTRB,
-    ENABLE,
-    SELECT,
-    Q6,
-    Q7,
-}
-
-impl DiskLine {
-    /// All, in the order of the disk-line byte.
-    pub const ALL: [DiskLine; 8] = {
-        use DiskLine::*;
-        [CA0, CA1, CA2, LSTRB, ENABLE, SELECT, Q6, Q7]
-    };
-    const NAMES: [&'static str; 8] = ["CA0", "CA1", "CA2", "LSTRB", "ENABLE", "SELECT", "Q6", "Q7"];
-
-    /// Its bit in the disk-line byte.
-    pub fn index(self) -> usize {
-        self as usize
-    }
-
-    /// Its name.
-    pub fn name(self) -> &'static str {
-        Self::NAMES[self.index()]
-    }
-}
-
-/// One of the 32 addresses.
-#[derive(Clone, Copy, Debug, PartialEq, Eq, Hash)]
-pub enum Address {
-    /// A VIA register.
-    Via(Register),
-    /// The IWM location that turns a line off (false) or on (true).
-    Iwm(DiskLine, bool),
-}
-
-impl Address {
-    const VIA: u32 = 0x00EF_E1FE;
-    const IWM: u32 = 0x00DF_E1FF;
-    const STRIDE: u32 = 512;
-
-    /// The address of a number, or none where it is none of the 32.
-    pub fn from_number(number: u32) -> Option<Address> {
-        let index = |base: u32| {
-            let offset = number.checked_sub(base)?;
-            (offset % Self::STRIDE == 0 && offset / Self::STRIDE < 16)
-                .then_some((offset / Self::STRIDE) as usize)
-        };
-        index(Self::VIA)
-            .map(|register| Address::Via(Register::ALL[register]))
-            .or_else(|| index(Self::IWM).map(|k| Address::Iwm(DiskLine::ALL[k / 2], k % 2 == 1)))
-    }
-
-    /// Its number.
-    pub fn number(self) -> u32 {
-        match self {
-            Address::Via(register) => Self::VIA + Self::STRIDE * register.index() as u32,
-            Address::Iwm(line, on) => {
-                Self::IWM + Self::STRIDE * (2 * line.index() as u32 + u32::from(on))
-            }
-        }
-    }
-
-    /// All 32.
-    pub fn all() -> impl Iterator<Item = Address> {
-        let iwm = DiskLine::ALL
-            .into_iter()
-            .flat_map(|line| [Address::Iwm(line, false), Address::Iwm(line, true)]);
-        Register::ALL.into_iter().map(Address::Via).chain(iwm)
-    }
-
-    /// `VIA.ORB`, or `IWM.LSTRB-` and `IWM.LSTRB+` for off and on.
-    pub fn name(self) -> String {
-        match self {
-            Address::Via(register) => format!("VIA.{}", register.name()),
-            Address::Iwm(line, on) => format!("IWM.{}{}", line.name(), if on { '+' } else { '-' }),
-        }
-    }
-}
+use crate::address::named;
+use crate::units::number;
+use crate::{text, Address, ParseError, Refusal, Seconds, ViaTicks};
+use std::fmt;
+use std::str::FromStr;
 
 /// A drive.
 #[derive(Clone, Copy, Debug, PartialEq, Eq, Hash)]
@@ -198,9 +21,8 @@ pub enum Drive {
 }
 
 impl Drive {
-    fn from_byte(byte: u8) -> Option<Drive> {
-        [Drive::Internal, Drive::External].get(usize::from(byte)).copied()
-    }
+    /// Both.
+    pub const ALL: [Drive; 2] = [Drive::Internal, Drive::External];
 
     /// Its name.
     pub fn name(self) -> &'static str {
@@ -211,6 +33,8 @@ impl Drive {
     }
 }
 
+named!(Drive, "a drive, internal or external");
+
 /// An input line that IN sets: 0 mouse switch, 1 X2, 2 Y2, 3 H4, 4 PA7, 5 serial chip asks,
 /// 6 programmer's switch.
 #[derive(Clone, Copy, Debug, PartialEq, Eq, Hash)]
@@ -219,6 +43,8 @@ pub struct InLine(u8);
 impl InLine {
     /// How many there are.
     pub const COUNT: u8 = 7;
+    const NAMES: [&'static str; Self::COUNT as usize] =
+        ["mouse switch", "X2", "Y2", "H4", "PA7", "serial chip asks", "programmer's switch"];
 
     /// The line of a number below [`InLine::COUNT`].
     pub fn new(number: u8) -> Option<InLine> {
@@ -229,6 +55,11 @@ impl InLine {
     pub fn number(self) -> u8 {
         self.0
     }
+
+    /// What stands on it.
+    pub fn name(self) -> &'static str {
+        Self::NAMES[usize::from(self.0)]
+    }
 }
 
 /// A sense register, 0 to 15: 8·CA2 + 4·CA1 + 2·CA0 + SEL.
@@ -236,18 +67,75 @@ impl InLine {
 pub struct SenseRegister(u8);
 
 impl SenseRegister {
-    /// The register of a number below 16.
+    /// How many there are.
+    pub const COUNT: u8 = 16;
+
+    /// The register of a number below [`SenseRegister::COUNT`].
     pub fn new(number: u8) -> Option<SenseRegister> {
-        (number < 16).then_some(SenseRegister(number))
+        (number < Self::COUNT).then_some(SenseRegister(number))
     }
 
     /// Its number.
     pub fn number(self) -> u8 {
         self.0
     }
+
+    /// True for 0 to 5, 12 and 15, which the drive has itself: an SN on them has retired, and a run
+    /// refuses it with [`Refusal::Retired`]. [`crate::convert`] turns captures with such items over.
+    pub fn is_retired(self) -> bool {
+        matches!(self.0, 0..=5 | 12 | 15)
+    }
 }
 
+/// Something known by its number.
+macro_rules! numbered {
+    ($type:ident, $expected:literal) => {
+        impl fmt::Display for $type {
+            fn fmt(&self, f: &mut fmt::Formatter<'_>) -> fmt::Result {
+                fmt::Display::fmt(&self.0, f)
+            }
+        }
+
+        impl FromStr for $type {
+            type Err = ParseError;
+
+            fn from_str(text: &str) -> Result<$type, ParseError> {
+                let number = number(text).and_then(|number| u8::try_from(number).ok());
+                number.and_then($type::new).ok_or_else(|| ParseError::new(text, $expected))
+            }
+        }
+
+        impl TryFrom<u8> for $type {
+            type Error = Refusal;
+
+            /// [`Refusal::Range`] where there is none of this number.
+            fn try_from(number: u8) -> Result<$type, Refusal> {
+                $type::new(number).ok_or(Refusal::Range)
+            }
+        }
+
+        impl From<$type> for u8 {
+            fn from(value: $type) -> u8 {
+                value.0
+            }
+        }
+    };
+}
+
+numbered!(InLine, "an input line, 0 to 6");
+numbered!(SenseRegister, "a sense register, 0 to 15");
+
 /// What an item does once its wait has passed.
+///
+/// Written and read as in the text form ([`crate::text`]), without the wait:
+///
+/// ```
+/// use swarmtempo::{Address, Item, Register};
+///
+/// let item = Item::Write(Address::Via(Register::ORB), 0x41);
+/// assert_eq!(item.to_string(), "WR VIA.ORB $41");
+/// assert_eq!("wr $EFE1FE 65".parse(), Ok(item));
+/// ```
 #[derive(Clone, Copy, Debug, PartialEq, Eq, Hash)]
 pub enum Item {
     /// RD: reads a byte.
@@ -280,6 +168,10 @@ pub enum Item {
 }
 
 impl Item {
+    /// The letters of all kinds.
+    pub const KINDS: [&'static [u8; 2]; 9] =
+        [b"RD", b"WR", b"VB", b"SE", b"IN", b"SN", b"DI", b"RS", b"PW"];
+
     /// The two letters of its kind.
     pub fn kind(&self) -> &'static [u8; 2] {
         match self {
@@ -310,14 +202,16 @@ impl Item {
             Item::Blank | Item::Second | Item::Reset => {}
             Item::In(line, level) => out.extend_from_slice(&[line.0, u8::from(level)]),
             Item::Sense(drive, register, level) => {
-                out.extend_from_slice(&[drive as u8, register.0, u8::from(level)]);
+                out.extend_from_slice(&[drive.into(), register.0, level.into()]);
             }
             Item::Disk { drive, insert, locked, double_sided } => {
-                out.push(drive as u8);
+                out.push(drive.into());
                 out.extend([insert, locked, double_sided].map(u8::from));
             }
             Item::Power(seconds) => out.extend_from_slice(&seconds.0.to_le_bytes()),
         }
+        // No kind has a body that comes near 65,535 bytes.
+        #[allow(clippy::cast_possible_truncation, reason = "see above")]
         let length = (out.len() - start - 2) as u16;
         out[start..start + 2].copy_from_slice(&length.to_le_bytes());
     }
@@ -325,90 +219,136 @@ impl Item {
     /// Reads a record, given without its length.
     ///
     /// # Errors
-    /// The refusal that a run answers whatever the state. [`Refusal::Disk`] is none of those.
+    /// The refusal that a run answers whatever the state. [`Refusal::Disk`] is none of those, nor is
+    /// [`Refusal::Retired`]: items of an old capture can be looked at and shown.
     pub fn read(record: &[u8]) -> Result<(ViaTicks, Item), Refusal> {
         let (kind, rest) = record.split_first_chunk::<2>().ok_or(Refusal::Cut)?;
-        let length = match kind {
-            b"VB" | b"SE" | b"RS" => 4,
-            b"IN" => 6,
-            b"SN" => 7,
-            b"RD" | b"PW" | b"DI" => 8,
-            b"WR" => 9,
-            _ => return Err(Refusal::Kind),
-        };
-        if record.len() != length {
-            return Err(Refusal::Length);
+        if !Self::KINDS.contains(&kind) {
+            return Err(Refusal::Kind);
         }
-        let (wait, rest) = rest.split_first_chunk::<2>().ok_or(Refusal::Length)?;
-        let number = || u32::from_le_bytes([rest[0], rest[1], rest[2], rest[3]]);
-        let address = || Address::from_number(number()).ok_or(Refusal::Address);
-        let item = match kind {
-            b"VB" => Item::Blank,
-            b"SE" => Item::Second,
-            b"RS" => Item::Reset,
-            b"PW" => Item::Power(Seconds(number())),
-            b"RD" => Item::Read(address()?),
-            b"WR" => Item::Write(address()?, rest[4]),
-            b"IN" => read_in(rest).ok_or(Refusal::Range)?,
-            b"DI" => read_disk(rest).ok_or(Refusal::Range)?,
-            _ => read_sense(rest).ok_or(Refusal::Range)?,
+        let (wait, body) = rest.split_first_chunk::<2>().ok_or(Refusal::Length)?;
+        let item = match (kind, body) {
+            (b"RD", &[a, b, c, d]) => Item::Read(address([a, b, c, d])?),
+            (b"WR", &[a, b, c, d, value]) => Item::Write(address([a, b, c, d])?, value),
+            (b"VB", []) => Item::Blank,
+            (b"SE", []) => Item::Second,
+            (b"IN", &[line, to]) => Item::In(line.try_into()?, level(to)?),
+            (b"SN", &[drive, register, to]) => {
+                Item::Sense(drive.try_into()?, register.try_into()?, level(to)?)
+            }
+            (b"DI", &[drive, insert, locked, double_sided]) => Item::Disk {
+                drive: drive.try_into()?,
+                insert: level(insert)?,
+                locked: level(locked)?,
+                double_sided: level(double_sided)?,
+            },
+            (b"RS", []) => Item::Reset,
+            (b"PW", &[a, b, c, d]) => Item::Power(Seconds(u32::from_le_bytes([a, b, c, d]))),
+            _ => return Err(Refusal::Length),
         };
         Ok((ViaTicks(u16::from_le_bytes(*wait)), item))
     }
 }
 
-fn read_in(rest: &[u8]) -> Option<Item> {
-    Some(Item::In(InLine::new(rest[0])?, level(rest[1])?))
+fn address(bytes: [u8; 4]) -> Result<Address, Refusal> {
+    u32::from_le_bytes(bytes).try_into()
 }
 
-fn read_sense(rest: &[u8]) -> Option<Item> {
-    let register = SenseRegister::new(rest[1])?;
-    Some(Item::Sense(Drive::from_byte(rest[0])?, register, level(rest[2])?))
-}
-
-fn read_disk(rest: &[u8]) -> Option<Item> {
-    Some(Item::Disk {
-        drive: Drive::from_byte(rest[0])?,
-        insert: level(rest[1])?,
-        locked: level(rest[2])?,
-        double_sided: level(rest[3])?,
-    })
-}
-
-fn level(byte: u8) -> Option<bool> {
+fn level(byte: u8) -> Result<bool, Refusal> {
     match byte {
-        0 => Some(false),
-        1 => Some(true),
-        _ => None,
+        0 => Ok(false),
+        1 => Ok(true),
+        _ => Err(Refusal::Range),
     }
 }
 
-/// A list of items, as the bytes that a run takes.
-#[derive(Clone, Debug, Default, PartialEq, Eq)]
-pub struct List {
-    bytes: Vec<u8>,
+impl fmt::Display for Item {
+    fn fmt(&self, f: &mut fmt::Formatter<'_>) -> fmt::Result {
+        let words = text::item(ViaTicks(0), self);
+        f.pad(words.strip_prefix("0t ").unwrap_or(&words))
+    }
 }
 
-impl List {
-    /// An empty list.
-    pub fn new() -> List {
-        List::default()
-    }
+impl FromStr for Item {
+    type Err = text::LineError;
 
-    /// Appends an item that comes after a wait.
-    pub fn push(&mut self, wait: ViaTicks, item: Item) -> &mut List {
-        item.write(wait, &mut self.bytes);
-        self
+    fn from_str(text: &str) -> Result<Item, text::LineError> {
+        let before = "0t ";
+        match format!("{before}{text}").parse::<Timed>() {
+            Ok(timed) => Ok(timed.item),
+            Err(error) => Err(text::LineError {
+                column: error.column.saturating_sub(before.len()).max(1),
+                message: error.message,
+            }),
+        }
     }
+}
 
-    /// Appends bytes as they are: a record of any kind, or none.
-    pub fn push_raw(&mut self, bytes: &[u8]) -> &mut List {
-        self.bytes.extend_from_slice(bytes);
-        self
+/// An item and the wait that passes before it acts.
+///
+/// Written and read as a line of the text form ([`crate::text`]):
+///
+/// ```
+/// use swarmtempo::{Item, Timed, ViaTicks};
+///
+/// let second = Timed { wait: ViaTicks(12), item: Item::Second };
+/// assert_eq!(second.to_string(), "12t SE");
+/// assert_eq!("12t SE ; the one-second tick".parse(), Ok(second));
+/// assert_eq!(Timed::try_from(&[4, 0, b'S', b'E', 12, 0][..]), Ok(second));
+/// ```
+#[derive(Clone, Copy, Debug, PartialEq, Eq, Hash)]
+pub struct Timed {
+    /// Passes first.
+    pub wait: ViaTicks,
+    /// What is done then.
+    pub item: Item,
+}
+
+impl Timed {
+    /// The bytes of its record.
+    pub fn to_bytes(&self) -> Vec<u8> {
+        let mut bytes = Vec::new();
+        self.item.write(self.wait, &mut bytes);
+        bytes
     }
+}
 
-    /// The list's bytes.
-    pub fn as_bytes(&self) -> &[u8] {
-        &self.bytes
+impl From<(ViaTicks, Item)> for Timed {
+    fn from((wait, item): (ViaTicks, Item)) -> Timed {
+        Timed { wait, item }
+    }
+}
+
+impl TryFrom<&[u8]> for Timed {
+    type Error = Refusal;
+
+    /// From the bytes of one whole record; the refusal that a run answers whatever the state.
+    fn try_from(record: &[u8]) -> Result<Timed, Refusal> {
+        match record.split_first_chunk::<2>() {
+            Some((length, rest)) if rest.len() == usize::from(u16::from_le_bytes(*length)) => {
+                Item::read(rest).map(Timed::from)
+            }
+            _ => Err(Refusal::Cut),
+        }
+    }
+}
+
+impl fmt::Display for Timed {
+    fn fmt(&self, f: &mut fmt::Formatter<'_>) -> fmt::Result {
+        f.pad(&text::item(self.wait, &self.item))
+    }
+}
+
+impl FromStr for Timed {
+    type Err = text::LineError;
+
+    fn from_str(text: &str) -> Result<Timed, text::LineError> {
+        let mut bytes = Vec::new();
+        text::assemble_line(text, &mut bytes)?;
+        if bytes.is_empty() {
+            return Err(text::LineError { column: 1, message: "an item is missing".into() });
+        }
+        Timed::try_from(&bytes[..])
+            .map_err(|refusal| text::LineError { column: 1, message: refusal.to_string() })
     }
 }

@@ -3,11 +3,13 @@
 use crate::{sys, Refusal, TickCount};
 use std::fmt;
 
+/// Bytes of a keyboard's image.
+pub const KEYBOARD_LEN: usize = 18;
 /// VIA ticks that an Inquiry waits for a key: a quarter of a second.
 pub const INQUIRY_TICKS: TickCount = TickCount(195_840);
 
 /// Eight key codes are held already: refusal 11. Nothing is changed.
-#[derive(Clone, Copy, Debug, PartialEq, Eq)]
+#[derive(Clone, Copy, Debug, PartialEq, Eq, Hash)]
 pub struct KeyboardFull;
 
 impl KeyboardFull {
@@ -37,13 +39,13 @@ impl std::error::Error for KeyboardFull {}
 /// assert_eq!(keyboard.command(0x10), None);
 /// assert_eq!(keyboard.wait(INQUIRY_TICKS), Some(0x7B));
 /// ```
-#[derive(Clone, Debug, PartialEq, Eq)]
+#[derive(Clone, Debug, PartialEq, Eq, Hash)]
 pub struct Keyboard {
     image: Vec<u8>,
 }
 
 /// What a keyboard holds.
-#[derive(Clone, Debug, PartialEq, Eq)]
+#[derive(Clone, Debug, PartialEq, Eq, Hash)]
 pub struct KeyboardState {
     /// The byte that Model answers.
     pub model: u8,
@@ -55,6 +57,9 @@ pub struct KeyboardState {
 
 impl Keyboard {
     /// A keyboard with no code held, whose Model answers this byte.
+    ///
+    /// # Panics
+    /// As [`Keyboard::image_len`].
     pub fn new(model: u8) -> Keyboard {
         let mut image = vec![0; Keyboard::image_len()];
         let refusal = sys::keyboard_fresh(&mut image, model);
@@ -63,8 +68,13 @@ impl Keyboard {
     }
 
     /// Bytes of an image.
+    ///
+    /// # Panics
+    /// Where the archive is of another version than this crate, and has another image.
     pub fn image_len() -> usize {
-        sys::keyboard_len()
+        let same = usize::try_from(sys::keyboard_len()) == Ok(KEYBOARD_LEN);
+        assert!(same, "libswarmtempo.a is of another version than the crate swarmtempo");
+        KEYBOARD_LEN
     }
 
     /// The keyboard of a saved image.
@@ -73,8 +83,8 @@ impl Keyboard {
     /// [`Refusal::State`] where no accepted keyboard has this image.
     pub fn from_image(image: &[u8]) -> Result<Keyboard, Refusal> {
         let mut keyboard = Keyboard { image: image.to_vec() };
-        match sys::keyboard_wait(&mut keyboard.image, 0) {
-            (0, _) => Ok(keyboard),
+        match sys::keyboard_wait(&mut keyboard.image, 0).refusal {
+            0 => Ok(keyboard),
             _ => Err(Refusal::State),
         }
     }
@@ -98,9 +108,7 @@ impl Keyboard {
     /// A command byte: $10 Inquiry, $14 Instant, $16 Model, $36 Test; another gets no answer. Any ends
     /// a waiting Inquiry.
     pub fn command(&mut self, byte: u8) -> Option<u8> {
-        let (refusal, answer) = sys::keyboard_command(&mut self.image, byte);
-        assert_eq!(refusal, 0, "the image is of an accepted state");
-        answer
+        answer(sys::keyboard_command(&mut self.image, byte))
     }
 
     /// A key code: it answers a waiting Inquiry, or is kept.
@@ -109,17 +117,28 @@ impl Keyboard {
     /// [`KeyboardFull`] where eight are held already.
     pub fn key(&mut self, code: u8) -> Result<Option<u8>, KeyboardFull> {
         match sys::keyboard_key(&mut self.image, code) {
-            (0, answer) => Ok(answer),
-            (KeyboardFull::NUMBER, _) => Err(KeyboardFull),
-            (refusal, _) => panic!("refusal {refusal} of an accepted state"),
+            sys::Said { refusal: KeyboardFull::NUMBER, .. } => Err(KeyboardFull),
+            said => Ok(answer(said)),
         }
     }
 
     /// So many VIA ticks pass. The answer is the Null of an Inquiry that waited long enough. A wait
     /// may be cut anywhere.
     pub fn wait(&mut self, ticks: TickCount) -> Option<u8> {
-        let (refusal, answer) = sys::keyboard_wait(&mut self.image, ticks.0);
-        assert_eq!(refusal, 0, "the image is of an accepted state");
-        answer
+        answer(sys::keyboard_wait(&mut self.image, ticks.0))
+    }
+}
+
+/// The answer byte, of an image that is accepted.
+fn answer(said: sys::Said) -> Option<u8> {
+    debug_assert_eq!(said.refusal, 0, "the image is of an accepted state");
+    (said.answered != 0).then_some(said.answer)
+}
+
+impl TryFrom<&[u8]> for Keyboard {
+    type Error = Refusal;
+
+    fn try_from(image: &[u8]) -> Result<Keyboard, Refusal> {
+        Keyboard::from_image(image)
     }
 }

@@ -1,10 +1,10 @@
 //! Swarmtempo: the VIA, the clock chip and the disk lines of a Macintosh Plus, behind safe types.
 //!
 //! A [`Machine`] owns a state. A [`List`] is built of items, each with a wait in [`ViaTicks`]; a run
-//! carries them out and appends an answer of eight bytes for each, which [`answers`] reads.
+//! carries them out or refuses them, and answers each.
 //!
 //! ```
-//! use swarmtempo::{answers, Address, Answer, Item, List, Machine, Register, ViaTicks};
+//! use swarmtempo::{Address, Item, List, Machine, Register, ViaTicks};
 //!
 //! let mut list = List::new();
 //! list.push(ViaTicks(0), Item::Write(Address::Via(Register::IER), 0x81));
@@ -12,12 +12,24 @@
 //! list.push(ViaTicks(0), Item::Read(Address::Via(Register::IFR)));
 //!
 //! let mut machine = Machine::fresh();
-//! let mut bytes = Vec::new();
-//! let run = machine.run(list.as_bytes(), &mut bytes);
-//! assert!(run.at_end());
-//! let Some(Answer::Ok(seen)) = answers(&bytes).last() else { panic!("refused") };
+//! let transcript = machine.run_items(&list);
+//! assert!(transcript.run().at_end());
+//! let last = transcript.iter().last().expect("three answers");
+//! let seen = last.answer.result()?;
 //! assert_eq!((seen.value, seen.level), (0x81, 1));
+//! # Ok::<(), swarmtempo::Refusal>(())
 //! ```
+//!
+//! - Items and lists: [`Item`], [`Timed`], [`List`], [`items`]; as text: [`text`]; long ones in fixed
+//!   memory: [`Chunks`].
+//! - Runs: [`Machine::step`] for one item, [`Machine::run_items`] for items with their answers,
+//!   [`Machine::run`] and [`Machine::run_in`] for answers as bytes, which [`answers`] reads.
+//! - States: [`Machine::image`] to save and [`Machine::from_image`] to restore; [`State`] to look at.
+//! - For people: [`table`], [`vcd`], [`describe`], and `Display` of nearly everything.
+//! - Captures from before SN retired on the drives' own registers: [`convert`].
+//! - A keyboard, by itself: [`Keyboard`].
+//! - Settings of a bench: [`Sheets`], [`compact`], and as text [`sheet_text`].
+//! - The C functions as they are: [`sys`].
 //!
 //! Ticks and seconds are types of their own, so that one is not passed as the other:
 //!
@@ -26,30 +38,47 @@
 //! List::new().push(Seconds(5), Item::Second);
 //! ```
 
+#![warn(clippy::cast_possible_truncation, clippy::cast_sign_loss)]
+
+mod address;
 mod answer;
 mod chunks;
 mod command;
 mod convert;
+pub mod describe;
+mod error;
 mod item;
 mod keyboard;
+mod list;
 mod machine;
 pub mod sheet_text;
 mod sheets;
 mod state;
-mod sys;
+pub mod sys;
+pub mod table;
+#[allow(
+    clippy::cast_possible_truncation,
+    clippy::missing_panics_doc,
+    reason = "a number is cut, and a value expected, once its range is checked"
+)]
 pub mod text;
+mod units;
+pub mod vcd;
 
-pub use answer::{answers, Answer, Lines, Refusal, Seen, ANSWER_LEN};
+pub use address::{Address, DiskLine, Register};
+pub use answer::{
+    answers, Answer, Answers, Lines, NoAnswer, Refusal, Seen, UnknownRefusal, ANSWER_LEN,
+};
 pub use chunks::{pieces, Chunks, Piece, Pieces, CHUNK_LEN};
 pub use command::{Command, Target};
 pub use convert::{convert, convert_in, Conversion};
-pub use item::{
-    Address, DiskLine, Drive, InLine, Item, List, Micros, Register, Seconds, SenseRegister,
-    TickCount, ViaTicks, TICKS_PER_SECOND,
-};
-pub use keyboard::{Keyboard, KeyboardFull, KeyboardState, INQUIRY_TICKS};
-pub use machine::{Machine, Run};
+pub use error::ParseError;
+pub use item::{Drive, InLine, Item, SenseRegister, Timed};
+pub use keyboard::{Keyboard, KeyboardFull, KeyboardState, INQUIRY_TICKS, KEYBOARD_LEN};
+pub use list::{items, Items, List};
+pub use machine::{Exchange, Exchanges, Machine, Run, Transcript};
 pub use sheets::{
     compact, compact_into, settings, Setting, Sheet, SheetRefusal, Sheets, SETTING_MAX,
 };
-pub use state::{DriveState, Phase, State, Strobe, Timer1, Timer2, Wires};
+pub use state::{DriveState, Phase, State, Strobe, Timer1, Timer2, Wires, CELLS, IMAGE_LEN};
+pub use units::{Micros, Seconds, TickCount, TooLong, ViaTicks, TICKS_PER_SECOND};

@@ -1,9 +1,15 @@
 //! The machine.
 
-use crate::{chunks, sys, Refusal, State, ANSWER_LEN};
+use crate::table::{Table, HEAD};
+use crate::{
+    chunks, pieces, sys, Answer, Item, Piece, Pieces, Refusal, Seen, State, Timed, ViaTicks,
+    ANSWER_LEN, IMAGE_LEN,
+};
+use std::fmt;
+use std::iter::FusedIterator;
 
 /// How a run ended.
-#[derive(Clone, Copy, Debug, PartialEq, Eq)]
+#[derive(Clone, Copy, Debug, PartialEq, Eq, Hash)]
 pub struct Run {
     /// None at the end of the list, else [`Refusal::Cut`], [`Refusal::Room`] or [`Refusal::State`].
     pub stop: Option<Refusal>,
@@ -25,14 +31,29 @@ impl Run {
     }
 }
 
+impl fmt::Display for Run {
+    fn fmt(&self, f: &mut fmt::Formatter<'_>) -> fmt::Result {
+        write!(f, "stop {} (", self.stop_number())?;
+        match self.stop {
+            None => f.write_str("end of the list")?,
+            Some(refusal) => write!(f, "{refusal}")?,
+        }
+        let answers = self.written / ANSWER_LEN;
+        write!(f, "): {answers} answers, {} bytes consumed", self.consumed)
+    }
+}
+
 /// A machine: it owns the image of an accepted state.
-#[derive(Clone, Debug, PartialEq, Eq)]
+#[derive(Clone, Debug, PartialEq, Eq, Hash)]
 pub struct Machine {
     image: Vec<u8>,
 }
 
 impl Machine {
     /// A fresh machine.
+    ///
+    /// # Panics
+    /// As [`Machine::image_len`].
     pub fn fresh() -> Machine {
         let mut image = vec![0; Machine::image_len()];
         let refusal = sys::fresh(&mut image);
@@ -41,8 +62,13 @@ impl Machine {
     }
 
     /// Bytes of an image.
+    ///
+    /// # Panics
+    /// Where the archive is of another version than this crate, and has another image.
     pub fn image_len() -> usize {
-        sys::image_len()
+        let same = usize::try_from(sys::image_len()) == Ok(IMAGE_LEN);
+        assert!(same, "libswarmtempo.a is of another version than the crate swarmtempo");
+        IMAGE_LEN
     }
 
     /// The machine of a saved image.
@@ -50,6 +76,9 @@ impl Machine {
     /// # Errors
     /// [`Refusal::State`] where no accepted state has this image.
     pub fn from_image(image: &[u8]) -> Result<Machine, Refusal> {
+        if image.len() != Machine::image_len() {
+            return Err(Refusal::State);
+        }
         let mut machine = Machine { image: image.to_vec() };
         match machine.run_in(&[], &mut []).stop {
             None => Ok(machine),
@@ -67,8 +96,31 @@ impl Machine {
         State::of_accepted(&self.image)
     }
 
+    /// Does one item, after a wait.
+    ///
+    /// ```
+    /// use swarmtempo::{Address, Item, Machine, Register, ViaTicks};
+    ///
+    /// let mut machine = Machine::fresh();
+    /// let seen = machine.step(ViaTicks(0), Item::Read(Address::Via(Register::ORB)))?;
+    /// assert_eq!(seen.value, 0xFF);
+    /// # Ok::<(), swarmtempo::Refusal>(())
+    /// ```
+    ///
+    /// # Errors
+    /// The refusal; then the state is as before.
+    ///
+    /// # Panics
+    /// Where the archive is of another version than this crate, and answers what this does not know.
+    pub fn step(&mut self, wait: ViaTicks, item: Item) -> Result<Seen, Refusal> {
+        let mut answer = [0; ANSWER_LEN];
+        self.run_in(&Timed { wait, item }.to_bytes(), &mut answer);
+        Answer::read(&answer).expect("an item is answered").result()
+    }
+
     /// Runs a list with room for every answer, which is appended to `answers`.
-    pub fn run(&mut self, list: &[u8], answers: &mut Vec<u8>) -> Run {
+    pub fn run(&mut self, list: impl AsRef<[u8]>, answers: &mut Vec<u8>) -> Run {
+        let list = list.as_ref();
         let start = answers.len();
         answers.resize(start + ANSWER_LEN * chunks::pieces(list).count(), 0);
         let run = self.run_in(list, &mut answers[start..]);
@@ -77,9 +129,35 @@ impl Machine {
     }
 
     /// Runs a list with a given room for answers. Bytes past those written keep their contents.
+    #[allow(clippy::cast_possible_truncation, reason = "counts are at most the slices' lengths")]
     pub fn run_in(&mut self, list: &[u8], room: &mut [u8]) -> Run {
-        let (stop, consumed, written) = sys::run(&mut self.image, list, room);
-        Run { stop: Refusal::from_number(stop), consumed, written }
+        let sys::Report { stop, consumed, written } = sys::run(&mut self.image, list, room);
+        let stop = Refusal::from_number(stop);
+        Run { stop, consumed: consumed as usize, written: written as usize }
+    }
+
+    /// Runs a list, and gives its items with their answers.
+    ///
+    /// ```
+    /// use swarmtempo::{List, Machine, Refusal};
+    ///
+    /// let list: List = "0t WR VIA.IER $81\n0t SE\nRAW 05 00 53 45 00 00 00".parse()?;
+    /// let transcript = Machine::fresh().run_items(&list);
+    /// assert!(transcript.run().at_end());
+    /// for done in &transcript {
+    ///     match done.item {
+    ///         Ok(timed) => println!("{timed}: {}", done.answer),
+    ///         Err(refusal) => assert_eq!(refusal, Refusal::Length),
+    ///     }
+    /// }
+    /// print!("{transcript}"); // the same as a table
+    /// # Ok::<(), swarmtempo::text::TextError>(())
+    /// ```
+    pub fn run_items<'a>(&mut self, list: &'a (impl AsRef<[u8]> + ?Sized)) -> Transcript<'a> {
+        let list = list.as_ref();
+        let mut answers = Vec::new();
+        let run = self.run(list, &mut answers);
+        Transcript { run, list, answers }
     }
 }
 
@@ -88,3 +166,98 @@ impl Default for Machine {
         Machine::fresh()
     }
 }
+
+/// The image.
+impl AsRef<[u8]> for Machine {
+    fn as_ref(&self) -> &[u8] {
+        &self.image
+    }
+}
+
+impl TryFrom<&[u8]> for Machine {
+    type Error = Refusal;
+
+    /// As [`Machine::from_image`].
+    fn try_from(image: &[u8]) -> Result<Machine, Refusal> {
+        Machine::from_image(image)
+    }
+}
+
+/// A list that was run, with its answers. Written as the table of [`crate::table`].
+#[derive(Clone, Debug, PartialEq, Eq)]
+pub struct Transcript<'a> {
+    run: Run,
+    list: &'a [u8],
+    answers: Vec<u8>,
+}
+
+impl<'a> Transcript<'a> {
+    /// How the run ended.
+    pub fn run(&self) -> Run {
+        self.run
+    }
+
+    /// The answers as bytes.
+    pub fn answers(&self) -> &[u8] {
+        &self.answers
+    }
+
+    /// The records answered, in order.
+    pub fn iter(&self) -> Exchanges<'a, '_> {
+        Exchanges { pieces: pieces(self.list), answers: self.answers.as_chunks().0.iter() }
+    }
+}
+
+impl<'a, 'b> IntoIterator for &'b Transcript<'a> {
+    type Item = Exchange<'a>;
+    type IntoIter = Exchanges<'a, 'b>;
+
+    fn into_iter(self) -> Exchanges<'a, 'b> {
+        self.iter()
+    }
+}
+
+impl fmt::Display for Transcript<'_> {
+    fn fmt(&self, f: &mut fmt::Formatter<'_>) -> fmt::Result {
+        f.write_str(HEAD)?;
+        let mut table = Table::default();
+        let mut row = String::new();
+        for (piece, answer) in pieces(self.list).zip(self.answers.as_chunks().0) {
+            row.clear();
+            table.row(piece, answer, &mut row);
+            f.write_str(&row)?;
+        }
+        Ok(())
+    }
+}
+
+/// A record of a list, with its answer.
+#[derive(Clone, Copy, Debug, PartialEq, Eq)]
+pub struct Exchange<'a> {
+    /// The record's bytes.
+    pub record: &'a [u8],
+    /// The item, or why the bytes are none.
+    pub item: Result<Timed, Refusal>,
+    /// Its answer.
+    pub answer: Answer,
+}
+
+/// The iterator of [`Transcript::iter`].
+#[derive(Clone, Debug)]
+pub struct Exchanges<'a, 'b> {
+    pieces: Pieces<'a>,
+    answers: std::slice::Iter<'b, [u8; ANSWER_LEN]>,
+}
+
+impl<'a> Iterator for Exchanges<'a, '_> {
+    type Item = Exchange<'a>;
+
+    fn next(&mut self) -> Option<Exchange<'a>> {
+        let answer = Answer::read(self.answers.next()?)?;
+        let piece = self.pieces.next()?;
+        let (Piece::Record(record) | Piece::Rest(record)) = piece;
+        Some(Exchange { record, item: piece.try_into(), answer })
+    }
+}
+
+impl FusedIterator for Exchanges<'_, '_> {}

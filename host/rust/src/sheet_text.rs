@@ -10,7 +10,8 @@
 //! Setting (0 to 65,535) and version (0 to 255) are decimal, or hexadecimal after `$`.
 
 use crate::sheets::{settings, Setting, SheetRefusal, SETTING_MAX};
-use crate::text::TextError;
+use crate::text::{lines, LineError, TextError};
+use std::fmt::Display;
 
 /// The sheet of a text.
 ///
@@ -18,28 +19,32 @@ use crate::text::TextError;
 /// The first line that is not in the form.
 pub fn assemble(text: &str) -> Result<Vec<u8>, TextError> {
     let mut sheet = Vec::new();
-    for (i, line) in text.lines().enumerate() {
-        let wrong = |(column, message)| TextError { line: i + 1, column, message };
-        assemble_line(line, &mut sheet).map_err(wrong)?;
+    for (i, line) in lines(text).enumerate() {
+        assemble_line(line, &mut sheet).map_err(|error| error.at_line(i + 1))?;
     }
     Ok(sheet)
 }
 
-/// The column where something is wrong, counted from 1, and what.
-type Wrong = (usize, String);
-
-fn assemble_line(line: &str, sheet: &mut Vec<u8>) -> Result<(), Wrong> {
+/// Appends the record of a line, where it has one.
+///
+/// # Errors
+/// What is wrong in the line; then nothing is appended.
+pub fn assemble_line(line: &str, sheet: &mut Vec<u8>) -> Result<(), LineError> {
     let chars: Vec<char> = line.chars().collect();
     let mut at = 0;
-    let Some(setting) = number(&chars, &mut at, "a setting", 65_535)? else {
+    let Some(setting) = number(&chars, &mut at, "a setting", u16::MAX)? else {
         return Ok(());
     };
-    let Some(version) = number(&chars, &mut at, "a version", 255)? else {
-        return Err((at + 1, "a version is missing".into()));
+    let Some(version) = number(&chars, &mut at, "a version", u8::MAX)? else {
+        return Err(wrong(at + 1, "a version is missing"));
     };
     let bytes = bytes(&chars, &mut at)?;
-    Setting { setting: setting as u16, version: version as u8, bytes: &bytes }.write(sheet);
+    Setting { setting, version, bytes: &bytes }.write(sheet);
     Ok(())
+}
+
+fn wrong(column: usize, message: impl Into<String>) -> LineError {
+    LineError { column, message: message.into() }
 }
 
 /// Past the spaces; true at the line's end or its comment.
@@ -59,7 +64,12 @@ fn word(chars: &[char], at: &mut usize) -> String {
     chars[from..*at].iter().collect()
 }
 
-fn number(chars: &[char], at: &mut usize, what: &str, most: u32) -> Result<Option<u32>, Wrong> {
+fn number<N: TryFrom<u32> + Display>(
+    chars: &[char],
+    at: &mut usize,
+    what: &str,
+    most: N,
+) -> Result<Option<N>, LineError> {
     if ended(chars, at) {
         return Ok(None);
     }
@@ -69,14 +79,15 @@ fn number(chars: &[char], at: &mut usize, what: &str, most: u32) -> Result<Optio
         Some(digits) => (digits, 16),
         None => (text.as_str(), 10),
     };
-    let sound = !digits.is_empty() && digits.chars().all(|c| c.is_digit(radix));
-    match u32::from_str_radix(digits, radix) {
-        Ok(number) if sound && number <= most => Ok(Some(number)),
-        _ => Err((column, format!("{what} is a number from 0 to {most}, not `{text}`"))),
+    let sound = digits.chars().all(|c| c.is_digit(radix));
+    let number = u32::from_str_radix(digits, radix).ok().and_then(|number| number.try_into().ok());
+    match number {
+        Some(number) if sound => Ok(Some(number)),
+        _ => Err(wrong(column, format!("{what} is a number from 0 to {most}, not `{text}`"))),
     }
 }
 
-fn bytes(chars: &[char], at: &mut usize) -> Result<Vec<u8>, Wrong> {
+fn bytes(chars: &[char], at: &mut usize) -> Result<Vec<u8>, LineError> {
     let mut bytes = Vec::new();
     while !ended(chars, at) {
         let column = *at + 1;
@@ -87,26 +98,29 @@ fn bytes(chars: &[char], at: &mut usize) -> Result<Vec<u8>, Wrong> {
             match u8::from_str_radix(&text, 16) {
                 Ok(byte) if text.len() == 2 && !text.starts_with('+') => bytes.push(byte),
                 _ => {
-                    return Err((column, format!("a byte is two hexadecimal digits, not `{text}`")))
+                    let message = format!("a byte is two hexadecimal digits, not `{text}`");
+                    return Err(wrong(column, message));
                 }
             }
         }
         if bytes.len() > SETTING_MAX {
-            return Err((column, format!("a setting has {SETTING_MAX} bytes at most")));
+            return Err(wrong(column, format!("a setting has {SETTING_MAX} bytes at most")));
         }
     }
     Ok(bytes)
 }
 
 /// ASCII text up to the next quote.
-fn quoted(chars: &[char], at: &mut usize, bytes: &mut Vec<u8>) -> Result<(), Wrong> {
+fn quoted(chars: &[char], at: &mut usize, bytes: &mut Vec<u8>) -> Result<(), LineError> {
     *at += 1;
     loop {
         match chars.get(*at) {
-            None => return Err((*at + 1, "a quote is missing".into())),
+            None => return Err(wrong(*at + 1, "a quote is missing")),
             Some('"') => break,
-            Some(&c) if shows(c as u32) => bytes.push(c as u8),
-            Some(c) => return Err((*at + 1, format!("`{c}` is not ASCII: write its bytes"))),
+            Some(&c) => match u8::try_from(c) {
+                Ok(byte) if shows(byte) => bytes.push(byte),
+                _ => return Err(wrong(*at + 1, format!("{c:?} is not ASCII: write its bytes"))),
+            },
         }
         *at += 1;
     }
@@ -115,8 +129,8 @@ fn quoted(chars: &[char], at: &mut usize, bytes: &mut Vec<u8>) -> Result<(), Wro
 }
 
 /// Whether a byte stands in quotes: ASCII that shows, and no quote.
-fn shows(byte: u32) -> bool {
-    (0x20..0x7F).contains(&byte) && byte != u32::from(b'"')
+fn shows(byte: u8) -> bool {
+    (b' '..=b'~').contains(&byte) && byte != b'"'
 }
 
 /// A record's line, without its end.
@@ -127,7 +141,7 @@ pub fn line(record: &Setting<'_>) -> String {
 
 /// Bytes in the text form.
 pub fn shown(bytes: &[u8]) -> String {
-    if !bytes.is_empty() && bytes.iter().all(|&byte| shows(byte.into())) {
+    if !bytes.is_empty() && bytes.iter().all(|&byte| shows(byte)) {
         return format!("\"{}\"", String::from_utf8_lossy(bytes));
     }
     bytes.iter().map(|byte| format!("{byte:02X}")).collect::<Vec<_>>().join(" ")

@@ -86,7 +86,7 @@ impl<'a> Sheets<'a> {
     /// # Errors
     /// [`SheetRefusal::Broken`] where either is broken.
     pub fn new(bench: &'a [u8], house: &'a [u8]) -> Result<Sheets<'a>, SheetRefusal> {
-        match sys::sheet_get(bench, house, 0).0 {
+        match sys::sheet_get(bench, house, 0).refusal {
             0 => Ok(Sheets { bench, house }),
             _ => Err(SheetRefusal::Broken),
         }
@@ -94,12 +94,14 @@ impl<'a> Sheets<'a> {
 
     /// A setting's bytes, uncopied, and the sheet that they are a part of; none where it is not set.
     pub fn get(&self, setting: u16) -> Option<(&'a [u8], Sheet)> {
-        let (_, sheet, start, size) = sys::sheet_get(self.bench, self.house, setting);
-        match sheet {
-            1 => Some((&self.bench[start..start + size], Sheet::Bench)),
-            2 => Some((&self.house[start..start + size], Sheet::House)),
-            _ => None,
-        }
+        let found = sys::sheet_get(self.bench, self.house, setting);
+        let (whole, sheet) = match found.sheet {
+            1 => (self.bench, Sheet::Bench),
+            2 => (self.house, Sheet::House),
+            _ => return None,
+        };
+        let (start, size) = (usize::try_from(found.start).ok()?, usize::try_from(found.size).ok()?);
+        Some((whole.get(start..)?.get(..size)?, sheet))
     }
 }
 
@@ -110,7 +112,8 @@ impl<'a> Sheets<'a> {
 /// [`SheetRefusal::Broken`], then [`SheetRefusal::Room`]; nothing is written then.
 pub fn compact_into(sheet: &[u8], out: &mut [u8]) -> Result<usize, SheetRefusal> {
     match sys::sheet_compact(sheet, out) {
-        (0, written) => Ok(written),
+        // Not above the room, so a usize has it.
+        (0, written) => usize::try_from(written).map_err(|_| SheetRefusal::Room),
         (1, _) => Err(SheetRefusal::Broken),
         _ => Err(SheetRefusal::Room),
     }
@@ -145,7 +148,8 @@ impl Setting<'_> {
     /// Where there are more than [`SETTING_MAX`] bytes.
     pub fn write(&self, out: &mut Vec<u8>) {
         assert!(self.bytes.len() <= SETTING_MAX, "a setting has 64 bytes at most");
-        out.push((HEAD - 2 + self.bytes.len()) as u8);
+        let length = u8::try_from(HEAD - 2 + self.bytes.len()).expect("69 at most");
+        out.push(length);
         out.extend_from_slice(b"\0SV");
         out.extend_from_slice(&self.setting.to_le_bytes());
         out.push(self.version);

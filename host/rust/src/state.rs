@@ -1,25 +1,31 @@
-//! An image taken apart, for showing it. The layout is that of kind ST.
+//! An image taken apart, for showing it. The layout is that of kind ST. Its words are in [`crate::describe`].
 
-use crate::{Lines, Seconds};
+use crate::{DiskLine, InLine, Lines, Seconds, SenseRegister, TickCount, ViaTicks};
 
-/// Timer 1. Counter and latch in VIA ticks.
+/// Bytes of an image of kind ST.
+pub const IMAGE_LEN: usize = 123;
+
+/// Cells of the clock chip.
+pub const CELLS: usize = 20;
+
+/// Timer 1.
 #[derive(Clone, Copy, Debug, PartialEq, Eq)]
 pub struct Timer1 {
     /// The counter.
-    pub counter: u16,
+    pub counter: ViaTicks,
     /// The latches.
-    pub latch: u16,
+    pub latch: ViaTicks,
     /// Its next passage sets flag 6.
     pub armed: bool,
     /// The next tick loads the latches.
     pub due: bool,
 }
 
-/// Timer 2. Counter in VIA ticks.
+/// Timer 2.
 #[derive(Clone, Copy, Debug, PartialEq, Eq)]
 pub struct Timer2 {
     /// The counter.
-    pub counter: u16,
+    pub counter: ViaTicks,
     /// The low latch.
     pub low: u8,
     /// Its next passage sets flag 5.
@@ -60,6 +66,7 @@ pub enum Phase {
 
 /// A drive.
 #[derive(Clone, Copy, Debug, PartialEq, Eq)]
+#[allow(clippy::struct_excessive_bools, reason = "they are the drive's lines")]
 pub struct DriveState {
     /// 0 to 79.
     pub track: u8,
@@ -73,8 +80,8 @@ pub struct DriveState {
     pub double_sided: bool,
     /// The motor runs.
     pub motor: bool,
-    /// VIA ticks left of a step, 0 where none is under way.
-    pub step_left: u16,
+    /// What is left of a step, 0 where none is under way.
+    pub step_left: ViaTicks,
     /// The direction of that step.
     pub step_direction: bool,
 }
@@ -82,8 +89,8 @@ pub struct DriveState {
 /// A strobe of LSTRB.
 #[derive(Clone, Copy, Debug, PartialEq, Eq)]
 pub struct Strobe {
-    /// VIA ticks since LSTRB rose, 391,680 at most; 0 unless steady.
-    pub ticks: u32,
+    /// Since LSTRB rose, 391,680 at most; 0 unless steady.
+    pub ticks: TickCount,
     /// ENABLE was on and the other lines held still since LSTRB rose.
     pub steady: bool,
 }
@@ -133,13 +140,13 @@ pub struct State {
     /// The chip's count, from 1 January 1904.
     pub seconds: Seconds,
     /// Parameter memory.
-    pub cells: Vec<u8>,
+    pub cells: [u8; CELLS],
     /// The disk lines.
     pub lines: Lines,
     /// The levels of the IN lines.
-    pub inputs: Vec<bool>,
+    pub inputs: [bool; InLine::COUNT as usize],
     /// The levels of the sense registers, internal drive first.
-    pub sense: [[bool; 16]; 2],
+    pub sense: [[bool; SenseRegister::COUNT as usize]; 2],
     /// The drives, internal first.
     pub drives: [DriveState; 2],
     /// The strobe under way.
@@ -151,7 +158,7 @@ struct Fields<'a>(&'a [u8]);
 
 impl Fields<'_> {
     fn bytes<const N: usize>(&mut self) -> [u8; N] {
-        let (taken, rest) = self.0.split_first_chunk::<N>().expect("an accepted image is whole");
+        let (taken, rest) = self.0.split_first_chunk().expect("an accepted image is whole");
         self.0 = rest;
         *taken
     }
@@ -160,8 +167,12 @@ impl Fields<'_> {
         self.bytes::<1>()[0]
     }
 
-    fn word(&mut self) -> u16 {
-        u16::from_le_bytes(self.bytes())
+    fn ticks(&mut self) -> ViaTicks {
+        ViaTicks(u16::from_le_bytes(self.bytes()))
+    }
+
+    fn long(&mut self) -> u32 {
+        u32::from_le_bytes(self.bytes())
     }
 
     fn flag(&mut self) -> bool {
@@ -172,6 +183,11 @@ impl Fields<'_> {
         self.bytes::<N>().map(|byte| byte != 0)
     }
 
+    fn lines(&mut self) -> Lines {
+        let on = self.flags::<8>();
+        DiskLine::ALL.into_iter().filter(|line| on[line.index()]).collect()
+    }
+
     fn drive(&mut self) -> DriveState {
         DriveState {
             track: self.byte(),
@@ -180,7 +196,7 @@ impl Fields<'_> {
             locked: self.flag(),
             double_sided: self.flag(),
             motor: self.flag(),
-            step_left: self.word(),
+            step_left: self.ticks(),
             step_direction: self.flag(),
         }
     }
@@ -207,8 +223,8 @@ impl State {
             out_a: f.byte(),
             dir_b: f.byte(),
             dir_a: f.byte(),
-            t1: Timer1 { counter: f.word(), latch: f.word(), armed: f.flag(), due: f.flag() },
-            t2: Timer2 { counter: f.word(), low: f.byte(), armed: f.flag() },
+            t1: Timer1 { counter: f.ticks(), latch: f.ticks(), armed: f.flag(), due: f.flag() },
+            t2: Timer2 { counter: f.ticks(), low: f.byte(), armed: f.flag() },
             sr: f.byte(),
             acr: f.byte(),
             pcr: f.byte(),
@@ -217,18 +233,13 @@ impl State {
             phase: f.phase(),
             protect: f.flag(),
             test: f.byte(),
-            seconds: Seconds(u32::from_le_bytes(f.bytes())),
-            cells: f.bytes::<20>().to_vec(),
-            lines: Lines(
-                f.flags::<8>()
-                    .iter()
-                    .enumerate()
-                    .fold(0, |byte, (i, &on)| byte | u8::from(on) << i),
-            ),
-            inputs: f.flags::<7>().to_vec(),
+            seconds: Seconds(f.long()),
+            cells: f.bytes(),
+            lines: f.lines(),
+            inputs: f.flags(),
             sense: [f.flags(), f.flags()],
             drives: [f.drive(), f.drive()],
-            strobe: Strobe { ticks: u32::from_le_bytes(f.bytes()), steady: f.flag() },
+            strobe: Strobe { ticks: TickCount(f.long()), steady: f.flag() },
         }
     }
 

@@ -1,4 +1,10 @@
-//! The C entry, and the only unsafe code.
+//! The C entry: its functions, declared here and nowhere else, each behind a safe one that takes
+//! slices. This is the only unsafe code.
+//!
+//! These take any bytes, also an image that no machine has; [`Machine`](crate::Machine) is for daily
+//! use. A new entry of `swarmtempo.h` has its declaration and a safe function below.
+
+#![allow(unsafe_code)]
 
 use std::ffi::c_uchar;
 
@@ -24,47 +30,6 @@ extern "C" {
         written: *mut u64,
         count: *mut u64,
     ) -> u8;
-}
-
-/// The stop number, the bytes consumed and the bytes written.
-pub fn run(image: &mut [u8], list: &[u8], answers: &mut [u8]) -> (u8, usize, usize) {
-    let (mut consumed, mut written) = (0, 0);
-    // SAFETY: three slices and two numbers that live through the call and do not overlap.
-    let stop = unsafe {
-        swarmtempo_run(
-            image.as_mut_ptr(),
-            image.len(),
-            list.as_ptr(),
-            list.len(),
-            answers.as_mut_ptr(),
-            answers.len(),
-            &mut consumed,
-            &mut written,
-        )
-    };
-    (stop, consumed as usize, written as usize)
-}
-
-/// Bytes of an image.
-pub fn image_len() -> usize {
-    // SAFETY: takes nothing.
-    unsafe { swarmtempo_image_len() as usize }
-}
-
-/// VIA ticks, rounded up.
-pub fn ticks_of_micros(micros: u32) -> u32 {
-    // SAFETY: takes and gives a number.
-    unsafe { swarmtempo_ticks_of_micros(micros) }
-}
-
-/// 0, or 6 where the image is too short.
-pub fn fresh(image: &mut [u8]) -> u8 {
-    // SAFETY: a slice that lives through the call.
-    unsafe { swarmtempo_fresh(image.as_mut_ptr(), image.len()) }
-}
-
-// Sheets of settings.
-extern "C" {
     fn swarmtempo_sheet_get(
         bench: *const c_uchar,
         bench_len: usize,
@@ -82,50 +47,12 @@ extern "C" {
         out_len: usize,
         written: *mut u64,
     ) -> u8;
-}
-
-/// The refusal's number, the sheet (0 none, 1 bench, 2 house), and where in it the bytes start and how many they are.
-pub fn sheet_get(bench: &[u8], house: &[u8], setting: u16) -> (u8, u8, usize, usize) {
-    let (mut sheet, mut start, mut size) = (0, 0, 0);
-    // SAFETY: two slices and three numbers that live through the call and do not overlap.
-    let refusal = unsafe {
-        swarmtempo_sheet_get(
-            bench.as_ptr(),
-            bench.len(),
-            house.as_ptr(),
-            house.len(),
-            setting,
-            &mut sheet,
-            &mut start,
-            &mut size,
-        )
-    };
-    (refusal, sheet, start as usize, size as usize)
-}
-
-/// The refusal's number and the bytes written.
-pub fn sheet_compact(sheet: &[u8], out: &mut [u8]) -> (u8, usize) {
-    let mut written = 0;
-    // SAFETY: two slices and a number that live through the call and do not overlap.
-    let refusal = unsafe {
-        swarmtempo_sheet_compact(
-            sheet.as_ptr(),
-            sheet.len(),
-            out.as_mut_ptr(),
-            out.len(),
-            &mut written,
-        )
-    };
-    (refusal, written as usize)
-// The keyboard. Each call gives the refusal, and the answer byte where there is one.
-
-extern "C" {
     fn swarmtempo_keyboard_len() -> u64;
     fn swarmtempo_keyboard_fresh(image: *mut c_uchar, image_len: usize, model: u8) -> u8;
     fn swarmtempo_keyboard_command(
         image: *mut c_uchar,
         image_len: usize,
-        byte: u8,
+        command: u8,
         answered: *mut u8,
         answer: *mut u8,
     ) -> u8;
@@ -139,61 +66,75 @@ extern "C" {
     fn swarmtempo_keyboard_wait(
         image: *mut c_uchar,
         image_len: usize,
-        ticks: u32,
+        via_ticks: u32,
         answered: *mut u8,
         answer: *mut u8,
     ) -> u8;
 }
 
-/// Bytes of a keyboard's image.
-pub fn keyboard_len() -> usize {
-    // SAFETY: takes nothing.
-    unsafe { swarmtempo_keyboard_len() as usize }
+/// What a run reports, as numbers.
+#[derive(Clone, Copy, Debug, PartialEq, Eq)]
+pub struct Report {
+    /// 0 at the end of the list, else 1, 6 or 7.
+    pub stop: u8,
+    /// Bytes of the list consumed.
+    pub consumed: u64,
+    /// Bytes of the answers written.
+    pub written: u64,
 }
 
-/// 0, or 6 where the image is too short.
-pub fn keyboard_fresh(image: &mut [u8], model: u8) -> u8 {
-    // SAFETY: a slice that lives through the call.
-    unsafe { swarmtempo_keyboard_fresh(image.as_mut_ptr(), image.len(), model) }
-}
-
-/// A command byte.
-pub fn keyboard_command(image: &mut [u8], byte: u8) -> (u8, Option<u8>) {
-    let (mut answered, mut answer) = (0, 0);
-    // SAFETY: a slice and two numbers that live through the call and do not overlap.
-    let refusal = unsafe {
-        swarmtempo_keyboard_command(
+/// Runs a list on the state of an image.
+pub fn run(image: &mut [u8], list: &[u8], answers: &mut [u8]) -> Report {
+    // Numbers that no run reports, so that one left unwritten would show.
+    let (mut consumed, mut written) = (u64::MAX, u64::MAX);
+    // SAFETY: three slices and two numbers that live through the call and do not overlap.
+    let stop = unsafe {
+        swarmtempo_run(
             image.as_mut_ptr(),
             image.len(),
-            byte,
-            &mut answered,
-            &mut answer,
+            list.as_ptr(),
+            list.len(),
+            answers.as_mut_ptr(),
+            answers.len(),
+            &raw mut consumed,
+            &raw mut written,
         )
     };
-    (refusal, (answered != 0).then_some(answer))
+    Report { stop, consumed, written }
 }
 
-/// A key code.
-pub fn keyboard_key(image: &mut [u8], code: u8) -> (u8, Option<u8>) {
-    let (mut answered, mut answer) = (0, 0);
-    // SAFETY: as above.
-    let refusal = unsafe {
-        swarmtempo_keyboard_key(image.as_mut_ptr(), image.len(), code, &mut answered, &mut answer)
-    };
-    (refusal, (answered != 0).then_some(answer))
+/// Bytes of an image.
+pub fn image_len() -> u64 {
+    // SAFETY: takes nothing.
+    unsafe { swarmtempo_image_len() }
 }
 
-/// A wait in VIA ticks.
-pub fn keyboard_wait(image: &mut [u8], ticks: u32) -> (u8, Option<u8>) {
-    let (mut answered, mut answer) = (0, 0);
-    // SAFETY: as above.
-    let refusal = unsafe {
-        swarmtempo_keyboard_wait(image.as_mut_ptr(), image.len(), ticks, &mut answered, &mut answer)
-    };
-    (refusal, (answered != 0).then_some(answer))
-/// The refusal number, the bytes written and the count.
-pub fn convert(list: &[u8], out: &mut [u8]) -> (u8, usize, usize) {
-    let (mut written, mut count) = (0, 0);
+/// Microseconds as VIA ticks, rounded up.
+pub fn ticks_of_micros(micros: u32) -> u32 {
+    // SAFETY: takes and gives a number.
+    unsafe { swarmtempo_ticks_of_micros(micros) }
+}
+
+/// Writes the image of a fresh machine: 0, or 6 where there are too few bytes.
+pub fn fresh(image: &mut [u8]) -> u8 {
+    // SAFETY: a slice that lives through the call.
+    unsafe { swarmtempo_fresh(image.as_mut_ptr(), image.len()) }
+}
+
+/// What a conversion reports, as numbers.
+#[derive(Clone, Copy, Debug, PartialEq, Eq)]
+pub struct Converted {
+    /// 0 at the end of the capture, 1 where a record is cut, 6 where there is too little room.
+    pub refusal: u8,
+    /// Bytes written.
+    pub written: u64,
+    /// SN items replaced without a DI.
+    pub count: u64,
+}
+
+/// Turns an old capture over.
+pub fn convert(list: &[u8], out: &mut [u8]) -> Converted {
+    let (mut written, mut count) = (u64::MAX, u64::MAX);
     // SAFETY: two slices and two numbers that live through the call and do not overlap.
     let refusal = unsafe {
         swarmtempo_convert(
@@ -201,9 +142,114 @@ pub fn convert(list: &[u8], out: &mut [u8]) -> (u8, usize, usize) {
             list.len(),
             out.as_mut_ptr(),
             out.len(),
-            &mut written,
-            &mut count,
+            &raw mut written,
+            &raw mut count,
         )
     };
-    (refusal, written as usize, count as usize)
+    Converted { refusal, written, count }
+}
+
+/// Where a setting's bytes are, as numbers.
+#[derive(Clone, Copy, Debug, PartialEq, Eq)]
+pub struct Found {
+    /// 0, or 1 where either sheet is broken.
+    pub refusal: u8,
+    /// 0 not set, 1 in the bench sheet, 2 in the house sheet.
+    pub sheet: u8,
+    /// Where the bytes start in that sheet.
+    pub start: u64,
+    /// How many bytes they are.
+    pub size: u64,
+}
+
+/// Looks a setting up in a bench sheet and a house sheet.
+pub fn sheet_get(bench: &[u8], house: &[u8], setting: u16) -> Found {
+    // Numbers that no look-up gives, as above.
+    let (mut sheet, mut start, mut size) = (u8::MAX, u64::MAX, u64::MAX);
+    // SAFETY: two slices that are only read, and three numbers, all of which live through the call.
+    let refusal = unsafe {
+        swarmtempo_sheet_get(
+            bench.as_ptr(),
+            bench.len(),
+            house.as_ptr(),
+            house.len(),
+            setting,
+            &raw mut sheet,
+            &raw mut start,
+            &raw mut size,
+        )
+    };
+    Found { refusal, sheet, start, size }
+}
+
+/// Writes a sheet's counting records: 0, 1 where the sheet is broken or 6 where there are too few
+/// bytes, and the bytes written.
+pub fn sheet_compact(sheet: &[u8], out: &mut [u8]) -> (u8, u64) {
+    let mut written = u64::MAX;
+    // SAFETY: two slices and a number that live through the call and do not overlap.
+    let refusal = unsafe {
+        swarmtempo_sheet_compact(
+            sheet.as_ptr(),
+            sheet.len(),
+            out.as_mut_ptr(),
+            out.len(),
+            &raw mut written,
+        )
+    };
+    (refusal, written)
+}
+
+/// What a keyboard says to an event, as numbers.
+#[derive(Clone, Copy, Debug, PartialEq, Eq)]
+pub struct Said {
+    /// 0, 7 where no accepted keyboard has this image, or 11 where a key is one too many.
+    pub refusal: u8,
+    /// 1 where there is an answer byte, else 0.
+    pub answered: u8,
+    /// The answer byte, 0 where there is none.
+    pub answer: u8,
+}
+
+/// Bytes of a keyboard's image.
+pub fn keyboard_len() -> u64 {
+    // SAFETY: takes nothing.
+    unsafe { swarmtempo_keyboard_len() }
+}
+
+/// Writes the image of a keyboard that was just made: 0, or 6 where there are too few bytes.
+pub fn keyboard_fresh(image: &mut [u8], model: u8) -> u8 {
+    // SAFETY: a slice that lives through the call.
+    unsafe { swarmtempo_keyboard_fresh(image.as_mut_ptr(), image.len(), model) }
+}
+
+/// A command byte.
+pub fn keyboard_command(image: &mut [u8], command: u8) -> Said {
+    let (at, len) = (image.as_mut_ptr(), image.len());
+    // SAFETY: a slice, and the two numbers of `said`, live through the call and do not overlap.
+    said(|answered, answer| unsafe {
+        swarmtempo_keyboard_command(at, len, command, answered, answer)
+    })
+}
+
+/// A key code.
+pub fn keyboard_key(image: &mut [u8], code: u8) -> Said {
+    let (at, len) = (image.as_mut_ptr(), image.len());
+    // SAFETY: as for a command.
+    said(|answered, answer| unsafe { swarmtempo_keyboard_key(at, len, code, answered, answer) })
+}
+
+/// A wait in VIA ticks.
+pub fn keyboard_wait(image: &mut [u8], via_ticks: u32) -> Said {
+    let (at, len) = (image.as_mut_ptr(), image.len());
+    // SAFETY: as for a command.
+    said(|answered, answer| unsafe {
+        swarmtempo_keyboard_wait(at, len, via_ticks, answered, answer)
+    })
+}
+
+fn said(call: impl FnOnce(*mut u8, *mut u8) -> u8) -> Said {
+    // Numbers that would show where they are left unwritten.
+    let (mut answered, mut answer) = (u8::MAX, u8::MAX);
+    let refusal = call(&raw mut answered, &raw mut answer);
+    Said { refusal, answered, answer }
 }

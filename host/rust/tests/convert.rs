@@ -1,8 +1,6 @@
-//! Old captures turned over: the library against the model on random captures, and the command.
+//! Old captures turned over: the library against the model on random captures.
 
-use std::fs;
-use std::process::{Command, Output};
-use swarmtempo::{convert, convert_in, Refusal};
+use swarmtempo::{convert, convert_in, Drive, Item, Machine, Refusal, SenseRegister, ViaTicks};
 use swarmtempo_model as model;
 
 struct Random(u64);
@@ -19,7 +17,7 @@ impl Random {
     }
 }
 
-fn record(kind: &[u8; 2], wait: u16, rest: &[u8]) -> Vec<u8> {
+fn record(kind: &[u8], wait: u16, rest: &[u8]) -> Vec<u8> {
     let mut bytes = ((4 + rest.len()) as u16).to_le_bytes().to_vec();
     bytes.extend_from_slice(kind);
     bytes.extend_from_slice(&wait.to_le_bytes());
@@ -118,6 +116,16 @@ fn as_many_ticks() {
     }
 }
 
+/// A run refuses exactly the registers that have retired.
+#[test]
+fn retired_registers() {
+    for register in (0..SenseRegister::COUNT).filter_map(SenseRegister::new) {
+        let item = Item::Sense(Drive::External, register, true);
+        let done = Machine::fresh().step(ViaTicks(0), item);
+        assert_eq!(done.err(), register.is_retired().then_some(Refusal::Retired), "{register}");
+    }
+}
+
 #[test]
 fn a_story() {
     let sn = |wait, drive, register, level| record(b"SN", wait, &[drive, register, level]);
@@ -148,44 +156,4 @@ fn a_story() {
     let (bytes, end) = convert(&old.concat());
     assert_eq!(bytes, new.concat());
     assert_eq!((end.stop, end.count), (None, 4));
-}
-
-fn command(words: &[&str]) -> Output {
-    Command::new(env!("CARGO_BIN_EXE_swarmtempo")).args(words).output().expect("it runs")
-}
-
-#[test]
-fn on_the_command_line() {
-    let folder = std::env::temp_dir().join(format!("swarmtempo-convert-{}", std::process::id()));
-    fs::create_dir_all(&folder).expect("a folder");
-    let (old, new) = (folder.join("old"), folder.join("new"));
-    let (old, new) = (old.to_str().expect("a name"), new.to_str().expect("a name"));
-    let disk_in = record(b"SN", 5, &[0, 1, 0]);
-    let whole = [disk_in.clone(), record(b"SN", 6, &[0, 0, 1]), record(b"SE", 1, &[])].concat();
-
-    fs::write(old, &whole).expect("written");
-    let done = command(&["convert", old, "-o", new]);
-    assert_eq!(done.status.code(), Some(0));
-    let said = String::from_utf8(done.stderr).expect("text");
-    assert_eq!(said, "swarmtempo: 2 SN replaced, 1 of them without a DI; all 24 bytes converted\n");
-    assert_eq!(fs::read(new).expect("written"), convert(&whole).0);
-
-    fs::write(old, [&whole[..], &[9, 0, b'W']].concat()).expect("written");
-    let done = command(&["convert", old, "-o", new]);
-    assert_eq!(done.status.code(), Some(1));
-    let said = String::from_utf8(done.stderr).expect("text");
-    assert!(said.ends_with("stopped at byte 24 of 27: a record is cut there\n"), "{said}");
-    assert_eq!(fs::read(new).expect("written"), convert(&whole).0);
-
-    // A byte more than it takes; NEW stays as it is.
-    fs::File::create(old).and_then(|file| file.set_len((1 << 28) + 1)).expect("a long file");
-    let done = command(&["convert", old, "-o", new]);
-    assert_eq!(done.status.code(), Some(64));
-    let said = String::from_utf8(done.stderr).expect("text");
-    assert!(said.contains("more than 268435456 bytes"), "{said}");
-    assert_eq!(fs::read(new).expect("written"), convert(&whole).0);
-
-    assert_eq!(command(&["convert", old]).status.code(), Some(64));
-    assert_eq!(command(&["convert", "-o", new]).status.code(), Some(64));
-    fs::remove_dir_all(&folder).expect("removed");
 }

@@ -1,10 +1,11 @@
 //! The library against the plain model on random lists: answers, counts and images.
 //!
-//! SWARMTEMPO_SEED takes another seed (the fixed one is 1), SWARMTEMPO_LISTS another number of lists.
+//! `SWARMTEMPO_SEED` takes another seed (the fixed one is 1), `SWARMTEMPO_LISTS` another number of
+//! lists.
 //! A difference is made small and printed.
 
 use swarmtempo::text::disassemble;
-use swarmtempo::{Address, DiskLine, Machine, Register};
+use swarmtempo::{sys, Address, DiskLine, Machine, Register};
 use swarmtempo_model as model;
 
 const LISTS: u64 = 250_000;
@@ -65,38 +66,13 @@ fn by_model(case: &Case) -> Left {
     Left { stop: run.stop, consumed: run.consumed, written: run.written, answers, image }
 }
 
-extern "C" {
-    fn swarmtempo_run(
-        image: *mut u8,
-        image_len: usize,
-        list: *const u8,
-        list_len: usize,
-        answers: *mut u8,
-        answers_len: usize,
-        consumed: *mut u64,
-        written: *mut u64,
-    ) -> u8;
-}
-
 /// By the C entry itself, so that images that are not accepted can be given too.
 fn by_library(case: &Case) -> Left {
     let (mut image, mut answers) = (case.image.clone(), vec![UNUSED; case.room]);
-    let list = case.parts.concat();
-    let (mut consumed, mut written) = (!0, !0);
-    // SAFETY: buffers of their own, with their lengths.
-    let stop = unsafe {
-        swarmtempo_run(
-            image.as_mut_ptr(),
-            image.len(),
-            list.as_ptr(),
-            list.len(),
-            answers.as_mut_ptr(),
-            answers.len(),
-            &mut consumed,
-            &mut written,
-        )
-    };
-    Left { stop, consumed: consumed as usize, written: written as usize, answers, image }
+    let run = sys::run(&mut image, &case.parts.concat(), &mut answers);
+    let [consumed, written] =
+        [run.consumed, run.written].map(|n| usize::try_from(n).expect("64 bits"));
+    Left { stop: run.stop, consumed, written, answers, image }
 }
 
 /// Builds a list part by part.
@@ -106,6 +82,7 @@ struct Maker<'a> {
 }
 
 impl Maker<'_> {
+    #[allow(clippy::trivially_copy_pass_by_ref, reason = "a kind is written b\"RD\"")]
     fn record(&mut self, kind: &[u8; 2], wait: u16, rest: &[u8]) {
         let mut part = ((4 + rest.len()) as u16).to_le_bytes().to_vec();
         part.extend_from_slice(kind);
@@ -249,7 +226,7 @@ impl Maker<'_> {
     /// Reads a sense register of the enabled drive.
     fn sense(&mut self) {
         self.line(0, DiskLine::Q6, true);
-        for _ in 0..1 + self.random.below(3) {
+        for _ in 0..=self.random.below(3) {
             let line = self.random.pick(&[DiskLine::CA0, DiskLine::CA1, DiskLine::CA2]);
             let on = self.random.one_in(2);
             self.line(0, line, on);
@@ -437,7 +414,7 @@ impl Maker<'_> {
 
     /// Disk lines, sense levels and reads of the sense.
     fn disk(&mut self) {
-        for _ in 0..1 + self.random.below(8) {
+        for _ in 0..=self.random.below(8) {
             let line = self.random.pick(&DiskLine::ALL);
             let address = Address::Iwm(line, self.random.one_in(2)).number().to_le_bytes();
             self.record(b"RD", 0, &address);
@@ -459,14 +436,14 @@ impl Maker<'_> {
 
     fn part(&mut self) {
         match self.random.below(24) {
-            20..=23 => (0..1 + self.random.below(3)).for_each(|_| self.strobe()),
+            20..=23 => (0..=self.random.below(3)).for_each(|_| self.strobe()),
             0..=4 => self.by_port(),
             5..=7 => self.by_direction(),
             8..=11 => self.timers(),
             12 | 13 => self.disk(),
             14 => self.odd_record(),
             15 if self.random.one_in(4) => self.noise(),
-            _ => (0..1 + self.random.below(8)).for_each(|_| self.item()),
+            _ => (0..=self.random.below(8)).for_each(|_| self.item()),
         }
     }
 }

@@ -1,13 +1,10 @@
 //! Sheets of settings: the library against the plain model on random sheets, the safe types, the text
-//! form and the command line.
+//! form.
 //!
-//! SWARMTEMPO_SEED takes another seed (the fixed one is 1), SWARMTEMPO_SHEETS another number of pairs.
+//! `SWARMTEMPO_SEED` takes another seed (the fixed one is 1), `SWARMTEMPO_SHEETS` another number of pairs.
 
-use std::fs;
-use std::path::Path;
-use std::process::Command;
 use swarmtempo::{
-    compact, compact_into, settings, sheet_text, Setting, Sheet, SheetRefusal, Sheets,
+    compact, compact_into, settings, sheet_text, sys, Setting, Sheet, SheetRefusal, Sheets,
 };
 use swarmtempo_model::sheet as model;
 
@@ -76,45 +73,14 @@ impl Random {
     }
 }
 
-extern "C" {
-    fn swarmtempo_sheet_get(
-        bench: *const u8,
-        bench_len: usize,
-        house: *const u8,
-        house_len: usize,
-        setting: u16,
-        sheet: *mut u8,
-        start: *mut u64,
-        size: *mut u64,
-    ) -> u8;
-}
-
-/// By the C entry itself: the refusal, the sheet's number, start and size.
-fn get(bench: &[u8], house: &[u8], setting: u16) -> (u8, u8, u64, u64) {
-    let (mut sheet, mut start, mut size) = (!0, !0, !0);
-    // SAFETY: slices with their lengths, and three numbers of their own.
-    let refusal = unsafe {
-        swarmtempo_sheet_get(
-            bench.as_ptr(),
-            bench.len(),
-            house.as_ptr(),
-            house.len(),
-            setting,
-            &mut sheet,
-            &mut start,
-            &mut size,
-        )
+fn expected(found: &model::Found) -> sys::Found {
+    let (refusal, sheet, part) = match found {
+        model::Found::Bench(part) => (0, 1, part.clone()),
+        model::Found::House(part) => (0, 2, part.clone()),
+        model::Found::NotSet => (0, 0, 0..0),
+        model::Found::Broken => (1, 0, 0..0),
     };
-    (refusal, sheet, start, size)
-}
-
-fn expected(found: &model::Found) -> (u8, u8, u64, u64) {
-    match found {
-        model::Found::Bench(part) => (0, 1, part.start as u64, part.len() as u64),
-        model::Found::House(part) => (0, 2, part.start as u64, part.len() as u64),
-        model::Found::NotSet => (0, 0, 0, 0),
-        model::Found::Broken => (1, 0, 0, 0),
-    }
+    sys::Found { refusal, sheet, start: part.start as u64, size: part.len() as u64 }
 }
 
 /// The tool on memory that is all UNUSED: its answer and the memory.
@@ -137,7 +103,8 @@ fn library_against_model() {
         let (bench, house) = (random.sheet(), random.sheet());
         let setting = random.setting();
         let found = model::lookup(&bench, &house, setting);
-        assert_eq!(get(&bench, &house, setting), expected(&found), "{bench:?} {house:?} {setting}");
+        let answer = sys::sheet_get(&bench, &house, setting);
+        assert_eq!(answer, expected(&found), "{bench:?} {house:?} {setting}");
         set += u64::from(matches!(found, model::Found::Bench(_) | model::Found::House(_)));
         broken += u64::from(found == model::Found::Broken);
 
@@ -169,7 +136,7 @@ fn the_part_is_not_copied() {
     let sheets = Sheets::new(&bench, &house).expect("sound");
     let (bytes, sheet) = sheets.get(513).expect("set");
     assert_eq!((bytes, sheet), (&[11, 12][..], Sheet::Bench));
-    assert!(std::ptr::eq(bytes, &bench[22..24]));
+    assert!(std::ptr::eq(bytes, &raw const bench[22..24]));
     assert_eq!(sheets.get(2), Some((&[14][..], Sheet::House)));
     assert_eq!(sheets.get(3), Some((&[][..], Sheet::Bench)));
     assert_eq!(sheets.get(258), None);
@@ -206,43 +173,4 @@ fn text_both_ways() {
     let long = format!("1 1 \"{}\"", "x".repeat(65));
     assert!(sheet_text::assemble(&long).is_err());
     assert_eq!(sheet_text::assemble(&long.replacen('x', "", 1)).expect("64").len(), 71);
-}
-
-#[test]
-fn command_line() {
-    let folder = Path::new(env!("CARGO_TARGET_TMPDIR")).join("sheets");
-    let _ = fs::remove_dir_all(&folder);
-    fs::create_dir_all(&folder).expect("a folder");
-    let run = |words: &[&str]| {
-        let mut command = Command::new(env!("CARGO_BIN_EXE_swarmtempo"));
-        let output = command.arg("sheet").args(words).current_dir(&folder).output().expect("run");
-        let text = String::from_utf8(output.stdout).expect("UTF-8");
-        (output.status.code().expect("a status"), text)
-    };
-    fs::write(folder.join("bench.txt"), "7 1 \"old\"\n9 0\n7 1 \"north\"\n").expect("written");
-    fs::write(folder.join("house.txt"), "7 9 \"lab\"\n20 1 14\n").expect("written");
-    assert_eq!(run(&["make", "bench.txt", "-o", "bench.sv"]), (0, String::new()));
-    assert_eq!(run(&["make", "house.txt", "-o", "house.sv"]), (0, String::new()));
-    let both = ["--bench", "bench.sv", "--house", "house.sv"];
-    let get = |setting: &str| run(&[&["get", setting][..], &both[..]].concat());
-    assert_eq!(get("7"), (0, "7 bench \"north\"\n".into()));
-    assert_eq!(get("20"), (0, "20 house 14\n".into()));
-    assert_eq!(get("9"), (0, "9 bench\n".into()));
-    assert_eq!(get("8"), (2, "8 not set\n".into()));
-    assert_eq!(get("65536").0, 64);
-    assert_eq!(run(&["get", "20", "--text", "--house", "house.txt"]), (0, "20 house 14\n".into()));
-    let listed = run(&["list", "bench.sv"]);
-    assert_eq!(listed, (0, "7 1 \"old\" ; does not count\n9 0\n7 1 \"north\"\n".into()));
-    fs::write(folder.join("again.txt"), listed.1).expect("written");
-    assert_eq!(run(&["make", "again.txt", "-o", "again.sv"]).0, 0);
-    let bytes = |name: &str| fs::read(folder.join(name)).expect("there");
-    assert_eq!(bytes("again.sv"), bytes("bench.sv"));
-    assert_eq!(run(&["compact", "bench.sv", "-o", "small.sv"]), (0, String::new()));
-    assert_eq!(run(&["list", "small.sv"]), (0, "9 0\n7 1 \"north\"\n".into()));
-    assert_eq!(run(&["compact", "bench.sv", "-o", "none.sv", "--room", "18"]).0, 6);
-    assert_eq!(run(&["compact", "bench.txt", "-o", "none.sv"]).0, 1);
-    assert!(!folder.join("none.sv").exists());
-    assert_eq!(run(&["get", "20", "--bench", "bench.txt", "--house", "house.sv"]).0, 1);
-    assert_eq!(run(&["make", "house.sv", "-o", "none.sv"]).0, 65);
-    assert_eq!(run(&["turn"]).0, 64);
 }

@@ -1,8 +1,8 @@
 //! The text form: there and back, and its errors.
 
 use std::io::Read;
-use swarmtempo::text::{assemble, disassemble};
-use swarmtempo::{pieces, Address, Chunks, Piece};
+use swarmtempo::text::{assemble, assemble_all, assemble_line, disassemble};
+use swarmtempo::{pieces, Address, Chunks, Micros, Piece, ViaTicks};
 
 struct Random(u64);
 
@@ -104,7 +104,20 @@ fn forms_of_the_manual() {
 #[test]
 fn errors_have_line_and_column() {
     for (text, line, column, part) in [
-        ("5 SE", 1, 1, "needs its unit: 5t"),
+        ("5 SE", 1, 1, "needs its unit: 5t (VIA ticks) or 5us (microseconds)"),
+        ("0x5 SE", 1, 1, "needs its unit: 0x5t"),
+        ("5 us SE", 1, 1, "needs its unit"),
+        ("12ms SE", 1, 1, "as 12000us, not `12ms`"),
+        ("us SE", 1, 1, "as 12000us, not `us`"),
+        ("83659us SE", 1, 1, "0us to 83658us (microseconds; 65535 VIA ticks)"),
+        ("4294967296us SE", 1, 1, "0us to 83658us"),
+        ("99999999999999999999999us SE", 1, 1, "0us to 83658us"),
+        ("0t PW 5us", 1, 7, "a number of seconds, as 5s"),
+        ("0t WR VIA.ORB 0x100", 1, 15, "0 to 255"),
+        ("0t WR VIA.ORB 0x", 1, 15, "as 65, $41 or 0x41"),
+        ("0t WR VIA.ORB 41h", 1, 15, "as 65, $41 or 0x41"),
+        ("\u{FEFF}5 SE", 1, 1, "needs its unit"),
+        ("0t SE\n\u{FEFF}0t SE", 2, 1, "VIA ticks"),
         ("0t SE\n0t PW 5", 2, 7, "needs its unit: 5s"),
         ("0t PW 5t", 1, 7, "seconds"),
         ("5s SE", 1, 1, "VIA ticks"),
@@ -136,6 +149,73 @@ fn errors_have_line_and_column() {
         assert_eq!((error.line, error.column), (line, column), "{text}: {error}");
         assert!(error.message.contains(part), "{text}: {error}");
     }
+}
+
+/// Waits in microseconds become VIA ticks by the library, rounded up, and are given back as such.
+#[test]
+fn microseconds() {
+    for (text, ticks) in [
+        ("0us", 0),
+        ("1us", 1),
+        ("2US", 2),
+        ("12000us", 9_401),
+        ("$2EE0us", 9_401),
+        ("83658us", 65_535),
+    ] {
+        let mut bytes = Vec::new();
+        let converted = assemble_line(&format!("{text} SE"), &mut bytes).expect("in the form");
+        let converted = converted.expect("turned into VIA ticks");
+        assert_eq!(converted.wait, ViaTicks(ticks), "{text}");
+        assert_eq!(converted.micros.ticks().wait(), Some(converted.wait));
+        assert_eq!(Ok(bytes), assemble(&format!("{ticks}t SE")));
+    }
+    assert_eq!(assemble_line("12t SE", &mut Vec::new()), Ok(None));
+    // The longest wait, by the library.
+    assert_eq!(Micros(83_658).ticks().wait(), Some(ViaTicks(65_535)));
+    assert_eq!(Micros(83_659).ticks().wait(), None);
+}
+
+#[test]
+fn hexadecimal_in_two_ways() {
+    let dollar = assemble("$41t WR $EFE1FE $41\n0t IN $3 $1").expect("in the form");
+    for mark in ["0x", "0X"] {
+        let text = format!("{mark}41t WR {mark}EFE1FE {mark}41\n0t IN {mark}3 {mark}1");
+        assert_eq!(assemble(&text).as_ref(), Ok(&dollar));
+    }
+    assert_eq!(assemble("\u{FEFF}$41t WR VIA.ORB 65\n0t IN 3 1"), Ok(dollar));
+}
+
+/// Lines end in LF, CR LF, or CR alone: a comment does not swallow the lines after it.
+#[test]
+fn ends_of_lines() {
+    let expected = assemble("; a list\n0t SE\n\n12t VB").expect("in the form");
+    for end in ["\n", "\r\n", "\r"] {
+        let text = ["; a list", "0t SE", "", "12t VB", ""].join(end);
+        assert_eq!(assemble(&text).as_ref(), Ok(&expected), "{end:?}");
+        let wrong = ["; a list", "0t SE", "", "12 VB"].join(end);
+        assert_eq!(assemble(&wrong).expect_err("no unit").line, 4, "{end:?}");
+    }
+}
+
+#[test]
+fn all_errors_at_once() {
+    let text = "0t SE\n5 SE\n0t XX\n; nothing\n0t PW 5\n";
+    let errors = assemble_all(text).expect_err("three lines are wrong");
+    let places: Vec<_> = errors.iter().map(|error| (error.line, error.column)).collect();
+    assert_eq!(places, [(2, 1), (3, 4), (5, 7)]);
+    assert_eq!(assemble(text).as_ref(), Err(&errors[0]));
+    assert_eq!(errors[0].to_string(), format!("line 2, column 1: {}", errors[0].message));
+    assert_eq!(assemble_all("0t SE"), Ok(vec![4, 0, b'S', b'E', 0, 0]));
+}
+
+/// A long or odd word does not fill the message, nor move a terminal's cursor.
+#[test]
+fn words_in_messages() {
+    let long = format!("0t WR VIA.ORB {}", "x".repeat(100_000));
+    let error = assemble(&long).expect_err("no number");
+    assert!(error.message.len() < 120 && error.message.contains("xxx..`"), "{error}");
+    let error = assemble("0t \x1b[2J").expect_err("no kind");
+    assert!(error.message.contains("`\\u{1b}[2J`"), "{error}");
 }
 
 /// Gives a few bytes at a time.

@@ -7,13 +7,14 @@ pub const ORB: u32 = 0;
 pub const DDRB: u32 = 2;
 
 pub fn via(register: u32) -> u32 {
-    0xEFE1FE + 512 * register
+    0xEF_E1FE + 512 * register
 }
 
 pub fn iwm(location: u32) -> u32 {
-    0xDFE1FF + 512 * location
+    0xDF_E1FF + 512 * location
 }
 
+#[allow(clippy::trivially_copy_pass_by_ref, reason = "a kind is written b\"RD\"")]
 pub fn record(kind: &[u8; 2], wait: u16, rest: &[u8]) -> Vec<u8> {
     let mut bytes = ((4 + rest.len()) as u16).to_le_bytes().to_vec();
     bytes.extend_from_slice(kind);

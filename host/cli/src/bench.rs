@@ -1,0 +1,311 @@
+//! How fast runs are, beside a plain model of the same board: a list for each kind of item, for
+//! refusals, for transactions with the clock chip, for long waits and for a mix, and calls with one
+//! item.
+
+use super::failure::{failure, Failure};
+use super::files::print;
+use std::process::Command;
+use std::time::{Duration, Instant};
+use swarmtempo::{
+    Address, DiskLine, Drive, InLine, Item, List, Machine, Register, Seconds, SenseRegister,
+    ViaTicks, ANSWER_LEN,
+};
+use swarmtempo_model::run_image;
+
+/// Each list is run so many times, and the quickest counts.
+const ROUNDS: usize = 9;
+
+/// The list whose ratio the summary gives by itself.
+const MIX: &str = "mix";
+
+/// The list that is run in calls of one item.
+const ONE: &str = "one item a call";
+
+/// Names the one list that this process is to run, and who runs it: what `bench --instructions` tells
+/// the processes that it counts.
+const ONLY: &str = "SWARMTEMPO_BENCH_ONLY";
+
+fn via(register: Register, value: u8) -> Item {
+    Item::Write(Address::Via(register), value)
+}
+
+fn iwm(line: DiskLine, on: bool) -> Item {
+    Item::Read(Address::Iwm(line, on))
+}
+
+/// The items that send these bytes to the clock chip, enable low from the first to the last.
+fn sent(bytes: &[u8]) -> Vec<Item> {
+    let mut items = vec![via(Register::ORB, 4), via(Register::DDRB, 7), via(Register::ORB, 0)];
+    for byte in bytes {
+        for i in (0..8).rev() {
+            let bit = byte >> i & 1;
+            items.push(via(Register::ORB, bit));
+            items.push(via(Register::ORB, bit | 2));
+        }
+    }
+    items
+}
+
+/// A byte written to a cell.
+fn written(cell: u8, value: u8) -> Vec<Item> {
+    let mut items = sent(&[0x41 | (cell % 16) << 2, value]);
+    items.push(via(Register::ORB, 4));
+    items
+}
+
+/// A cell's byte read: the command, then the data line as an input and eight falls.
+fn fetched(cell: u8) -> Vec<Item> {
+    let mut items = sent(&[0xC1 | (cell % 16) << 2]);
+    items.push(via(Register::DDRB, 6));
+    for _ in 0..8 {
+        items.push(via(Register::ORB, 0));
+        items.push(Item::Read(Address::Via(Register::ORB)));
+        items.push(via(Register::ORB, 2));
+    }
+    items.push(via(Register::ORB, 4));
+    items
+}
+
+/// LSTRB pulsed for a step of the internal drive.
+fn stepped() -> Vec<Item> {
+    let mut items = vec![iwm(DiskLine::ENABLE, true), iwm(DiskLine::CA0, true)];
+    items.extend([
+        iwm(DiskLine::LSTRB, true),
+        iwm(DiskLine::LSTRB, false),
+        iwm(DiskLine::Q6, true),
+    ]);
+    items.push(iwm(DiskLine::Q7, false));
+    items
+}
+
+/// A list of so many records, the items over and over.
+fn list(records: usize, wait: u16, items: &[Item]) -> List {
+    let mut list = List::new();
+    items.iter().cycle().take(records).for_each(|&item| {
+        list.push(ViaTicks(wait), item);
+    });
+    list
+}
+
+fn raw(records: usize, record: &[u8]) -> List {
+    let mut list = List::new();
+    (0..records).for_each(|_| {
+        list.push_raw(record);
+    });
+    list
+}
+
+fn disk(insert: bool) -> Item {
+    Item::Disk { drive: Drive::External, insert, locked: true, double_sided: true }
+}
+
+/// Every kind of item, and what is refused.
+fn kinds(records: usize) -> Vec<(&'static str, List)> {
+    let registers = || Register::ALL.into_iter();
+    let reads: Vec<Item> = registers().map(|r| Item::Read(Address::Via(r))).collect();
+    let writes: Vec<Item> = registers().map(|r| via(r, 0x5A)).collect();
+    let places = || DiskLine::ALL.into_iter().flat_map(|l| [(l, false), (l, true)]);
+    let looks: Vec<Item> = places().map(|(l, on)| iwm(l, on)).collect();
+    let sets: Vec<Item> = places().map(|(l, on)| Item::Write(Address::Iwm(l, on), 0)).collect();
+    let line = InLine::new(3).expect("a line");
+    let register = SenseRegister::new(7).expect("a register");
+    let sense = [iwm(DiskLine::Q6, true), iwm(DiskLine::ENABLE, true), iwm(DiskLine::Q7, false)];
+    let of = |items: &[Item]| list(records, 1, items);
+    vec![
+        ("RD VIA 0..15", of(&reads)),
+        ("RD VIA port B", of(&[Item::Read(Address::Via(Register::ORB))])),
+        ("WR VIA 0..15", of(&writes)),
+        ("WR VIA port B", of(&[via(Register::ORB, 4), via(Register::ORB, 6)])),
+        ("WR VIA port A", of(&[via(Register::ORA, 32), via(Register::ORA, 0)])),
+        ("RD IWM 0..15", of(&looks)),
+        ("RD IWM sense", of(&sense)),
+        ("WR IWM 0..15", of(&sets)),
+        ("VB", of(&[Item::Blank])),
+        ("SE", of(&[Item::Second])),
+        ("IN", of(&[Item::In(line, false), Item::In(line, true)])),
+        ("SN", of(&[Item::Sense(Drive::Internal, register, false)])),
+        ("RS", of(&[Item::Reset])),
+        ("PW", of(&[Item::Power(Seconds(5))])),
+        ("DI", of(&[disk(true), disk(false)])),
+        ("refused 2", raw(records, &[4, 0, b'X', b'X', 0, 0])),
+        ("refused 3", raw(records, &[5, 0, b'S', b'E', 0, 0, 0])),
+        ("refused 8", of(&[disk(false)])),
+    ]
+}
+
+/// What is run: every kind, then what shells do.
+fn lists(records: usize) -> Vec<(&'static str, List)> {
+    let mut all = kinds(records);
+    let writes: Vec<Item> = (0..16).flat_map(|cell| written(cell, 0x5A ^ cell)).collect();
+    let reads: Vec<Item> = (0..16).flat_map(fetched).collect();
+    let timers = [
+        via(Register::ACR, 0x40),
+        via(Register::T1CL, 100),
+        via(Register::T1CH, 0),
+        Item::Read(Address::Via(Register::IFR)),
+        Item::Read(Address::Via(Register::T1CL)),
+        Item::Blank,
+    ];
+    let line = InLine::new(3).expect("a line");
+    let register = SenseRegister::new(6).expect("a register");
+    let mut mix = writes[..40].to_vec();
+    mix.extend(Register::ALL.into_iter().map(|r| Item::Read(Address::Via(r))));
+    mix.extend_from_slice(&timers);
+    mix.extend(DiskLine::ALL.into_iter().flat_map(|l| [iwm(l, false), iwm(l, true)]));
+    mix.extend([Item::In(line, false), Item::Sense(Drive::Internal, register, false)]);
+    mix.extend([Item::Second, Item::Power(Seconds(5)), Item::Reset]);
+    all.extend([
+        ("clock write", list(records, 0, &writes)),
+        ("clock read", list(records, 0, &reads)),
+        ("waits 65535t", list(records, 65_535, &timers)),
+        ("drive steps", list(records, 400, &stepped())),
+        (MIX, list(records, 10, &mix)),
+        (ONE, list(records, 1, &[Item::Read(Address::Via(Register::IFR))])),
+    ]);
+    all
+}
+
+/// One list run by the library or by the model: a call for the list, or one for each of its records.
+struct Run<'a> {
+    list: &'a [u8],
+    answers: Vec<u8>,
+    /// Bytes of the list a call.
+    call: usize,
+}
+
+impl<'a> Run<'a> {
+    fn new(name: &str, list: &'a List, records: usize) -> Run<'a> {
+        let bytes = list.as_bytes();
+        let call = if name == ONE { bytes.len() / records } else { bytes.len() };
+        Run { list: bytes, answers: vec![0; ANSWER_LEN * records], call }
+    }
+
+    fn library(&mut self) {
+        let mut machine = Machine::fresh();
+        let room = self.answers.len() / (self.list.len() / self.call);
+        for (list, answers) in self.list.chunks(self.call).zip(self.answers.chunks_mut(room)) {
+            assert!(machine.run_in(list, answers).at_end());
+        }
+    }
+
+    // A function of its own, so that its instructions can be counted.
+    #[inline(never)]
+    fn model(&mut self) {
+        let mut image = Machine::fresh().image().to_vec();
+        let room = self.answers.len() / (self.list.len() / self.call);
+        for (list, answers) in self.list.chunks(self.call).zip(self.answers.chunks_mut(room)) {
+            assert_eq!(run_image(&mut image, list, answers).stop, 0);
+        }
+    }
+}
+
+fn timed(mut run: impl FnMut()) -> Duration {
+    let start = Instant::now();
+    run();
+    start.elapsed()
+}
+
+/// The quickest of several rounds, in which both take turns, so that what else the machine does meets
+/// both.
+fn best(name: &str, list: &List, records: usize) -> (Duration, Duration) {
+    let mut ours = Run::new(name, list, records);
+    let mut theirs = Run::new(name, list, records);
+    let mut quickest = (Duration::MAX, Duration::MAX);
+    for _ in 0..ROUNDS {
+        quickest.0 = quickest.0.min(timed(|| ours.library()));
+        quickest.1 = quickest.1.min(timed(|| theirs.model()));
+    }
+    assert_eq!(ours.answers, theirs.answers, "library and model differ on {name}");
+    quickest
+}
+
+/// The line for scripts: the mix, the worst list of records in one call, and calls of one item.
+fn summary(ratios: &[(&str, f64)]) -> String {
+    let of = |name: &str| ratios.iter().find(|r| r.0 == name).map_or(f64::NAN, |r| r.1);
+    let rows = ratios.iter().filter(|r| r.0 != ONE);
+    let worst = rows.max_by(|a, b| a.1.total_cmp(&b.1)).copied().unwrap_or(("none", f64::NAN));
+    format!(
+        "summary mix={:.2} worst={:.2} one-item={:.2} worst-list=\"{}\"\n",
+        of(MIX),
+        worst.1,
+        of(ONE),
+        worst.0
+    )
+}
+
+/// Prints a row for each list, and the summary.
+pub fn bench(records: usize) -> Result<(), Failure> {
+    if let Ok(only) = std::env::var(ONLY) {
+        run_only(&only, records);
+        return Ok(());
+    }
+    print(&format!("{records} records a list, the best of {ROUNDS} rounds\n"))?;
+    let (library, model) = ("library: nanoseconds", "model: nanoseconds");
+    print(&format!("{:<18} {:>17} {library:>21} {model:>21}\n", "", "library: records"))?;
+    let each = "a record";
+    print(&format!("{:<18} {:>17} {each:>21} {each:>21} {:>7}\n", "list", "a second", "ratio"))?;
+    let mut ratios = Vec::new();
+    for (name, list) in lists(records) {
+        let (library, model) = best(name, &list, records);
+        let ns = |time: Duration| time.as_secs_f64() * 1e9 / records as f64;
+        let ratio = ns(library) / ns(model);
+        print(&format!(
+            "{name:<18} {:>17.0} {:>21.1} {:>21.1} {ratio:>7.2}\n",
+            1e9 / ns(library),
+            ns(library),
+            ns(model),
+        ))?;
+        ratios.push((name, ratio));
+    }
+    print("ratio: time of the library by time of the model; below 1 the library is quicker\n")?;
+    print(&summary(&ratios))
+}
+
+// ---- instructions, counted by callgrind
+
+/// Runs one list, by one side: what a process under callgrind does.
+fn run_only(only: &str, records: usize) {
+    let (side, wanted) = only.split_once(' ').unwrap_or((only, ""));
+    for (name, list) in lists(records).iter().filter(|l| l.0 == wanted) {
+        let mut run = Run::new(name, list, records);
+        if side == "library" {
+            run.library();
+        } else {
+            run.model();
+        }
+    }
+}
+
+/// The instructions a record of one list, by one side.
+fn counted(side: &str, function: &str, name: &str, records: usize) -> Result<f64, Failure> {
+    let program = std::env::current_exe().map_err(|error| failure("this program", error))?;
+    let output = Command::new("valgrind")
+        .args(["--tool=callgrind", "--callgrind-out-file=/dev/null"])
+        .arg(format!("--toggle-collect={function}"))
+        .arg(program)
+        .args(["bench", "--records", &records.to_string()])
+        .env(ONLY, format!("{side} {name}"))
+        .output()
+        .map_err(|error| failure("valgrind", error))?;
+    let text = String::from_utf8_lossy(&output.stderr);
+    let collected = text.lines().find_map(|line| line.split_once("Collected :"));
+    let number = collected.and_then(|(_, n)| n.trim().parse::<f64>().ok());
+    number.map(|n| n / records as f64).ok_or_else(|| {
+        Failure::Content("valgrind".into(), format!("no count of instructions: {}", text.trim()))
+    })
+}
+
+/// Prints a row for each list: instructions a record, the same whatever else the machine does. It
+/// needs valgrind.
+pub fn instructions(records: usize) -> Result<(), Failure> {
+    print(&format!("{records} records a list, instructions a record\n"))?;
+    print("list                 library       model   ratio\n")?;
+    let mut ratios = Vec::new();
+    for (name, _) in lists(1) {
+        let library = counted("library", "swarmtempo_run", name, records)?;
+        let model = counted("model", "*Run*model*", name, records)?;
+        print(&format!("{name:<18} {library:>9.0} {model:>11.0} {:>7.2}\n", library / model))?;
+        ratios.push((name, library / model));
+    }
+    print(&summary(&ratios))
+}

@@ -1,0 +1,342 @@
+//! The commands and their words: what is parsed, and what help, the man page and the completions say.
+
+/// An option of a command.
+pub struct Flag {
+    /// As `--save`, or `-o`.
+    pub name: &'static str,
+    /// What its value is, in capitals; empty where it has none.
+    pub value: &'static str,
+    /// What it does.
+    pub help: &'static str,
+}
+
+/// A command.
+pub struct Command {
+    /// Its word, or two words, of which the first is a group's.
+    pub name: &'static str,
+    /// What follows it beside the options.
+    pub operand: &'static str,
+    /// What it does, in a line.
+    pub brief: &'static str,
+    /// The rest of what there is to say.
+    pub about: &'static str,
+    /// Its options.
+    pub flags: &'static [Flag],
+}
+
+/// Commands of two words, under the first of them.
+pub struct Group {
+    /// The first word.
+    pub name: &'static str,
+    /// What they are about, in a line.
+    pub brief: &'static str,
+    /// The rest of what there is to say of all of them.
+    pub about: &'static str,
+}
+
+impl Group {
+    /// Its commands.
+    pub fn commands(&self) -> impl Iterator<Item = &'static Command> + use<> {
+        let name = self.name;
+        COMMANDS.iter().filter(move |command| command.group() == Some(name))
+    }
+
+    /// Their last words.
+    pub fn last_words(&self) -> Vec<&'static str> {
+        self.commands().map(Command::last_word).collect()
+    }
+}
+
+impl Command {
+    /// The first of two words.
+    pub fn group(&self) -> Option<&'static str> {
+        self.name.split_once(' ').map(|(group, _)| group)
+    }
+
+    /// The word, or the last of two.
+    pub fn last_word(&self) -> &'static str {
+        self.name.split_once(' ').map_or(self.name, |(_, word)| word)
+    }
+}
+
+const OUT: Flag = Flag {
+    name: "-o",
+    value: "FILE",
+    help: "writes to FILE, which appears whole or not at all (without it: standard output)",
+};
+
+const RUN: [Flag; 10] = [
+    Flag { name: "--text", value: "", help: "LIST is in the text form" },
+    Flag { name: "--records", value: "", help: "LIST is records even where it looks like a text" },
+    Flag {
+        name: "--image",
+        value: "FILE",
+        help: "begins with the state of this image, not with the fresh machine",
+    },
+    Flag { name: "--save", value: "FILE", help: "writes the image of the state reached" },
+    Flag {
+        name: "--answers",
+        value: "FILE",
+        help: "writes the answers as bytes, 8 each, and no table",
+    },
+    Flag {
+        name: "--vcd",
+        value: "FILE",
+        help: "writes wires, lines and drives over time as a Value Change Dump, for GTKWave",
+    },
+    Flag {
+        name: "--room",
+        value: "BYTES",
+        help: "gives the answers so many bytes in all (without it: all they need)",
+    },
+    Flag { name: "--quiet", value: "", help: "no table, and no summary where nothing is refused" },
+    Flag {
+        name: "--strict",
+        value: "",
+        help: "exits with the number of the first refusal, where any item is refused",
+    },
+    Flag {
+        name: "--color",
+        value: "WHEN",
+        help: "always, never, or auto: on a terminal, unless NO_COLOR is set or TERM is dumb",
+    },
+];
+
+const SHEET_TEXT: Flag =
+    Flag { name: "--text", value: "", help: "the sheets named are in the text form" };
+
+/// All groups.
+pub const GROUPS: [Group; 1] = [Group {
+    name: "sheet",
+    brief: "sheets of settings",
+    about: "A bench has its settings from two sheets, its own and the house's. As text a sheet has a record a\n\
+            line: setting (0 to 65535), version (0 to 255), bytes.\n\
+            \n  \
+            20 1 14               ; bytes as two hexadecimal digits each\n  \
+            7  3 \"north bench\"    ; or as ASCII text between quotes\n  \
+            9  0                  ; set, with no bytes",
+}];
+
+/// All commands.
+pub const COMMANDS: [Command; 16] = [
+    Command {
+        name: "run",
+        operand: "LIST",
+        brief: "runs a list: a table of answers, and a summary",
+        about: "Runs a list of items (records, or text with --text) on a fresh machine, or on the state of\n\
+                --image. A LIST of - is standard input. The table goes to standard output, the summary to\n\
+                standard error: items carried out, refusals by their numbers, the duration in VIA ticks and\n\
+                seconds, what changed in the clock chip. A list of any length runs in fixed memory. All\n\
+                files asked for are written, or none; a closed pipe (as by head) ends the table alone.\n\
+                \n\
+                Exit status: 0 at the end of the list, 1 a record is cut, 6 no room for an answer, 7 the\n\
+                image is none of an accepted state; with --strict the number of the first refusal.",
+        flags: &RUN,
+    },
+    Command {
+        name: "asm",
+        operand: "[TEXT]",
+        brief: "text to records",
+        about: "Turns a list in the text form into records. Without TEXT it reads standard input. Every\n\
+                wrong line is named, as FILE:LINE:COLUMN: MESSAGE, and then nothing is written.",
+        flags: &[OUT],
+    },
+    Command {
+        name: "disasm",
+        operand: "[LIST]",
+        brief: "records to text",
+        about: "Turns records into the text form. Without LIST it reads standard input. What a run would\n\
+                refuse becomes lines of RAW bytes, so that asm gives the same bytes back for every list.",
+        flags: &[OUT, Flag {
+            name: "--records",
+            value: "",
+            help: "LIST is records even where it looks like a text",
+        }],
+    },
+    Command {
+        name: "convert",
+        operand: "[OLD]",
+        brief: "a capture from before SN retired, turned over",
+        about: "Turns a capture (records) over that was made before SN retired on the registers that a drive\n\
+                has itself, 0 to 5, 12 and 15: such an SN becomes an IN of the same wait, and a DI after it\n\
+                where a disk came or went. Without OLD it reads standard input. It takes at most 268,435,456\n\
+                bytes, which begin on a fresh machine.\n\
+                \n\
+                Exit status: 1 where a record is cut; what comes before it is converted and written.",
+        flags: &[OUT, Flag {
+            name: "--records",
+            value: "",
+            help: "OLD is records even where it looks like a text",
+        }],
+    },
+    Command {
+        name: "image",
+        operand: "FILE",
+        brief: "a state image in words",
+        about: "Shows the state in an image that run --save wrote. An image of no accepted state is refused\n\
+                with the first field that is out of its range: its name, offset and value.",
+        flags: &[],
+    },
+    Command {
+        name: "keyboard",
+        operand: "[EVENTS]",
+        brief: "a keyboard's answers to commands, keys and waits",
+        about: "Runs a text of events on a keyboard and shows its answers. Without EVENTS it reads standard\n\
+                input. A line has a wait in VIA ticks, which ends in t, and what happens after it:\n\
+                \n  \
+                0t      COMMAND $10   ; a command byte, or INQUIRY, INSTANT, MODEL, TEST\n  \
+                100t    KEY $33       ; a key code\n  \
+                195840t               ; a wait alone\n\
+                \n\
+                Every wrong line is named, as FILE:LINE:COLUMN: MESSAGE, and then nothing is run. Exit\n\
+                status: 7 where the image is none of an accepted keyboard.",
+        flags: &[
+            Flag {
+                name: "--model",
+                value: "BYTE",
+                help: "what the command Model answers (without it: $03)",
+            },
+            Flag {
+                name: "--image",
+                value: "FILE",
+                help: "begins with the keyboard of this image, not with one just made",
+            },
+            Flag { name: "--save", value: "FILE", help: "writes the image of the keyboard reached" },
+        ],
+    },
+    Command {
+        name: "sheet get",
+        operand: "SETTING",
+        brief: "a setting's bytes, and their sheet",
+        about: "Looks a setting (0 to 65535) up in the bench sheet, then in the house sheet, and shows its\n\
+                number, the sheet that it is from, and its bytes; or that it is not set.\n\
+                \n\
+                Exit status: 0 where it is set, 1 a sheet is broken, 2 it is not set.",
+        flags: &[
+            Flag { name: "--bench", value: "FILE", help: "the bench sheet (without it: an empty one)" },
+            Flag { name: "--house", value: "FILE", help: "the house sheet (without it: an empty one)" },
+            SHEET_TEXT,
+        ],
+    },
+    Command {
+        name: "sheet list",
+        operand: "[SHEET]",
+        brief: "a sheet to text",
+        about: "Shows all records of a sheet as text, in their order; those that do not count say so in a\n\
+                comment, so that sheet make gives the same bytes back. Without SHEET it reads standard\n\
+                input. Exit status: 1 where the sheet is broken.",
+        flags: &[OUT, SHEET_TEXT],
+    },
+    Command {
+        name: "sheet make",
+        operand: "[TEXT]",
+        brief: "text to a sheet",
+        about: "Turns a text, one record a line, into a sheet. Without TEXT it reads standard input. Every\n\
+                wrong line is named, as FILE:LINE:COLUMN: MESSAGE, and then nothing is written.",
+        flags: &[OUT],
+    },
+    Command {
+        name: "sheet compact",
+        operand: "[SHEET]",
+        brief: "a sheet's counting records alone",
+        about: "Writes the records of a sheet that count, one for each setting, in their order: every answer\n\
+                stays the same. Without SHEET it reads standard input.\n\
+                \n\
+                Exit status: 1 the sheet is broken, 6 --room is too little; then nothing is written.",
+        flags: &[
+            OUT,
+            SHEET_TEXT,
+            Flag {
+                name: "--room",
+                value: "BYTES",
+                help: "gives the records so many bytes (without it: all they need)",
+            },
+        ],
+    },
+    Command {
+        name: "sample",
+        operand: "",
+        brief: "the small list that swarmtempo alone runs, as text",
+        about: "Writes a small list in the text form, with comments, to be changed and run.",
+        flags: &[OUT],
+    },
+    Command {
+        name: "bench",
+        operand: "",
+        brief: "records a second, beside a plain model of the board",
+        about: "Times lists on the library and on a plain model of the same board: each kind of item, refusals,\n\
+                transactions with the clock chip, long waits, a mix, and calls with one item. The last line is\n\
+                for scripts: the ratios of the mix, of the worst list, and of calls with one item.",
+        flags: &[
+            Flag {
+                name: "--records",
+                value: "COUNT",
+                help: "records in each list (without it: 200000; at most 10000 with --instructions)",
+            },
+            Flag {
+                name: "--instructions",
+                value: "",
+                help: "counts instructions a record, by valgrind, which takes longer, in place of times",
+            },
+        ],
+    },
+    Command {
+        name: "man",
+        operand: "",
+        brief: "the man page",
+        about: "Writes the man page: swarmtempo man > swarmtempo.1 && man ./swarmtempo.1",
+        flags: &[OUT],
+    },
+    Command {
+        name: "completions",
+        operand: "SHELL",
+        brief: "completions for a shell: bash, zsh or fish",
+        about: "Writes completions. For bash, in ~/.bashrc: source <(swarmtempo completions bash). For zsh, to\n\
+                a file named _swarmtempo in a folder of $fpath. For fish, to\n\
+                ~/.config/fish/completions/swarmtempo.fish",
+        flags: &[OUT],
+    },
+    Command {
+        name: "help",
+        operand: "[COMMAND]",
+        brief: "this help, or a command's own",
+        about: "Shows all commands, or one command with its options, as COMMAND --help does.",
+        flags: &[],
+    },
+    Command {
+        name: "version",
+        operand: "",
+        brief: "the version",
+        about: "Shows the version, as -V and --version do.",
+        flags: &[],
+    },
+];
+
+/// The text form, the units and the statuses, for help and the man page.
+pub const TEXT_FORM: &str = "\
+12t WR VIA.ORB $41     0t RD $EFE1FE     12000us VB    0t SE     0t RS
+0t IN 3 1              0t SN internal 6 0              0t DI internal 1 0 1
+0t PW 5s               RAW 05 00                       ; comment
+";
+
+/// Units, in a sentence.
+pub const UNITS: &str = "\
+Time is in VIA ticks, 783,360 a second. In text a wait ends in t (VIA ticks) or us (microseconds,
+turned into VIA ticks and rounded up), a time off in s (seconds).";
+
+/// Statuses, in a sentence.
+pub const STATUSES: &str = "\
+Exit status of run: 0 at the end of the list, 1 a record is cut, 6 no room for an answer, 7 the image
+is none of an accepted state; with --strict the number of the first refusal. Of convert: 1 a
+record is cut. Of sheet: 1 a sheet is broken, 2 a setting is not set, 6 too little room. Of all commands: 64 wrong words, 65 an error in a
+text or a file of another kind, 74 a file cannot be read or written.";
+
+/// The group of a word.
+pub fn group(name: &str) -> Option<&'static Group> {
+    GROUPS.iter().find(|group| group.name == name)
+}
+
+/// The command of its name.
+pub fn find(name: &str) -> Option<&'static Command> {
+    COMMANDS.iter().find(|command| command.name == name)
+}

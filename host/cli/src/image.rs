@@ -1,0 +1,274 @@
+//! Images read, and what is wrong with one that is refused. The layout is that of docs/FORMATS.md.
+
+use super::contents::{looks, Looks};
+use super::failure::{failure, Failure};
+use super::place::Input;
+use std::io::Read;
+use swarmtempo::{Command, DiskLine, Machine};
+
+/// Lengths of older layouts in bytes, and what they are without.
+const OLDER: [(usize, &str); 2] = [
+    (98, "without the drives, the strobe and IN lines 5 and 6"),
+    (121, "without IN lines 5 and 6"),
+];
+/// VIA ticks of a step, and of a strobe where it stops growing.
+const STEP_TICKS: u32 = 9_401;
+const STROBE_TICKS: u32 = 391_680;
+
+/// The machine of an image.
+pub fn read(input: &Input, file: Box<dyn Read>) -> Result<Machine, Failure> {
+    let mut image = Vec::new();
+    let most = Machine::image_len() as u64 + 1;
+    file.take(most).read_to_end(&mut image).map_err(|error| failure(input, error))?;
+    Machine::from_image(&image).map_err(|refusal| {
+        let why = format!("{} (refusal {})", wrong(&image), refusal.number());
+        Failure::State(input.to_string(), why)
+    })
+}
+
+/// Why an image is refused.
+fn wrong(image: &[u8]) -> String {
+    let length = Machine::image_len();
+    let head = image.first_chunk::<2>().map(|&head| usize::from(u16::from_le_bytes(head)));
+    let older = OLDER.iter().find(|(old, _)| image.len() == *old && head == Some(old - 2));
+    if let Some((old, without)) = older.filter(|_| image[2..4] == *b"ST") {
+        format!("it is an image of an older layout, {old} bytes, {without}; it has to be {length} bytes")
+    } else if looks(image) == Looks::Text {
+        "it is a text".to_string()
+    } else if image.len() > length {
+        format!("it has more than {length} bytes")
+    } else if image.len() < length {
+        format!("it has {} bytes, an image has {length}", image.len())
+    } else {
+        first_wrong(image).unwrap_or_else(|| "a field is out of its range".to_string())
+    }
+}
+
+/// The first field of an image that is out of its range: its name, offset and value, and what is
+/// accepted there. None where all are in range. The image has its length.
+pub fn first_wrong(image: &[u8]) -> Option<String> {
+    let mut fields = Fields { image, offset: 0, wrong: None };
+    fields.head();
+    let enable = fields.via();
+    fields.clock(enable);
+    let strobing = fields.levels();
+    for drive in ["internal", "external"] {
+        fields.drive(drive);
+    }
+    fields.strobe(strobing);
+    fields.wrong
+}
+
+/// The fields of an image from its front on, up to the first wrong one.
+struct Fields<'a> {
+    image: &'a [u8],
+    offset: usize,
+    wrong: Option<String>,
+}
+
+impl Fields<'_> {
+    /// A field of so many bytes, and whether its value is accepted.
+    fn field(
+        &mut self,
+        name: &str,
+        bytes: usize,
+        accepted: &str,
+        fits: impl Fn(u32) -> bool,
+    ) -> u32 {
+        let taken = &self.image[self.offset..self.offset + bytes];
+        let value = taken.iter().rev().fold(0, |value, &byte| value << 8 | u32::from(byte));
+        if self.wrong.is_none() && !fits(value) {
+            let digits = 2 * bytes;
+            self.wrong = Some(format!(
+                "{name}, at offset {}, is {value} (${value:0digits$X}); accepted is {accepted}",
+                self.offset
+            ));
+        }
+        self.offset += bytes;
+        value
+    }
+
+    fn flag(&mut self, name: &str) -> bool {
+        self.field(name, 1, "0 or 1", |value| value <= 1) != 0
+    }
+
+    /// A flag that may be 1 only under a condition.
+    fn flag_if(&mut self, name: &str, allowed: bool, condition: &str) {
+        let accepted = format!("0 or 1, and 1 only {condition}");
+        self.field(name, 1, &accepted, |value| value == 0 || value == 1 && allowed);
+    }
+
+    fn any(&mut self, bytes: usize) {
+        self.offset += bytes;
+    }
+
+    fn head(&mut self) {
+        let rest = u32::try_from(self.image.len() - 2).unwrap_or(u32::MAX);
+        self.field("the length of what follows", 2, &rest.to_string(), |value| value == rest);
+        let kind = u32::from(u16::from_le_bytes(*b"ST"));
+        self.field("the kind", 2, "ST (83, 84)", |value| value == kind);
+    }
+
+    /// Gives the level of the clock's enable: bit 2 of port B, 1 where it is not driven.
+    fn via(&mut self) -> bool {
+        let (out, directions) = (self.image[self.offset], self.image[self.offset + 2]);
+        self.any(8);
+        self.flag("T1 armed");
+        self.flag("T1's load due");
+        self.any(3);
+        self.flag("T2 armed");
+        self.any(3);
+        self.field("the VIA's flags", 1, "0 to 127", |value| value < 128);
+        self.field("the VIA's enables", 1, "0 to 127", |value| value < 128);
+        out & 4 != 0 || directions & 4 == 0
+    }
+
+    fn clock(&mut self, enable: bool) {
+        let phase = if enable {
+            self.field("the clock's phase", 1, "0 while enable is 1", |value| value == 0)
+        } else {
+            self.field("the clock's phase", 1, "1 to 4 while enable is 0", |value| {
+                (1..=4).contains(&value)
+            })
+        };
+        let legal = |value: u32| {
+            let command = u8::try_from(value).ok().and_then(Command::of);
+            command.is_some_and(|command| !command.read)
+        };
+        match phase {
+            2 => self.field("the clock's command", 1, "a legal write command", legal),
+            _ => self.zero("the clock's command", phase),
+        };
+        let bits = match phase {
+            1 | 2 => self.field("the clock's bits taken", 1, "0 to 7", |value| value <= 7),
+            3 => self.field("the clock's falls seen", 1, "0 to 8", |value| value <= 8),
+            _ => self.zero("the clock's bits taken", phase),
+        };
+        match phase {
+            1 | 2 => {
+                let most = (1u32 << bits.min(7)) - 1;
+                let accepted = format!("0 to {most} with {bits} bits taken");
+                self.field("the value of the clock's bits", 1, &accepted, |value| value <= most);
+            }
+            3 => self.any(1),
+            _ => {
+                self.zero("the value of the clock's bits", phase);
+            }
+        }
+        self.flag("protect");
+        self.any(25);
+    }
+
+    fn zero(&mut self, name: &str, phase: u32) -> u32 {
+        self.field(name, 1, &format!("0 in phase {phase}"), |value| value == 0)
+    }
+
+    /// Gives whether LSTRB and ENABLE are on.
+    fn levels(&mut self) -> bool {
+        let on = DiskLine::ALL.map(|line| self.flag(&format!("disk line {}", line.name())));
+        for line in 0..7 {
+            self.flag(&format!("IN line {line}"));
+        }
+        for drive in ["internal", "external"] {
+            for register in 0..16 {
+                self.flag(&format!("sense register {register} of the {drive} drive"));
+            }
+        }
+        on[DiskLine::LSTRB.index()] && on[DiskLine::ENABLE.index()]
+    }
+
+    fn drive(&mut self, drive: &str) {
+        let of = |what: &str| format!("{what} of the {drive} drive");
+        self.field(&of("the track"), 1, "0 to 79", |value| value <= 79);
+        self.flag(&of("the direction"));
+        let disk = self.flag(&of("the disk"));
+        self.flag_if(&of("the disk's lock"), disk, "with a disk");
+        self.flag(&of("the double-sided flag"));
+        self.flag_if(&of("the motor"), disk, "with a disk");
+        let accepted = format!("0 to {STEP_TICKS} VIA ticks");
+        let left =
+            self.field(&of("the time left of the step"), 2, &accepted, |value| value <= STEP_TICKS);
+        self.flag_if(&of("the direction of the step"), left > 0, "while a step is pending");
+    }
+
+    fn strobe(&mut self, strobing: bool) {
+        let steady = self.image[self.offset + 4] != 0;
+        let most = if steady { STROBE_TICKS } else { 0 };
+        let accepted = format!("0 to {STROBE_TICKS} VIA ticks, and 0 unless it is steady");
+        self.field("the time of the strobe", 4, &accepted, |value| value <= most);
+        self.flag_if("the strobe's steadiness", strobing, "while LSTRB and ENABLE are on");
+    }
+}
+
+#[cfg(test)]
+mod tests {
+    use super::*;
+
+    /// Every byte of several images, with values at every end of a range and, in the clock's phase,
+    /// with all values: refused exactly where a field is named.
+    #[test]
+    fn a_field_is_named_exactly_where_an_image_is_refused() {
+        let texts = [
+            "",
+            "0t WR VIA.ORB $04\n0t WR VIA.DDRB $07\n0t WR VIA.ORB $00\n1t WR VIA.ORB 2",
+            include_str!("../../captures/cell.txt"),
+            include_str!("../../captures/seek.txt"),
+        ];
+        for text in texts {
+            let lines: Vec<&str> = text.lines().collect();
+            for part in [lines.len() / 4, lines.len() / 2, 3 * lines.len() / 4, lines.len()] {
+                let list = swarmtempo::text::assemble(&lines[..part].join("\n")).expect("text");
+                let mut machine = Machine::fresh();
+                assert!(machine.run(&list, &mut Vec::new()).at_end());
+                every_byte(machine.image());
+            }
+        }
+    }
+
+    fn every_byte(image: &[u8]) {
+        assert_eq!(first_wrong(image), None);
+        let ends = [0, 1, 2, 8, 9, 36, 37, 79, 80, 83, 84, 121, 127, 128, 185, 186, 255];
+        for offset in 0..image.len() {
+            let in_phase = (23..27).contains(&offset);
+            for value in (0..=255).filter(|value| in_phase || ends.contains(value)) {
+                let mut changed = image.to_vec();
+                changed[offset] = value;
+                let wrong = first_wrong(&changed);
+                let accepted = Machine::from_image(&changed).is_ok();
+                assert_eq!(wrong.is_none(), accepted, "offset {offset}, {value}: {wrong:?}");
+            }
+        }
+    }
+
+    #[test]
+    fn a_wrong_field_has_name_offset_and_value() {
+        let image = Machine::fresh().image().to_vec();
+        for (offset, value, words) in [
+            (0, 120, "the length of what follows, at offset 0, is 120 ($0078); accepted is 121"),
+            (3, 88, "the kind, at offset 2, is 22611 ($5853); accepted is ST (83, 84)"),
+            (12, 2, "T1 armed, at offset 12, is 2 ($02); accepted is 0 or 1"),
+            (23, 1, "the clock's phase, at offset 23, is 1 ($01); accepted is 0 while enable is 1"),
+            (100, 80, "the track of the internal drive, at offset 100, is 80 ($50)"),
+            (112, 1, "the disk's lock of the external drive, at offset 112, is 1 ($01)"),
+            (118, 1, "the time of the strobe, at offset 118, is 1 ($00000001)"),
+            (122, 1, "the strobe's steadiness, at offset 122, is 1 ($01)"),
+        ] {
+            let mut changed = image.clone();
+            changed[offset] = value;
+            let wrong = first_wrong(&changed).expect("refused");
+            assert!(wrong.starts_with(words), "{wrong}");
+        }
+    }
+
+    #[test]
+    fn older_layouts_are_named() {
+        for old in [98u8, 121] {
+            let mut image = vec![0; old.into()];
+            image[..4].copy_from_slice(&[old - 2, 0, b'S', b'T']);
+            assert!(wrong(&image)
+                .starts_with(&format!("it is an image of an older layout, {old} bytes")));
+            image[0] = 1;
+            assert_eq!(wrong(&image), format!("it has {old} bytes, an image has 123"));
+        }
+    }
+}

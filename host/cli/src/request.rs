@@ -1,0 +1,98 @@
+//! What the words of `swarmtempo run` ask for.
+
+use super::conflicts::Uses;
+use super::failure::Failure;
+use super::place::{Input, Output};
+use super::style::When;
+use super::words::Given;
+
+/// What the words say of the list.
+#[derive(Clone, Copy, PartialEq, Eq)]
+pub enum Form {
+    /// Records; a text is refused.
+    Unsaid,
+    /// Records, whatever they look like.
+    Records,
+    /// A text.
+    Text,
+}
+
+/// The words of the command.
+pub struct Options {
+    /// What the list is.
+    pub form: Form,
+    /// No table, and no summary where nothing is refused.
+    pub quiet: bool,
+    /// A refusal is a status.
+    pub strict: bool,
+    /// Whether there are colours.
+    pub colour: When,
+    /// The image to begin with.
+    pub image: Option<Input>,
+    /// Where the image reached goes.
+    pub save: Option<Output>,
+    /// Where the answers go, as bytes.
+    pub answers: Option<Output>,
+    /// Where the dump goes.
+    pub vcd: Option<Output>,
+    /// Answer bytes in all.
+    pub room: Option<u64>,
+    /// The list.
+    pub list: Input,
+}
+
+impl Options {
+    /// From the command's words; words that name one file twice are refused.
+    pub fn of(given: &Given) -> Result<Options, Failure> {
+        let output = |name: &str| given.value(name).map(Output::of);
+        let colour = given.value("--color").map_or(Some(When::Auto), |word| When::of(&word));
+        let options = Options {
+            form: match (given.flag("--text"), given.flag("--records")) {
+                (true, true) => {
+                    let what = "--text and --records: the list is one of them";
+                    return Err(Failure::usage("run", what));
+                }
+                (true, false) => Form::Text,
+                (false, true) => Form::Records,
+                (false, false) => Form::Unsaid,
+            },
+            quiet: given.flag("--quiet"),
+            strict: given.flag("--strict"),
+            colour: colour
+                .ok_or_else(|| Failure::usage("run", "--color needs always, never or auto"))?,
+            image: given.value("--image").map(Input::of),
+            save: output("--save"),
+            answers: output("--answers"),
+            vcd: output("--vcd"),
+            room: given.number("--room")?,
+            list: Input::of(given.need()?),
+        };
+        options.uses().check()?;
+        Ok(options)
+    }
+
+    /// True where a table is shown.
+    pub fn table(&self) -> bool {
+        self.answers.is_none() && !self.quiet
+    }
+
+    /// What is read, and what is written.
+    fn uses(&self) -> Uses {
+        let mut uses = Uses::of("run");
+        uses.reads("LIST", &self.list);
+        if let Some(image) = &self.image {
+            uses.reads("--image", image);
+        }
+        if self.table() {
+            uses.writes("the table of answers (which --quiet leaves out)", &Output::standard());
+        }
+        for (word, output) in
+            [("--answers", &self.answers), ("--vcd", &self.vcd), ("--save", &self.save)]
+        {
+            if let Some(output) = output {
+                uses.writes(word, output);
+            }
+        }
+        uses
+    }
+}

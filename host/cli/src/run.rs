@@ -1,0 +1,248 @@
+//! `swarmtempo run`: a list streamed through the machine in fixed memory.
+
+use super::contents::{self, Sampled};
+use super::failure::{failure, Failure};
+use super::files::{self, say, Out};
+use super::lines::{list_failure, Lines};
+use super::place::Output;
+use super::progress::Progress;
+use super::request::{Form, Options};
+use super::style::Style;
+use super::summary::{End, Summary};
+use super::{image, source};
+use std::io::{self, Read};
+use swarmtempo::table::{Table, HEAD};
+use swarmtempo::vcd::Vcd;
+use swarmtempo::{pieces, Chunks, Machine, Piece, Refusal, ANSWER_LEN};
+
+/// What to do with records that come as a text.
+const RECORDS: &str = "records are run without --text";
+/// Bytes of rows gathered before they are written.
+const ROWS_LEN: usize = 1 << 15;
+
+/// Runs, and gives the exit status.
+pub fn run(options: &Options) -> Result<u8, Failure> {
+    let list = source::open(&options.list)?;
+    let image = options.image.as_ref().map(|input| Ok((input, source::open(input)?)));
+    let image = image.transpose()?;
+    let outs = Outs::open(options)?;
+    let machine = match image {
+        Some((input, file)) => image::read(input, file)?,
+        None => Machine::fresh(),
+    };
+    if options.form == Form::Text && source::length(&options.list).is_some() {
+        // The whole text first, so that nothing is run where a line is wrong.
+        let mut text = Lines::new(&options.list, source::open(&options.list)?, RECORDS)?;
+        text.pour(&options.list, |_| Ok(()))?;
+    }
+    let list = List::of(options, list)?;
+    let mut runner = Runner::new(options, machine, outs)?;
+    runner.stream(list, options)?;
+    runner.close(options)
+}
+
+/// A list, as its records.
+enum List {
+    Records(Sampled),
+    Text(Box<Lines>),
+}
+
+impl List {
+    fn of(options: &Options, file: Box<dyn Read>) -> Result<List, Failure> {
+        let input = &options.list;
+        Ok(match options.form {
+            Form::Text => List::Text(Box::new(Lines::new(input, file, RECORDS)?)),
+            Form::Records => List::Records(contents::sample(input, file)?.1),
+            Form::Unsaid => List::Records(contents::records(input, file, "run it with --text")?),
+        })
+    }
+}
+
+impl Read for List {
+    fn read(&mut self, buffer: &mut [u8]) -> io::Result<usize> {
+        match self {
+            List::Records(records) => records.read(buffer),
+            List::Text(lines) => lines.read(buffer),
+        }
+    }
+}
+
+/// Where everything goes.
+struct Outs {
+    table: Option<Out>,
+    answers: Option<Out>,
+    vcd: Option<Out>,
+    save: Option<Out>,
+}
+
+impl Outs {
+    fn open(options: &Options) -> Result<Outs, Failure> {
+        Ok(Outs {
+            table: options.table().then(|| Out::text(&Output::standard())).transpose()?,
+            answers: options.answers.as_ref().map(Out::bytes).transpose()?,
+            vcd: options.vcd.as_ref().map(Out::text).transpose()?,
+            save: options.save.as_ref().map(Out::bytes).transpose()?,
+        })
+    }
+}
+
+struct Runner {
+    machine: Machine,
+    answers: Option<Out>,
+    table: Option<Out>,
+    rows: Table,
+    style: Style,
+    vcd: Option<Vcd<Out>>,
+    save: Option<Out>,
+    summary: Summary,
+    /// Answer bytes left.
+    room: u64,
+    stop: Option<Refusal>,
+    consumed: u64,
+    written: u64,
+}
+
+impl Runner {
+    fn new(options: &Options, machine: Machine, outs: Outs) -> Result<Runner, Failure> {
+        let vcd = match outs.vcd {
+            Some(out) => Some(Vcd::new(out, machine.state()).map_err(|e| of_dump(options, e))?),
+            None => None,
+        };
+        Ok(Runner {
+            summary: Summary::new(machine.state()),
+            machine,
+            answers: outs.answers,
+            table: outs.table,
+            rows: Table::default(),
+            style: Style::of_output(options.colour),
+            vcd,
+            save: outs.save,
+            room: options.room.unwrap_or(u64::MAX),
+            stop: None,
+            consumed: 0,
+            written: 0,
+        })
+    }
+
+    fn stream(&mut self, list: List, options: &Options) -> Result<(), Failure> {
+        let text = options.form == Form::Text;
+        let total = if text { None } else { source::length(&options.list) };
+        let mut progress = Progress::new(options.table(), total);
+        let mut chunks = Chunks::new(list);
+        let mut buffer = Vec::new();
+        if let Some(table) = &mut self.table {
+            table.put(self.style.heading(HEAD).as_bytes())?;
+        }
+        while self.stop.is_none() {
+            let chunk = chunks.next().map_err(|error| {
+                progress.clear();
+                list_failure(&options.list, error)
+            })?;
+            let Some(chunk) = chunk else {
+                break;
+            };
+            self.chunk(chunk, &mut buffer, options)?;
+            if let List::Text(lines) = chunks.source_mut() {
+                self.summary.find_lines(|offset| lines.line_at(offset));
+                self.summary.converted = lines.converted();
+                lines.forget(self.consumed);
+            }
+            progress.show(self.consumed, self.written / ANSWER_LEN as u64);
+        }
+        progress.clear();
+        Ok(())
+    }
+
+    /// A chunk of the list; with a dump one record at a time, to see the wires after each.
+    fn chunk(
+        &mut self,
+        chunk: &[u8],
+        buffer: &mut Vec<u8>,
+        options: &Options,
+    ) -> Result<(), Failure> {
+        if self.vcd.is_none() {
+            return self.step(chunk, buffer);
+        }
+        for piece in pieces(chunk) {
+            self.step(piece.as_ref(), buffer)?;
+            self.watch(piece, buffer).map_err(|error| of_dump(options, error))?;
+            if self.stop.is_some() {
+                break;
+            }
+        }
+        Ok(())
+    }
+
+    /// Runs a part of the list; its answers are left in `buffer`.
+    fn step(&mut self, part: &[u8], buffer: &mut Vec<u8>) -> Result<(), Failure> {
+        let wanted = ANSWER_LEN * pieces(part).count();
+        buffer.clear();
+        buffer.resize(wanted.min(usize::try_from(self.room).unwrap_or(usize::MAX)), 0);
+        let run = self.machine.run_in(part, buffer);
+        buffer.truncate(run.written);
+        self.show(part, buffer)?;
+        self.stop = run.stop;
+        self.consumed += run.consumed as u64;
+        self.written += run.written as u64;
+        self.room -= run.written as u64;
+        if let Some(answers) = &mut self.answers {
+            answers.put(buffer)?;
+        }
+        Ok(())
+    }
+
+    /// The answers to a part of the list, counted, and as rows of the table.
+    fn show(&mut self, part: &[u8], answers: &[u8]) -> Result<(), Failure> {
+        let mut offset = self.consumed;
+        let mut rows = String::new();
+        for (piece, answer) in pieces(part).zip(answers.as_chunks::<ANSWER_LEN>().0) {
+            self.summary.note(piece, *answer, offset);
+            offset += piece.as_ref().len() as u64;
+            let Some(table) = &mut self.table else {
+                continue;
+            };
+            let start = rows.len();
+            self.rows.row(piece, answer, &mut rows);
+            if answer[2..4] != *b"OK" {
+                let row = self.style.refused(&rows[start..]);
+                rows.replace_range(start.., &row);
+            }
+            if rows.len() > ROWS_LEN {
+                table.put(rows.as_bytes())?;
+                rows.clear();
+            }
+        }
+        self.table.iter_mut().try_for_each(|table| table.put(rows.as_bytes()))
+    }
+
+    /// A record and its answer, for the dump.
+    fn watch(&mut self, piece: Piece<'_>, answer: &[u8]) -> io::Result<()> {
+        let (Some(vcd), Some(answer)) = (&mut self.vcd, answer.first_chunk::<ANSWER_LEN>()) else {
+            return Ok(());
+        };
+        vcd.record(piece, answer, self.machine.state())
+    }
+
+    /// Files take their places; the summary.
+    fn close(mut self, options: &Options) -> Result<u8, Failure> {
+        if let Some(save) = &mut self.save {
+            save.put(self.machine.image())?;
+        }
+        let vcd = self.vcd.map(Vcd::finish).transpose().map_err(|error| of_dump(options, error))?;
+        files::keep([self.table, self.answers, vcd, self.save].into_iter().flatten())?;
+        let number = self.stop.map_or(0, Refusal::number);
+        let refusal = self.summary.first_refusal();
+        if !options.quiet || number != 0 || refusal != 0 {
+            let (consumed, written) = (self.consumed, self.written);
+            let end = End { stop: self.stop, consumed, written, state: &self.machine.state() };
+            say(self.summary.text(&end, Style::of_errors(options.colour)).trim_end());
+        }
+        Ok(if number == 0 && options.strict { refusal } else { number })
+    }
+}
+
+/// An error of writing the dump.
+fn of_dump(options: &Options, error: io::Error) -> Failure {
+    let name = options.vcd.as_ref().map_or(String::new(), ToString::to_string);
+    failure(name, error)
+}

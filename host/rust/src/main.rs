@@ -1,7 +1,0 @@
-//! The command line. See `swarmtempo help`.
-
-mod cli;
-
-fn main() -> std::process::ExitCode {
-    cli::main()
-}

@@ -1,0 +1,64 @@
+//! Answers for people, as a table.
+//!
+//! A row has the item's number in the list, counted from 1; the VIA ticks that the waits of the items
+//! done so far come to; the record; and its answer.
+//!
+//! ```
+//! use swarmtempo::table::{Table, HEAD};
+//! use swarmtempo::{pieces, List, Machine, ANSWER_LEN};
+//!
+//! let list: List = "12t RD VIA.ORB".parse()?;
+//! let mut answers = Vec::new();
+//! Machine::fresh().run(&list, &mut answers);
+//! let mut text = HEAD.to_string();
+//! let mut table = Table::default();
+//! for (piece, answer) in pieces(list.as_ref()).zip(answers.as_chunks::<ANSWER_LEN>().0) {
+//!     table.row(piece, answer, &mut text);
+//! }
+//! let row = "       1             12  12t RD VIA.ORB                   $FF      0    1  -";
+//! assert_eq!(text.lines().nth(1), Some(row));
+//! # Ok::<(), swarmtempo::text::TextError>(())
+//! ```
+
+use crate::{Answer, Item, Piece, Timed, ANSWER_LEN};
+
+/// The heading.
+pub const HEAD: &str =
+    "    item      VIA ticks  record                         value  level  SEL  lines on\n";
+
+/// Counts items and VIA ticks, and writes rows.
+#[derive(Clone, Debug, Default)]
+pub struct Table {
+    item: u64,
+    /// VIA ticks.
+    ticks: u64,
+}
+
+impl Table {
+    /// Appends the row of a piece of a list and its answer.
+    pub fn row(&mut self, piece: Piece<'_>, answer: &[u8; ANSWER_LEN], out: &mut String) {
+        self.item += 1;
+        let item = Timed::try_from(piece);
+        let answer = Answer::read(answer).ok_or(answer);
+        if let (Ok(timed), Ok(Answer::Ok(_))) = (item, answer) {
+            self.ticks += u64::from(timed.wait.0);
+        }
+        let record = item.map_or_else(|_| raw(piece.as_ref()), |timed| timed.to_string());
+        let seen = match (item, answer) {
+            (Ok(timed), Ok(Answer::Ok(seen))) => {
+                let read = matches!(timed.item, Item::Read(_));
+                let value = if read { format!("${:02X}", seen.value) } else { "-".into() };
+                let sel = u8::from(seen.sel);
+                format!("{value:>5}  {:>5}  {sel:>3}  {}", seen.level, seen.lines)
+            }
+            (_, Ok(answer)) => answer.to_string(),
+            (_, Err(bytes)) => format!("{bytes:02X?}"),
+        };
+        out.push_str(&format!("{:>8}  {:>13}  {record:<30} {seen}\n", self.item, self.ticks));
+    }
+}
+
+fn raw(bytes: &[u8]) -> String {
+    let shown: Vec<String> = bytes.iter().take(8).map(|byte| format!("{byte:02X}")).collect();
+    format!("RAW {}{}", shown.join(" "), if bytes.len() > 8 { " .." } else { "" })
+}
