@@ -1,33 +1,34 @@
+use Prim.Native.Nat.{ℕ, _-_}
+use mathlib.Core.Path.{_≡_, ap, _∙_}
+use lib.ListN.{take}
+use denote.Ref.{now}
+use Rattle.octets.specs.Octets.{putAt}
+use native.Mathlib.Omega.{arith}
+use Rattle.image_spec.specs.Layout.{tailAt}
 use borrow.Author.Needs.{needs}
 use Rattle.image_clock.proofs.put_part.Statement.{statement}
 use Rattle.image_clock.proofs.put_part.Tie as tie
-use Rattle.image_clock.proofs.put_part.Reads as reads
-use Rattle.image_clock.proofs.put_part.Lts as lts
-use Rattle.octets.proofs.copy.Reads as copy-reads
 
--- src/lib.rt:180:31
 sub-copy : tie.Need-sub-copy
 sub-copy c = search needs
 
--- src/lib.rt:180:31
 part-copy-start : tie.Need-part-copy-start
 part-copy-start c = search needs
 
--- src/lib.rt:180:31
 part-copy-end : tie.Need-part-copy-end
 part-copy-end c = search needs
 
--- src/lib.rt:180:5
 copy-requires : tie.Need-copy-requires
 copy-requires c κs = search needs
 
--- src/lib.rt:175:1
 same-length : tie.Need-same-length
 same-length c = search needs
 
--- src/lib.rt:175:1
 returns : tie.Need-returns
-returns c = ?
+returns c =
+    let a = c .before .before .before .before .before .before .before .args in
+    let e : a .n - 0 ≡ a .n = omega arith in
+    c .before .before .copy .ensures ∙ ap (λ (j : ℕ). putAt (now (a .image)) tailAt (take j (now (a .tail)))) e
 
 pub put-part-spec : {M : Type 1} → statement M
 put-part-spec =

@@ -1,45 +1,38 @@
+use Rattle.image_spec.specs.ClockLayout.{secondByte}
 use borrow.Author.Needs.{needs}
 use Rattle.image_clock.proofs.second_byte.Statement.{statement}
 use Rattle.image_clock.proofs.second_byte.Tie as tie
-use Rattle.image_clock.proofs.second_byte.Reads as reads
-use Rattle.image_clock.proofs.second_byte.Lts as lts
-use Rattle.image_clock.proofs.second_in.Reads as second-in-reads
 
--- src/lib.rt:64:24
 enum-told : tie.Need-enum-told
 enum-told c = search needs
 
--- src/lib.rt:66:13
 enum-known-p : tie.Need-enum-known-p
 enum-known-p c = search needs
 
--- src/lib.rt:69:14
 second-in-requires : tie.Need-second-in-requires
 second-in-requires c κs = search needs
 
--- src/lib.rt:70:49
 enum-told-2 : tie.Need-enum-told-2
 enum-told-2 c = search needs
 
--- src/lib.rt:71:28
 enum-told-3 : tie.Need-enum-told-3
 enum-told-3 c = search needs
 
--- src/lib.rt:60:1
 returns : tie.Need-returns
-returns c = ?
+unfolding secondByte
+returns c = simp (c .enum-told .given .1)
 
--- src/lib.rt:60:1
 returns-2 : tie.Need-returns-2
-returns-2 c = ?
+unfolding secondByte
+returns-2 c = simp (c .before .before .p .given .1, c .second-in .ensures)
 
--- src/lib.rt:60:1
 returns-3 : tie.Need-returns-3
-returns-3 c = ?
+unfolding secondByte
+returns-3 c = simp (c .enum-told2 .given .1)
 
--- src/lib.rt:60:1
 returns-4 : tie.Need-returns-4
-returns-4 c = ?
+unfolding secondByte
+returns-4 c = simp (c .enum-told3 .given .1)
 
 pub second-byte-spec : {M : Type 1} → statement M
 second-byte-spec =

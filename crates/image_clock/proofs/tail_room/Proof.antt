@@ -1,42 +1,46 @@
+use lib.ListN.{length}
+use Prim.Native.Nat.{ℕ, _+_, _-_}
+use mathlib.Core.Path.{ap, ap₂, _∙_}
+use mathlib.Core.List.{List, [], _∷_, _++_}
+use lib.ListN.{set}
+use lib.ListN.{drop, replicate, length-drop, length-replicate}
+use lib.Seq.{take-all}
+use denote.Ref.{now}
+use native.Mathlib.Omega.{arith}
+use Rattle.image_spec.specs.Layout.{cellsLength, moreCells}
+use Rattle.image_spec.specs.ClockLayout.{secondByte}
+use Rattle.image_clock.proofs.Laws.{tail-joined}
 use borrow.Author.Needs.{needs}
 use Rattle.image_clock.proofs.tail_room.Statement.{statement}
 use Rattle.image_clock.proofs.tail_room.Tie as tie
-use Rattle.image_clock.proofs.tail_room.Reads as reads
-use Rattle.image_clock.proofs.tail_room.Lts as lts
-use Rattle.image_clock.proofs.second_byte.Reads as second-byte-reads
-use Rattle.octets.proofs.copy.Reads as copy-reads
 
--- src/lib.rt:170:18
 slice-aggregate-copy : tie.Need-slice-aggregate-copy
 slice-aggregate-copy c = search needs
 
--- src/lib.rt:170:31
 sub-copy : tie.Need-sub-copy
 sub-copy c = search needs
 
--- src/lib.rt:170:31
 part-copy-start : tie.Need-part-copy-start
 part-copy-start c = search needs
 
--- src/lib.rt:170:31
 part-copy-end : tie.Need-part-copy-end
 part-copy-end c = search needs
 
--- src/lib.rt:170:5
 copy-requires : tie.Need-copy-requires
 copy-requires c κs = search needs
 
--- src/lib.rt:171:23
 second-byte-requires : tie.Need-second-byte-requires
 second-byte-requires c κs = search needs
 
--- src/lib.rt:171:5
 array-write-own : tie.Need-array-write-own
 array-write-own c = search needs
 
--- src/lib.rt:165:1
 returns : tie.Need-returns
-returns c = ?
+returns c =
+    let a = c .before .before .before .before .before .before .args in
+    ap₂ (λ (l : List ℕ) (b : ℕ). set l moreCells b) (c .before .before .copy .ensures) (c .second-byte .ensures)
+    ∙ tail-joined (replicate (moreCells + 1) 0) _ (secondByte (a .p)) (length-replicate {A = ℕ} (moreCells + 1) 0) (search needs)
+    ∙ ap (λ (x : List ℕ). x ++ (secondByte (a .p) ∷ [])) (take-all (length (now (a .cells)) - cellsLength) (drop cellsLength (now (a .cells))) (omega (arith, length-drop cellsLength (now (a .cells)))))
 
 pub tail-room-spec : {M : Type 1} → statement M
 tail-room-spec =
