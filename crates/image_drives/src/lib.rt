@@ -11,7 +11,7 @@ use disk_spec::Strobe;
 use image_layout::DRIVE_LENGTH;
 use image_layout::EXTERNAL;
 use image_layout::INTERNAL;
-use image_layout::LENGTH;
+use image_layout::TAIL;
 use image_layout::STROBE;
 use image_layout::STROBE_LENGTH;
 
@@ -109,6 +109,6 @@ pub fn drives(image: &[u8]) -> Drives
     Drives {
         internal: drive(&image[INTERNAL..EXTERNAL]),
         external: drive(&image[EXTERNAL..STROBE]),
-        strobe: strobe(&image[STROBE..LENGTH]),
+        strobe: strobe(&image[STROBE..TAIL]),
     }
 }

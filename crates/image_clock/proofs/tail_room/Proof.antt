@@ -1,9 +1,7 @@
-use lib.ListN.{length}
 use Prim.Native.Nat.{ℕ, _+_, _-_}
-use mathlib.Core.Path.{ap, ap₂, _∙_}
+use mathlib.Core.Path.{_≡_, ap, ap₂, _∙_}
+use lib.ListN.{length, take, drop, set, replicate, length-drop, length-replicate}
 use mathlib.Core.List.{List, [], _∷_, _++_}
-use lib.ListN.{set}
-use lib.ListN.{drop, replicate, length-drop, length-replicate}
 use lib.Seq.{take-all}
 use denote.Ref.{now}
 use native.Mathlib.Omega.{arith}
@@ -38,9 +36,13 @@ array-write-own c = search needs
 returns : tie.Need-returns
 returns c =
     let a = c .before .before .before .before .before .before .args in
+    let all = drop cellsLength (now (a .cells)) in
+    let x = take (length (now (a .cells)) - cellsLength) all in
+    let m : length all ≡ moreCells = omega (arith, length-drop cellsLength (now (a .cells)), c .before .before .before .before .before .before .pre) in
+    let e : x ≡ all = take-all (length (now (a .cells)) - cellsLength) all (omega (arith, length-drop cellsLength (now (a .cells)))) in
     ap₂ (λ (l : List ℕ) (b : ℕ). set l moreCells b) (c .before .before .copy .ensures) (c .second-byte .ensures)
-    ∙ tail-joined (replicate (moreCells + 1) 0) _ (secondByte (a .p)) (length-replicate {A = ℕ} (moreCells + 1) 0) (search needs)
-    ∙ ap (λ (x : List ℕ). x ++ (secondByte (a .p) ∷ [])) (take-all (length (now (a .cells)) - cellsLength) (drop cellsLength (now (a .cells))) (omega (arith, length-drop cellsLength (now (a .cells)))))
+    ∙ tail-joined (replicate (moreCells + 1) 0) x (secondByte (a .p)) (length-replicate {A = ℕ} (moreCells + 1) 0) (ap length e ∙ m)
+    ∙ ap (λ (x : List ℕ). x ++ (secondByte (a .p) ∷ [])) e
 
 pub tail-room-spec : {M : Type 1} → statement M
 tail-room-spec =
