@@ -1,26 +1,20 @@
+use mathlib.Core.Path.{_∙_}
+use Rattle.image_spec.proofs.Round.{valid-is}
 use borrow.Author.Needs.{needs}
 use Rattle.image.proofs.restored.Statement.{statement}
 use Rattle.image.proofs.restored.Tie as tie
-use Rattle.image.proofs.restored.Reads as reads
-use Rattle.image.proofs.restored.Lts as lts
-use Rattle.image.proofs.load.Reads as load-reads
-use Rattle.image.proofs.save.Reads as save-reads
 
--- src/lib.rt:63:5
 save-requires : tie.Need-save-requires
 save-requires c κs = search needs
 
--- src/lib.rt:64:5
 load-requires : tie.Need-load-requires
-load-requires c κs = ?
+load-requires c κs = valid-is _ (c .before .before .before .save .ensures .1 .1 (c .before .before .before .before .before .before .pre .1)) .long
 
--- src/lib.rt:57:1
 same-length : tie.Need-same-length
 same-length c = search needs
 
--- src/lib.rt:57:1
 returns : tie.Need-returns
-returns c = ?
+returns c = (c .load .ensures ∙ c .before .before .before .before .save .ensures .1 .0 (c .before .before .before .before .before .before .before .pre .1), c .before .before .before .before .save .ensures .0)
 
 pub restored-spec : {M : Type 1} → statement M
 restored-spec = tie.close (tie.spec save-requires load-requires same-length returns)

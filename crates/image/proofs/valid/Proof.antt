@@ -1,39 +1,45 @@
+use mathlib.Core.Path.{_≡_, refl, sym, ap, _∙_}
+use borrow.Author.Tests.{lt-ltb, le-ltb, eq-eqb, ne-eqb}
+use denote.Ref.{now}
+use Rattle.image_spec.specs.Image.{imageLength, validImage}
+use Rattle.image_spec.specs.Layout.{chipOf}
+use native.Mathlib.Omega.{arith}
+use Rattle.image_spec.proofs.ClockBack.{tail-most}
 use borrow.Author.Needs.{needs}
 use Rattle.image.proofs.valid.Statement.{statement}
 use Rattle.image.proofs.valid.Tie as tie
-use Rattle.image.proofs.valid.Reads as reads
-use Rattle.image.proofs.valid.Lts as lts
-use Rattle.image.proofs.judged.Reads as judged-reads
-use Rattle.image_layout.proofs.chip_of.Reads as chip-of-reads
-use Rattle.image_layout.proofs.image_length.Reads as image-length-reads
 
--- src/lib.rt:95:9
 returns : tie.Need-returns
-returns c = ?
+unfolding validImage
+returns c = simp (lt-ltb _ _ (c .if1 .taken))
 
--- src/lib.rt:97:9
 chip-of-requires : tie.Need-chip-of-requires
 chip-of-requires c κs = search needs
 
--- src/lib.rt:98:13
 image-length-requires : tie.Need-image-length-requires
 image-length-requires c κs = search needs
 
--- src/lib.rt:99:9
 returns-2 : tie.Need-returns-2
-returns-2 c = ?
+unfolding validImage
+returns-2 c =
+    let l : c .before .image-length .result ≡ imageLength (chipOf (now (c .before .before .before .before .before .args .image))) = c .before .image-length .ensures ∙ ap imageLength (c .before .before .chip-of .ensures) in
+    simp (le-ltb _ _ (c .before .before .before .if1 .left), ne-eqb _ _ (λ e. c .if2 .taken (e ∙ sym l)))
 
--- src/lib.rt:102:19
 slice-aggregate-judged : tie.Need-slice-aggregate-judged
 slice-aggregate-judged c = search needs
 
--- src/lib.rt:102:5
 judged-requires : tie.Need-judged-requires
-judged-requires c κs = ?
+judged-requires c κs =
+    let l : c .before .before .image-length .result ≡ imageLength (chipOf (now (c .before .before .before .before .before .before .args .image))) = c .before .before .image-length .ensures ∙ ap imageLength (c .before .before .before .chip-of .ensures) in
+    let n = c .before .if2 .left ∙ l in
+    (n, (refl, omega (arith, n, tail-most (chipOf (now (c .before .before .before .before .before .before .args .image))))))
 
--- src/lib.rt:90:1
 returns-3 : tie.Need-returns-3
-returns-3 c = ?
+unfolding validImage
+returns-3 c =
+    let l : c .before .before .before .before .image-length .result ≡ imageLength (chipOf (now (c .before .before .before .before .before .before .before .before .args .image))) = c .before .before .before .before .image-length .ensures ∙ ap imageLength (c .before .before .before .before .before .chip-of .ensures) in
+    c .before .judged .ensures
+    ∙ simp (le-ltb _ _ (c .before .before .before .before .before .before .if1 .left), eq-eqb _ _ (c .before .before .before .if2 .left ∙ l))
 
 pub valid-spec : {M : Type 1} → statement M
 valid-spec =
