@@ -55,7 +55,7 @@ parts : (m : Machine) → Typed m → cut viaAt (lengths (m .clock .store .chip)
 unfolding imageOf headBytes
 parts m t = parted viaAt (headBytes (m .clock .store .chip)) (lengths (m .clock .store .chip)) (partsOf m) refl (sized m t)
 
-image-long : (m : Machine) → Typed m → length (imageOf m) ≡ imageLength (m .clock .store .chip)
+pub image-long : (m : Machine) → Typed m → length (imageOf m) ≡ imageLength (m .clock .store .chip)
 unfolding imageOf headBytes
 image-long m t =
     let h : List ℕ = headBytes (m .clock .store .chip) in
