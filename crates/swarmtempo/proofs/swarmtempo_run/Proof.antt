@@ -1,5 +1,6 @@
 use Rattle.image_spec.specs.Image.{imageLength, validImage}
 use lib.ListN.{length}
+use Rattle.image_spec.specs.Layout.{chipOf}
 use Rattle.image_spec.proofs.Round.{valid-is}
 use mathlib.Core.Bool.{true, false}
 use Rattle.entry_spec.proofs.Entry as call
@@ -20,7 +21,7 @@ use Rattle.run.proofs.run.Reads as run-reads
 good : (c : tie.Else1) → validImage (now (c .before .before .before .before .before .before .args .image)) ≡ true
 good c = sym (c .before .valid .ensures) ∙ not-false _ (c .if1 .left)
 
-whole : (c : tie.Else1) → length (now (c .before .before .before .before .before .before .args .image)) ≡ imageLength
+whole : (c : tie.Else1) → length (now (c .before .before .before .before .before .before .args .image)) ≡ imageLength (chipOf (now (c .before .before .before .before .before .before .args .image)))
 whole c = valid-is _ (good c) .long
 
 valid-requires : tie.Need-valid-requires
