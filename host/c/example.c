@@ -16,7 +16,7 @@ static void send(unsigned byte) { for (int i = 7; i >= 0; i--) wr(0, byte >> i &
 int main(void)
 {
     unsigned value = 0;
-    if (swarmtempo_fresh(image, sizeof image) != 0) return 1;
+    if (swarmtempo_fresh(image, sizeof image, SWARMTEMPO_CELLS_FIRST) != 0) return 1;
     begin(), send(0x41), send(0xAA), wr(0, 4); /* write cell 0; enable up */
     begin(), send(0xC1), wr(2, 6);             /* read cell 0; data becomes an input */
     for (int i = 0; i < 8; i++) wr(0, 0), value = value << 1 | (rd(0) & 1), wr(0, 2);

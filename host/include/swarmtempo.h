@@ -23,8 +23,12 @@ extern "C" {
 #define SWARMTEMPO_TICKS_PER_SECOND 783360ul
 /* Bytes of an answer. */
 #define SWARMTEMPO_ANSWER_LEN 8
-/* Bytes of a state image of this version; swarmtempo_image_len() says the same. */
+/* Cells of the clock chip: the first chip's, and the later one's. */
+#define SWARMTEMPO_CELLS_FIRST 20u
+#define SWARMTEMPO_CELLS_LATER 256u
+/* Bytes of a state image of this version, with the first chip and with the later one; swarmtempo_image_len() says the same. */
 #define SWARMTEMPO_IMAGE_LEN 123
+#define SWARMTEMPO_IMAGE_LEN_LATER 360
 /* Bytes of the longest item that the functions below write. */
 #define SWARMTEMPO_ITEM_MAX 11
 
@@ -54,14 +58,14 @@ extern "C" {
 uint8_t swarmtempo_run(uint8_t *image, size_t image_len, const uint8_t *list, size_t list_len,
                        uint8_t *answers, size_t answers_len, uint64_t *consumed, uint64_t *written);
 
-/* Bytes of a state image. */
-uint64_t swarmtempo_image_len(void);
+/* Bytes of a state image with so many cells, 20 or 256; 0 for any other number. */
+uint64_t swarmtempo_image_len(uint32_t cells);
 
 /*
- * Writes the image of a fresh machine. Returns 0, or 6 where image_len is below
- * swarmtempo_image_len(), and then writes nothing. Bytes past the image keep their contents.
+ * Writes the image of a fresh machine with so many cells. Returns 0; 5 where cells is neither 20 nor 256; 6 where
+ * image_len is below swarmtempo_image_len(cells). 5 and 6 write nothing. Bytes past the image keep their contents.
  */
-uint8_t swarmtempo_fresh(uint8_t *image, size_t image_len);
+uint8_t swarmtempo_fresh(uint8_t *image, size_t image_len, uint32_t cells);
 
 /* Microseconds as VIA ticks, rounded up: 12,000 gives 9,401. One wait takes 65,535 ticks at most. */
 uint32_t swarmtempo_ticks_of_micros(uint32_t micros);

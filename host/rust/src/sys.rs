@@ -13,9 +13,9 @@ extern "C" {
         consumed: *mut u64,
         written: *mut u64,
     ) -> u8;
-    fn swarmtempo_image_len() -> u64;
+    fn swarmtempo_image_len(cells: u32) -> u64;
     fn swarmtempo_ticks_of_micros(micros: u32) -> u32;
-    fn swarmtempo_fresh(image: *mut c_uchar, image_len: usize) -> u8;
+    fn swarmtempo_fresh(image: *mut c_uchar, image_len: usize, cells: u32) -> u8;
 }
 
 /// The stop number, the bytes consumed and the bytes written.
@@ -37,10 +37,13 @@ pub fn run(image: &mut [u8], list: &[u8], answers: &mut [u8]) -> (u8, usize, usi
     (stop, consumed as usize, written as usize)
 }
 
+/// Cells of the first clock chip.
+const FIRST_CELLS: u32 = 20;
+
 /// Bytes of an image.
 pub fn image_len() -> usize {
-    // SAFETY: takes nothing.
-    unsafe { swarmtempo_image_len() as usize }
+    // SAFETY: takes and gives a number.
+    unsafe { swarmtempo_image_len(FIRST_CELLS) as usize }
 }
 
 /// VIA ticks, rounded up.
@@ -52,5 +55,5 @@ pub fn ticks_of_micros(micros: u32) -> u32 {
 /// 0, or 6 where the image is too short.
 pub fn fresh(image: &mut [u8]) -> u8 {
     // SAFETY: a slice that lives through the call.
-    unsafe { swarmtempo_fresh(image.as_mut_ptr(), image.len()) }
+    unsafe { swarmtempo_fresh(image.as_mut_ptr(), image.len(), FIRST_CELLS) }
 }

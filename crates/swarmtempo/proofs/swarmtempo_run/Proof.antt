@@ -1,21 +1,19 @@
+use Rattle.run_spec.specs.declared.Ran.{Ran}
+use Rattle.machine_spec.specs.declared.Machine.{Machine}
+use Rattle.run_spec.proofs.Users.{size-kept}
+use Rattle.image_spec.proofs.Round.{image-chip}
 use Rattle.image_spec.specs.Image.{imageLength, validImage}
 use lib.ListN.{length}
 use Rattle.image_spec.specs.Layout.{chipOf}
 use Rattle.image_spec.proofs.Round.{valid-is}
-use mathlib.Core.Bool.{true, false}
+use mathlib.Core.Bool.{true}
 use Rattle.entry_spec.proofs.Entry as call
-use borrow.Author.Tests.{not-true, not-false, lt-ltb, le-ltb}
+use borrow.Author.Tests.{not-true, not-false}
 use denote.Ref.{now}
 use mathlib.Core.Path.{_≡_, sym, ap, _∙_}
 use borrow.Author.Needs.{needs}
 use Rattle.swarmtempo.proofs.swarmtempo_run.Statement.{statement}
 use Rattle.swarmtempo.proofs.swarmtempo_run.Tie as tie
-use Rattle.swarmtempo.proofs.swarmtempo_run.Reads as reads
-use Rattle.swarmtempo.proofs.swarmtempo_run.Lts as lts
-use Rattle.image.proofs.load.Reads as load-reads
-use Rattle.image.proofs.save.Reads as save-reads
-use Rattle.image.proofs.valid.Reads as valid-reads
-use Rattle.run.proofs.run.Reads as run-reads
 
 -- what the test of the image shows
 good : (c : tie.Else1) → validImage (now (c .before .before .before .before .before .before .args .image)) ≡ true
@@ -42,7 +40,15 @@ run-requires : tie.Need-run-requires
 run-requires c κs = search needs
 
 save-requires : tie.Need-save-requires
-save-requires c κs = whole (c .before .before .before .before .before .before .before)
+save-requires c κs =
+    let start = c .before .before .before .before .before .before .before .before .before .before .before .before .before in
+    let m = c .before .before .before .before .before .load in
+    let r = c .before .before .before .run in
+    whole (c .before .before .before .before .before .before .before)
+    ∙ ap imageLength (sym (ap (λ (x : Ran). x .machine .clock .store .chip) (r .ensures .0)
+    ∙ size-kept (m .result) (now (start .args .list)) (length (now (start .args .answers)))
+    ∙ ap (λ (x : Machine). x .clock .store .chip) (m .ensures)
+    ∙ image-chip (now (start .args .image))))
 
 same-length-2 : tie.Need-same-length-2
 same-length-2 c = search needs
