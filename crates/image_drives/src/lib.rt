@@ -11,9 +11,9 @@ use disk_spec::Strobe;
 use image_layout::DRIVE_LENGTH;
 use image_layout::EXTERNAL;
 use image_layout::INTERNAL;
-use image_layout::TAIL;
 use image_layout::STROBE;
 use image_layout::STROBE_LENGTH;
+use image_layout::TAIL;
 
 fn drive_bytes(d: Drive) -> [u8; DRIVE_LENGTH]
     ensures { λ r. ⌜ r ≡ driveLayout d ⌝ }

@@ -30,9 +30,10 @@ unfolding machineOf clockOf storeOf
 same-again-requires c κs =
     let start = c .before .before .before .before in
     let a = start .args in
-    let e : a .n - 0 ≡ a .n = omega arith in
-    (start .pre .0 ∙ ap (λ (x : Machine). imageLength (x .clock .store .chip)) (sym (c .before .load .ensures)),
-    length-take-le (a .n - 0) (now (a .own)) (omega (arith, start .pre .1 .1)) ∙ e ∙ start .pre .1 .0)
+    let e : a .n - 0 ≡ a .n = omega arith in (
+      start .pre .0 ∙ ap (λ (x : Machine). imageLength (x .clock .store .chip)) (sym (c .before .load .ensures)),
+      length-take-le (a .n - 0) (now (a .own)) (omega (arith, start .pre .1 .1)) ∙ e ∙ start .pre .1 .0,
+    )
 
 accepted-requires : tie.Need-accepted-requires
 accepted-requires c κs = search needs
