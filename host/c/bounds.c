@@ -116,7 +116,7 @@ static void fresh_images(void)
     for (size_t len = 0; len < SWARMTEMPO_IMAGE_LEN + 32; len++)
         for (int at_end = 0; at_end < 2; at_end++) {
             place(&image, blank, len, at_end);
-            uint8_t stop = swarmtempo_fresh(image.at, len);
+            uint8_t stop = swarmtempo_fresh(image.at, len, SWARMTEMPO_CELLS_FIRST);
             size_t used = stop ? 0 : SWARMTEMPO_IMAGE_LEN;
             calls++;
             guards_hold(&image);
@@ -198,7 +198,7 @@ int main(int argc, char **argv)
     uint64_t seed = 1;
     image = make(), list = make(), answers = make();
     fresh_images();
-    if (swarmtempo_fresh(state, sizeof state)) fail("fresh");
+    if (swarmtempo_fresh(state, sizeof state, SWARMTEMPO_CELLS_FIRST)) fail("fresh");
     len += swarmtempo_rd(items + len, 1, SWARMTEMPO_VIA(13));
     len += swarmtempo_wr(items + len, 2, SWARMTEMPO_VIA(0), 2);
     len += swarmtempo_sn(items + len, 65535, 1, 15, 0);

@@ -26,7 +26,7 @@ static void run(uint8_t *image, const uint8_t *list, size_t len, uint8_t *answer
 
 static void fresh(uint8_t *image)
 {
-    expect(swarmtempo_fresh(image, SWARMTEMPO_IMAGE_LEN) == 0, "fresh");
+    expect(swarmtempo_fresh(image, SWARMTEMPO_IMAGE_LEN, SWARMTEMPO_CELLS_FIRST) == 0, "fresh");
 }
 
 static void sample_2(void)
@@ -168,7 +168,7 @@ static void conversion(void)
 
 int main(void)
 {
-    expect(swarmtempo_image_len() == SWARMTEMPO_IMAGE_LEN, "image length");
+    expect(swarmtempo_image_len(SWARMTEMPO_CELLS_FIRST) == SWARMTEMPO_IMAGE_LEN, "image length");
     if (failures) return EXIT_FAILURE;
     sample_2();
     sample_4();

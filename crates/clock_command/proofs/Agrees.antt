@@ -49,10 +49,11 @@ after-first a d = omega arith
 digits-are : (a d : ℕ) → d < 256 → taken d ≡ true → digits a secondMarks (bitsHighFirst 8 d) ≡ 32 * a + d / 4
 digits-are a d l e =
     omega (
-    arith,
-    after-first a d,
-    at-each own (λ (d : ℕ). d / 4 % 32) 256 owns d l,
-    ltb-true d 128 (both (ltb d 128) (eqb (d % 4) 0) e .0))
+      arith,
+      after-first a d,
+      at-each own (λ (d : ℕ). d / 4 % 32) 256 owns d l,
+      ltb-true d 128 (both (ltb d 128) (eqb (d % 4) 0) e .0),
+    )
 
 pub second-agrees : (z : Bool) (a d : ℕ) → d < 256 → secondOf z a d ≡ secondMeant z a d
 unfolding secondOf secondMeant

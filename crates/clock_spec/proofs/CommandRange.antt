@@ -65,16 +65,31 @@ one-more P (x ∷ rs) r bs (h, hs) p = (h, one-more P rs r bs hs p)
 
 -- Document 01's rows, on either chip.
 rows-legal : (k : Chip) (b7 b6 b5 b4 b3 b2 b1 b0 : Bool) → Each (Legal k) rows (b7 ∷ b6 ∷ b5 ∷ b4 ∷ b3 ∷ b2 ∷ b1 ∷ b0 ∷ [])
-rows-legal k b7 b6 b5 b4 b3 b2 b1 b0 =
-    (either-legal k b7 (Seconds 0) (omega arith),
-    (either-legal k b7 (Seconds 1) (omega arith),
-    (either-legal k b7 (Seconds 2) (omega arith),
-    (either-legal k b7 (Seconds 3) (omega arith),
-    (tt,
-    (tt,
-    (either-legal k b7 (Cell (16 + (2 * (2 * 0 + bitNumber b3) + bitNumber b2))) (omega (arith, cells-least k, bit-le b3, bit-le b2)),
-    (either-legal k b7 (Cell (2 * (2 * (2 * (2 * 0 + bitNumber b5) + bitNumber b4) + bitNumber b3) + bitNumber b2)) (omega (arith, cells-least k, bit-le b5, bit-le b4, bit-le b3, bit-le b2)),
-    tt))))))))
+rows-legal k b7 b6 b5 b4 b3 b2 b1 b0 = (
+  either-legal k b7 (Seconds 0) (omega arith),
+  (
+    either-legal k b7 (Seconds 1) (omega arith),
+    (
+      either-legal k b7 (Seconds 2) (omega arith),
+      (
+        either-legal k b7 (Seconds 3) (omega arith),
+        (
+          tt,
+          (
+            tt,
+            (
+              either-legal k b7 (Cell (16 + (2 * (2 * 0 + bitNumber b3) + bitNumber b2))) (omega (arith, cells-least k, bit-le b3, bit-le b2)),
+              (
+                either-legal k b7 (Cell (2 * (2 * (2 * (2 * 0 + bitNumber b5) + bitNumber b4) + bitNumber b3) + bitNumber b2)) (omega (arith, cells-least k, bit-le b5, bit-le b4, bit-le b3, bit-le b2)),
+                tt,
+              ),
+            ),
+          ),
+        ),
+      ),
+    ),
+  ),
+)
 
 bits-legal : (k : Chip) (b7 b6 b5 b4 b3 b2 b1 b0 : Bool) → Legal k (among (rowsOf k) (b7 ∷ b6 ∷ b5 ∷ b4 ∷ b3 ∷ b2 ∷ b1 ∷ b0 ∷ []))
 bits-legal First b7 b6 b5 b4 b3 b2 b1 b0 =
@@ -94,7 +109,7 @@ meant-legal k c =
 
 second-legal : (k : Chip) (z : Bool) (a : ℕ) (b7 b6 b5 b4 b3 b2 b1 b0 : Bool) → Legal k (Extended z a)
     → let bs : List Bool = b7 ∷ b6 ∷ b5 ∷ b4 ∷ b3 ∷ b2 ∷ b1 ∷ b0 ∷ [] in
-      Legal k (cond (fits secondMarks bs) (either z (Cell (digits a secondMarks bs))) Illegal)
+    Legal k (cond (fits secondMarks bs) (either z (Cell (digits a secondMarks bs))) Illegal)
 second-legal k z a b7 b6 b5 b4 b3 b2 b1 b0 (q, l) =
     let bs : List Bool = b7 ∷ b6 ∷ b5 ∷ b4 ∷ b3 ∷ b2 ∷ b1 ∷ b0 ∷ [] in
     cond-case (Legal k) (fits secondMarks bs)

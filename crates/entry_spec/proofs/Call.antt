@@ -40,7 +40,7 @@ has-valid i m h = sym (ap validImage (h .image)) ∙ saved-valid m (h .typed) (h
 
 -- "Save then restore must give the same state."
 pub has-state : (i : List ℕ) (m : Machine) → Has i m → machineOf i ≡ m
-has-state i m h = sym (ap machineOf (h .image)) ∙ restore-saved m (h .typed)
+has-state i m h = sym (ap machineOf (h .image)) ∙ restore-saved m (h .typed) (h .accepted)
 
 pub no-state : (i : List ℕ) → NoState i → validImage i ≡ false
 no-state i h = go (validImage i) refl

@@ -141,7 +141,7 @@ pub store-typed : (k : Chip) (b cells : List ℕ) → length cells ≡ 256 → S
 unfolding storeOf
 store-typed k b cells e = (width32 b 2, e)
 
-tail-most : (k : Chip) → tailLength k ≤ moreCells + 1
+pub tail-most : (k : Chip) → tailLength k ≤ moreCells + 1
 tail-most First = omega arith
 tail-most Later = omega arith
 

@@ -19,7 +19,7 @@ use Rattle.image_spec.proofs.ViaBack.{via-long, via-back, via-typed}
 use Rattle.clock_spec.specs.declared.Chip.{Chip}
 use Rattle.clock_spec.specs.declared.Chip.the-variants.{First, Later}
 use Rattle.clock.specs.declared.Clock.{Clock}
-use Rattle.image_spec.specs.ClockLayout.{phaseBytes, registerBytes, tailBytes, cellsRead, clockOf, StoreTyped}
+use Rattle.image_spec.specs.ClockLayout.{phaseBytes, registerBytes, tailBytes, storeOf, cellsRead, clockOf, StoreTyped}
 use Rattle.image_spec.proofs.ClockBack.{phase-long, registers-long, tail-long, clock-back, store-typed, read-long}
 use Rattle.disk_spec.specs.declared.Drives.{Drives}
 use Rattle.image_spec.specs.DriveLayout.{driveBytes, strobeBytes}
@@ -62,7 +62,7 @@ parts : (m : Machine) → Typed m → cut viaAt (lengths (m .clock .store .chip)
 unfolding imageOf headBytes
 parts m t = parted viaAt (headBytes (m .clock .store .chip)) (lengths (m .clock .store .chip)) (partsOf m) refl (sized m t)
 
-image-long : (m : Machine) → Typed m → length (imageOf m) ≡ imageLength (m .clock .store .chip)
+pub image-long : (m : Machine) → Typed m → length (imageOf m) ≡ imageLength (m .clock .store .chip)
 unfolding imageOf headBytes
 image-long m t =
     let h : List ℕ = headBytes (m .clock .store .chip) in
@@ -186,3 +186,8 @@ image-typed s n =
       sense = part-long senseAt senseLength s (omega arith);
       drives = drives-typed (part internalAt driveLength s) (part externalAt driveLength s) (part strobeAt strobeLength s);
     }
+
+-- The chip of an image's state is its kind's.
+pub image-chip : (s : List ℕ) → machineOf s .clock .store .chip ≡ chipOf s
+unfolding machineOf clockOf storeOf
+image-chip s = refl

@@ -127,9 +127,13 @@ abbrev pub kindLetter : Chip → ℕ
 kindLetter First = 84
 kindLetter Later = 88
 
--- "A record is a length (2 bytes, counting what follows it), a kind (2 bytes), a body." S is 83.
+-- S is 83.
+abbrev pub kindBytes : Chip → List ℕ
+kindBytes k = 83 ∷ kindLetter k ∷ []
+
+-- "A record is a length (2 bytes, counting what follows it), a kind (2 bytes), a body."
 unfoldable pub headBytes : Chip → List ℕ
-headBytes k = bytes16 (imageLength k - 2) ++ (83 ∷ kindLetter k ∷ [])
+headBytes k = bytes16 (imageLength k - 2) ++ kindBytes k
 
 -- The chip by an image's kind.
 abbrev pub chipOf : List ℕ → Chip

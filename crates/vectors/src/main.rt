@@ -2,20 +2,25 @@
 ghost use mathlib.Core.Path.{_≡_};
 ghost use Rattle.image_spec.specs.Image.{imageLength};
 ghost use lib.ListN.{length};
+use clock_spec::Chip;
 use vectors_operations::Order;
 
 // Makes the machine fresh: 0.
 fn fresh(image: &mut [u8]) -> u64
-    requires { ⌜ length (now image) ≡ imageLength ⌝ }
+    requires { ⌜ length (now image) ≡ imageLength Chip.First ⌝ }
 {
-    image::save(image, machine::fresh());
+    image::save(image, machine::fresh(Chip::First));
     0
 }
 
 // Runs a list, and prints what its operation shows.
 fn carry_out(image: &mut [u8], op: u8, list: &[u8], answers: &mut [u8])
-    requires { ⌜ length (now image) ≡ imageLength ⌝ }
+    requires { ⌜ length (now image) ≡ imageLength Chip.First ⌝ }
 {
+    if !image::valid(image) {
+        vectors_print::shown(op, answers, 7, 0, 0);
+        return;
+    }
     let r = run::run(image::load(image), list, answers);
     image::save(image, r.machine);
     vectors_print::shown(op, answers, r.stop, r.consumed, r.written);
@@ -23,7 +28,7 @@ fn carry_out(image: &mut [u8], op: u8, list: &[u8], answers: &mut [u8])
 
 // A line of an answer room, whose bytes hold $ee, and a list: the value as it was, or 256 where the line is bad.
 fn raw(image: &mut [u8], op: u8, text: &[u8], value: u64) -> u64
-    requires { ⌜ length (now image) ≡ imageLength ⌝ }
+    requires { ⌜ length (now image) ≡ imageLength Chip.First ⌝ }
 {
     let mut answers = [0xee; 32];
     let given = vectors_words::read_list(text);
@@ -39,7 +44,7 @@ fn raw(image: &mut [u8], op: u8, text: &[u8], value: u64) -> u64
 
 // One access: the value of its answer.
 fn once(image: &mut [u8], x: Order) -> u8
-    requires { ⌜ length (now image) ≡ imageLength ⌝ }
+    requires { ⌜ length (now image) ≡ imageLength Chip.First ⌝ }
 {
     let list = vectors_operations::record(x);
     let mut answers = [0u8; 8];
@@ -49,7 +54,7 @@ fn once(image: &mut [u8], x: Order) -> u8
 
 // The accesses of an operation: the value seen.
 fn many(image: &mut [u8], x: Order, value: u64) -> u64
-    requires { ⌜ length (now image) ≡ imageLength ⌝ }
+    requires { ⌜ length (now image) ≡ imageLength Chip.First ⌝ }
 {
     let n = vectors_operations::accesses(x);
     let mut byte = vectors_operations::start(x, value);
@@ -64,7 +69,7 @@ fn many(image: &mut [u8], x: Order, value: u64) -> u64
 
 // A line of an operation: the value seen then, or 256 where it is bad.
 fn operation(image: &mut [u8], x: Order, value: u64) -> u64
-    requires { ⌜ length (now image) ≡ imageLength ⌝ }
+    requires { ⌜ length (now image) ≡ imageLength Chip.First ⌝ }
 {
     let op = x.op;
     match op {
@@ -76,7 +81,7 @@ fn operation(image: &mut [u8], x: Order, value: u64) -> u64
 
 // One line: the value seen then, or 256 or more where it is bad. An empty line makes the machine fresh.
 fn line(image: &mut [u8], text: &[u8], value: u64) -> u64
-    requires { ⌜ length (now image) ≡ imageLength ⌝ }
+    requires { ⌜ length (now image) ≡ imageLength Chip.First ⌝ }
 {
     if text.len() == 0 {
         return fresh(image);
@@ -92,7 +97,7 @@ fn line(image: &mut [u8], text: &[u8], value: u64) -> u64
 
 // The lines of the script, up to one that is bad.
 fn script(image: &mut [u8], s: &[u8])
-    requires { ⌜ length (now image) ≡ imageLength ⌝ }
+    requires { ⌜ length (now image) ≡ imageLength Chip.First ⌝ }
 {
     let mut at: usize = 0;
     let mut number: u64 = 1;
@@ -110,7 +115,7 @@ fn script(image: &mut [u8], s: &[u8])
 }
 
 fn main() {
-    let mut image = [0; image::LENGTH];
+    let mut image = [0; image_layout::TAIL];
     fresh(&mut image);
     let mut text = io::large_buffer();
     let n = io::read_full(0, &mut text);
