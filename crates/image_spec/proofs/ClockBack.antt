@@ -80,7 +80,7 @@ pub tail-long : (k : Chip) (p : Phase) (cells : List ℕ) → length cells ≡ 2
 unfolding tailBytes
 tail-long First p cells l = refl
 tail-long Later p cells l =
-    let n : length (tailRoom p cells) ≡ 237 = omega (arith, length-append (drop 20 cells) (secondByte p ∷ []), length-drop 20 cells) in
+    let n : length (tailRoom p cells) ≡ 237 = omega (arith, length-append (drop cellsLength cells) (secondByte p ∷ []), length-drop cellsLength cells) in
     ap length (take-all 237 (tailRoom p cells) (le-of-eq n)) ∙ n
 
 zeros : (l : List ℕ) → allBelow 1 l ≡ true → l ≡ replicate (length l) 0
@@ -100,20 +100,20 @@ tail-back : (k : Chip) (p : Phase) (e : Bool) (cells : List ℕ) → length cell
     → TailBack k p cells
 unfolding tailBytes tailOf
 tail-back First p e cells l u a =
-    let n : length (drop 20 cells) ≡ 236 = omega (arith, length-drop 20 cells) in
+    let n : length (drop cellsLength cells) ≡ 236 = omega (arith, length-drop cellsLength cells) in
     record {
-      more = sym (zeros (drop 20 cells) u ∙ ap (λ (j : ℕ). replicate j 0) n);
+      more = sym (zeros (drop cellsLength cells) u ∙ ap (λ (j : ℕ). replicate j 0) n);
       second = sym (no-second p e a);
     }
 tail-back Later p e cells l u a =
-    let n : length (drop 20 cells) ≡ 236 = omega (arith, length-drop 20 cells) in
-    let m : length (tailRoom p cells) ≡ 237 = omega (arith, length-append (drop 20 cells) (secondByte p ∷ [])) in
+    let n : length (drop cellsLength cells) ≡ 236 = omega (arith, length-drop cellsLength cells) in
+    let m : length (tailRoom p cells) ≡ 237 = omega (arith, length-append (drop cellsLength cells) (secondByte p ∷ [])) in
     let t : take 237 (tailRoom p cells) ≡ tailRoom p cells = take-all 237 (tailRoom p cells) (le-of-eq m) in
     let w : putAt (replicate 237 0) 0 (take 237 (tailRoom p cells)) ≡ tailRoom p cells =
     ap (putAt (replicate 237 0) 0) t ∙ whole (replicate 237 0) (tailRoom p cells) (length-replicate {A = ℕ} 237 0 ∙ sym m) in
     record {
-      more = ap (take 236) w ∙ take-at (drop 20 cells) (secondByte p ∷ []) 236 n;
-      second = ap (λ (x : List ℕ). getD x 236 0) w ∙ getD-at (drop 20 cells) (secondByte p) [] 0 236 n;
+      more = ap (take 236) w ∙ take-at (drop cellsLength cells) (secondByte p ∷ []) 236 n;
+      second = ap (λ (x : List ℕ). getD x 236 0) w ∙ getD-at (drop cellsLength cells) (secondByte p) [] 0 236 n;
     }
 
 -- ---- the whole
@@ -131,8 +131,8 @@ pub clock-back : (c : Clock) (e : Bool) → StoreTyped (c .store) → acceptedPh
 unfolding unusedClear clockOf
 clock-back c e t a u =
     let b = tail-back (c .store .chip) (c .phase) e (c .store .cells) (t .1) u a in
-    let cells : cellsRead (take 20 (c .store .cells)) (tailBytes (c .store .chip) (c .phase) (c .store .cells)) ≡ c .store .cells =
-    ap (λ (x : List ℕ). take 20 (c .store .cells) ++ x) (b .more) ∙ take-append-drop 20 (c .store .cells) in
+    let cells : cellsRead (take cellsLength (c .store .cells)) (tailBytes (c .store .chip) (c .phase) (c .store .cells)) ≡ c .store .cells =
+    ap (λ (x : List ℕ). take cellsLength (c .store .cells) ++ x) (b .more) ∙ take-append-drop cellsLength (c .store .cells) in
     ap₂ (λ (p : Phase) (s : Store). record { phase = p; store = s })
     (ap (phaseOf (phaseBytes (c .phase))) (b .second) ∙ phase-back (c .phase))
     (ap (storeOf (c .store .chip) (registerBytes (c .store))) cells ∙ store-back (c .store) t)
