@@ -231,8 +231,9 @@ pub const COMMANDS: [Command; 16] = [
         name: "sheet make",
         operand: "[TEXT]",
         brief: "text to a sheet",
-        about: "Turns a text, one record a line, into a sheet. Without TEXT it reads standard input. Every\n\
-                wrong line is named, as FILE:LINE:COLUMN: MESSAGE, and then nothing is written.",
+        about: "Turns a text, one record a line, into a sheet (sheet --help shows the form). Without TEXT it reads\n\
+                standard input. Every wrong line is named, as FILE:LINE:COLUMN: MESSAGE, and then nothing is\n\
+                written.",
         flags: &[OUT],
     },
     Command {
