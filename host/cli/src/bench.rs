@@ -4,10 +4,10 @@ use super::failure::Failure;
 use super::files::print;
 use std::time::{Duration, Instant};
 use swarmtempo::{
-    Address, DiskLine, Drive, InLine, Item, List, Machine, Register, Seconds, SenseRegister,
+    Address, Chip, DiskLine, Drive, InLine, Item, List, Machine, Register, Seconds, SenseRegister,
     ViaTicks, ANSWER_LEN,
 };
-use swarmtempo_model::run_image;
+use swarmtempo_model::{fresh_image, run_image};
 
 /// Each list is run so many times, and the quickest counts.
 const ROUNDS: usize = 9;
@@ -76,45 +76,62 @@ fn lists(records: usize) -> Vec<(&'static str, List)> {
     ]
 }
 
-/// The quickest of several rounds.
-fn best(mut run: impl FnMut()) -> Duration {
-    let rounds = (0..ROUNDS).map(|_| {
-        let start = Instant::now();
-        run();
-        start.elapsed()
-    });
-    rounds.min().unwrap_or_default()
+/// The quickest of several rounds, for each of some runs; they take turns.
+fn best<const N: usize>(mut runs: [&mut dyn FnMut(); N]) -> [Duration; N] {
+    let mut best = [Duration::MAX; N];
+    for _ in 0..ROUNDS {
+        for (run, best) in runs.iter_mut().zip(&mut best) {
+            let start = Instant::now();
+            run();
+            *best = start.elapsed().min(*best);
+        }
+    }
+    best
+}
+
+/// A run of the library on a fresh machine with this chip.
+fn by_library(chip: Chip, list: &List, answers: &mut [u8]) {
+    let mut machine = Machine::fresh(chip);
+    assert!(machine.run_in(list.as_bytes(), answers).at_end());
 }
 
 /// Prints a row for each kind of list.
 pub fn bench(records: usize) -> Result<(), Failure> {
     print(&format!("{records} records a list, one run each, the best of {ROUNDS} rounds\n"))?;
-    let (library, model) = ("library: nanoseconds", "model: nanoseconds");
-    print(&format!("{:<32} {:>17} {library:>21} {model:>21}\n", "", "library: records"))?;
-    let each = "a record";
-    print(&format!("{:<32} {:>17} {each:>21} {each:>21} {:>7}\n", "list", "a second", "ratio"))?;
-    let mut answers = vec![0; ANSWER_LEN * records];
-    let mut other = vec![0; ANSWER_LEN * records];
+    print("library and model: nanoseconds a record, with 20 cells; later: the library with 256 cells\n")?;
+    print(&format!(
+        "{:<32} {:>17} {:>9} {:>9} {:>7} {:>9} {:>12}\n",
+        "list", "records a second", "library", "model", "ratio", "later", "later ratio"
+    ))?;
+    let (mut first_sum, mut later_sum) = (0.0, 0.0);
     for (name, list) in lists(records) {
-        let start = Machine::fresh();
-        let library = best(|| {
-            let mut machine = start.clone();
-            assert!(machine.run_in(list.as_bytes(), &mut answers).at_end());
-        });
-        let model = best(|| {
-            let mut image = start.image().to_vec();
-            assert_eq!(run_image(&mut image, list.as_bytes(), &mut other).stop, 0);
-        });
-        assert_eq!(answers, other, "library and model differ on {name}");
-        let each = u32::try_from(records).map_or(f64::MAX, f64::from);
-        let ns = |time: Duration| time.as_secs_f64() * 1e9 / each;
+        let [first, later, model] = times(name, &list, records);
+        (first_sum, later_sum) = (first_sum + first, later_sum + later);
         print(&format!(
-            "{name:<32} {:>17.0} {:>21.1} {:>21.1} {:>7.2}\n",
-            1e9 / ns(library),
-            ns(library),
-            ns(model),
-            ns(library) / ns(model)
+            "{name:<32} {:>17.0} {first:>9.1} {model:>9.1} {:>7.2} {later:>9.1} {:>12.3}\n",
+            1e9 / first,
+            first / model,
+            later / first
         ))?;
     }
-    print("ratio: time of the library by time of the model; below 1 the library is quicker\n")
+    print("ratio: time of the library by time of the model; below 1 the library is quicker\n")?;
+    let ratio = later_sum / first_sum;
+    print(&format!("later ratio: time with 256 cells by time with 20 cells; of all lists together {ratio:.3}\n"))
+}
+
+/// Nanoseconds a record: of the library with 20 cells, with 256, and of the model with 20.
+fn times(name: &str, list: &List, records: usize) -> [f64; 3] {
+    let [mut first, mut later, mut other] = [(); 3].map(|()| vec![0; ANSWER_LEN * records]);
+    let fresh = fresh_image(swarmtempo_model::Chip::First);
+    let times = best([
+        &mut || by_library(Chip::First, list, &mut first),
+        &mut || by_library(Chip::Later, list, &mut later),
+        &mut || {
+            let mut image = fresh.clone();
+            assert_eq!(run_image(&mut image, list.as_bytes(), &mut other).stop, 0);
+        },
+    ]);
+    assert_eq!(first, other, "library and model differ on {name}");
+    assert_eq!(first, later, "the chips differ on {name}");
+    times.map(|time| time.as_secs_f64() * 1e9 / records as f64)
 }

@@ -65,9 +65,14 @@ const OUT: Flag = Flag {
     help: "writes to FILE, which appears whole or not at all (without it: standard output)",
 };
 
-const RUN: [Flag; 10] = [
+const RUN: [Flag; 11] = [
     Flag { name: "--text", value: "", help: "LIST is in the text form" },
     Flag { name: "--records", value: "", help: "LIST is records even where it looks like a text" },
+    Flag {
+        name: "--cells",
+        value: "CELLS",
+        help: "the fresh machine's clock chip has so many cells: 20 (without it, too) or 256",
+    },
     Flag {
         name: "--image",
         value: "FILE",
@@ -157,7 +162,7 @@ pub const COMMANDS: [Command; 14] = [
         name: "image",
         operand: "FILE",
         brief: "a state image in words",
-        about: "Shows the state in an image that run --save wrote. An image of no accepted state is refused\n\
+        about: "Shows the state in an image that run --save wrote, all cells of its clock chip too. An image of no accepted state is refused\n\
                 with the first field that is out of its range: its name, offset and value.",
         flags: &[],
     },
@@ -221,7 +226,8 @@ pub const COMMANDS: [Command; 14] = [
         name: "bench",
         operand: "",
         brief: "records a second, beside a plain model of the board",
-        about: "Times lists of several kinds, on the library and on a plain model of the same board.",
+        about: "Times lists of several kinds: on the library with either clock chip, and on a plain model of\n\
+                the same board.",
         flags: &[Flag {
             name: "--records",
             value: "COUNT",

@@ -5,7 +5,7 @@
 //! A difference is made small and printed.
 
 use swarmtempo::text::disassemble;
-use swarmtempo::{sys, Address, DiskLine, Machine, Register};
+use swarmtempo::{sys, Address, Chip, DiskLine, Machine, Register};
 use swarmtempo_model as model;
 
 const LISTS: u64 = 250_000;
@@ -460,7 +460,7 @@ fn some_list(random: &mut Random, most: usize) -> Vec<Vec<u8>> {
 
 /// An accepted image with every field at random, mostly amid a command.
 fn some_image(random: &mut Random) -> Vec<u8> {
-    let mut image: Vec<u8> = model::fresh_image().to_vec();
+    let mut image: Vec<u8> = model::fresh_image(model::Chip::First).to_vec();
     for at in (4..12).chain(14..17).chain(18..23).chain(28..53) {
         if random.one_in(2) {
             image[at] = random.byte();
@@ -548,11 +548,11 @@ fn odd_drives(random: &mut Random, image: &mut [u8]) {
 fn some_case(seed: u64) -> Case {
     let random = &mut Random(seed);
     let mut image = match random.below(4) {
-        0 | 1 => model::fresh_image().to_vec(),
+        0 | 1 => model::fresh_image(model::Chip::First).to_vec(),
         2 => some_image(random),
         _ => {
             // A state that a list reached.
-            let mut image = model::fresh_image().to_vec();
+            let mut image = model::fresh_image(model::Chip::First).to_vec();
             let list = some_list(random, 3).concat();
             model::run_image(&mut image, &list, &mut vec![0; 8 * 400]);
             image
@@ -579,7 +579,7 @@ fn some_case(seed: u64) -> Case {
 
 /// The smallest case found that still differs.
 fn shrink(mut case: Case, differs: impl Fn(&Case) -> bool) -> Case {
-    let fresh = model::fresh_image().to_vec();
+    let fresh = model::fresh_image(model::Chip::First).to_vec();
     loop {
         let plain = Case { image: fresh.clone(), ..case.clone() };
         let mut better = Some(plain).filter(|it| it.image != case.image && differs(it));
@@ -617,7 +617,7 @@ fn shrink(mut case: Case, differs: impl Fn(&Case) -> bool) -> Case {
 
 fn report(case: &Case, seed: u64, index: u64) -> String {
     let list = case.parts.concat();
-    let image = if case.image == model::fresh_image() {
+    let image = if case.image == model::fresh_image(model::Chip::First) {
         "fresh".to_string()
     } else {
         format!("{:02X?}", case.image)
@@ -729,7 +729,7 @@ fn a_difference_is_made_small() {
     }
     (0..5).for_each(|_| maker.item());
     let parts = maker.parts;
-    let image = Machine::fresh().image().to_vec();
+    let image = Machine::fresh(Chip::First).image().to_vec();
     let small = shrink(Case { image, room: 4000, parts }, differs);
     assert!(small.parts.len() <= 34, "{}", disassemble(&small.parts.concat()));
     assert!(differs(&small));

@@ -21,7 +21,7 @@ fn s2_port_b_of_a_fresh_machine() {
     list.push(NOW, Item::Read(Address::Via(Register::ORB)));
     assert_eq!(list.as_bytes(), [0x08, 0x00, 0x52, 0x44, 0x00, 0x00, 0xFE, 0xE1, 0xEF, 0x00]);
     let mut bytes = Vec::new();
-    let run = Machine::fresh().run(list.as_bytes(), &mut bytes);
+    let run = Machine::fresh(Chip::First).run(list.as_bytes(), &mut bytes);
     assert_eq!(run, Run { stop: None, consumed: 10, written: 8 });
     assert_eq!(bytes, [0x06, 0x00, 0x4F, 0x4B, 0xFF, 0x00, 0x00, 0x01]);
 }
@@ -33,7 +33,7 @@ fn s4_second_asks() {
     list.push(NOW, Item::Second);
     list.push(NOW, Item::Read(Address::Via(Register::IFR)));
     let mut bytes = Vec::new();
-    assert!(Machine::fresh().run(list.as_bytes(), &mut bytes).at_end());
+    assert!(Machine::fresh(Chip::First).run(list.as_bytes(), &mut bytes).at_end());
     let got: Vec<Answer> = answers(&bytes).collect();
     assert_eq!(got, [seen(0, 0), seen(0, 1), seen(0x81, 1)]);
 }
@@ -62,14 +62,14 @@ fn list_of(items: &[Item]) -> List {
 #[test]
 fn save_and_restore_amid_a_command() {
     let items = transaction();
-    let mut whole = Machine::fresh();
+    let mut whole = Machine::fresh(Chip::First);
     let mut expected = Vec::new();
     assert!(whole.run(list_of(&items).as_bytes(), &mut expected).at_end());
     assert_eq!(whole.state().cells[0], 0xAA);
     for cut in 0..=items.len() {
         let (first, second) = items.split_at(cut);
         let mut got = Vec::new();
-        let mut machine = Machine::fresh();
+        let mut machine = Machine::fresh(Chip::First);
         machine.run(list_of(first).as_bytes(), &mut got);
         let saved = machine.image().to_vec();
         drop(machine);
@@ -78,7 +78,7 @@ fn save_and_restore_amid_a_command() {
         assert_eq!(got, expected);
         assert_eq!(restored, whole);
     }
-    let mut half = Machine::fresh();
+    let mut half = Machine::fresh(Chip::First);
     half.run(list_of(&items[..3 + 2 * 11]).as_bytes(), &mut Vec::new());
     let phase = half.state().phase;
     assert_eq!(phase, Phase::Taking { command: 0x41, bits: 3, value: 0b101 });
@@ -86,7 +86,7 @@ fn save_and_restore_amid_a_command() {
 
 #[test]
 fn stops() {
-    let mut machine = Machine::fresh();
+    let mut machine = Machine::fresh(Chip::First);
     let mut room = [0xEE; 12];
     let list = [4, 0, b'S', b'E', 0, 0, 4, 0, b'S', b'E', 0, 0];
     let run = machine.run_in(&list, &mut room);
