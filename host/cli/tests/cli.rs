@@ -7,7 +7,7 @@ use std::collections::HashMap;
 use std::io::Write;
 use std::process::{Command, Stdio};
 use swarmtempo::{
-    answers, pieces, Address, Answer, Item, List, Machine, Piece, Refusal, Register, State,
+    answers, pieces, Address, Answer, Chip, Item, List, Machine, Piece, Refusal, Register, State,
     ViaTicks,
 };
 

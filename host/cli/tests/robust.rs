@@ -75,7 +75,7 @@ fn for_a_while(salt: u64, mut act: impl FnMut(&mut Random)) {
     println!("seed {seed}: {rounds} rounds");
 }
 
-const TEXTS: [&str; 3] = [
+const TEXTS: [&str; 4] = [
     include_str!("../../captures/first.txt"),
     include_str!("../../captures/seek.txt"),
     include_str!("../../captures/far.txt"),

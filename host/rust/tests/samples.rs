@@ -1,8 +1,8 @@
 //! S2, S4 and a save and restore amid a half-sent command, through the safe types.
 
 use swarmtempo::{
-    answers, Address, Answer, Item, Lines, List, Machine, Phase, Refusal, Register, Run, Seen,
-    ViaTicks,
+    answers, Address, Answer, Chip, Item, Lines, List, Machine, Phase, Refusal, Register, Run,
+    Seen, ViaTicks,
 };
 
 const NOW: ViaTicks = ViaTicks(0);
@@ -82,6 +82,49 @@ fn save_and_restore_amid_a_command() {
     half.run(list_of(&items[..3 + 2 * 11]).as_bytes(), &mut Vec::new());
     let phase = half.state().phase;
     assert_eq!(phase, Phase::Taking { command: 0x41, bits: 3, value: 0b101 });
+}
+
+/// Enable down, then the first so many bits of some bytes.
+fn sent(machine: &mut Machine, bytes: &[u8], bits: usize) {
+    let mut items =
+        vec![write(Register::ORB, 4), write(Register::DDRB, 7), write(Register::ORB, 0)];
+    for bit in (0..bits).map(|i| bytes[i / 8] >> (7 - i % 8) & 1) {
+        items.extend([write(Register::ORB, bit), write(Register::ORB, bit | 2)]);
+    }
+    assert!(machine.run(list_of(&items), &mut Vec::new()).at_end());
+}
+
+/// A whole transaction on a fresh machine, and the cells that hold something then.
+fn cells_after(chip: Chip, bytes: &[u8]) -> Vec<(usize, u8)> {
+    let mut machine = Machine::fresh(chip);
+    sent(&mut machine, bytes, 8 * bytes.len());
+    assert_eq!(machine.chip(), chip);
+    let cells = machine.state().cells;
+    assert_eq!(cells.len(), chip.cells());
+    cells.into_iter().enumerate().filter(|(_, value)| *value != 0).collect()
+}
+
+#[test]
+fn the_later_chip() {
+    let mut machine = Machine::fresh(Chip::Later);
+    sent(&mut machine, &[0x3F, 0x7C, 0xAA], 23);
+    let phase = Phase::TakingExtended { first: 0x3F, second: 0x7C, bits: 7, value: 0x55 };
+    assert_eq!((machine.state().phase, machine.state().cells), (phase, vec![0; 256]));
+    assert!(machine.to_string().contains("$3F $7C (write cell 255): 7 bits, 1010101 of the data"));
+    sent(&mut machine, &[0x3F, 0x7C, 0xAA], 11);
+    let phase = Phase::Second { first: 0x3F, bits: 3, value: 0b011 };
+    assert_eq!(machine.state().phase, phase, "what was half-sent is dropped");
+    assert_eq!(cells_after(Chip::Later, &[0x3F, 0x7C, 0xAA]), [(255, 0xAA)]);
+    assert_eq!(cells_after(Chip::Later, &[0x38, 0x00, 0xAA]), [(0, 0xAA)], "like $41");
+    assert_eq!(cells_after(Chip::Later, &[0x39, 0x08, 0xAA]), [(0b001_00010, 0xAA)]);
+    assert_eq!(cells_after(Chip::Later, &[0x3F, 0x7D, 0xAA]), [], "a bad second byte");
+    assert_eq!(cells_after(Chip::First, &[0x3F, 0x7C, 0xAA]), [], "ignored");
+    for chip in Chip::BOTH {
+        assert_eq!(cells_after(chip, &[0x21, 0xAA]), [(16, 0xAA)]);
+    }
+    sent(&mut machine, &[0x3F, 0x7C, 0xAA], 24);
+    sent(&mut machine, &[0xBF, 0x7C], 16);
+    assert_eq!(machine.state().phase, Phase::Sending { byte: 0xAA, falls: 0 });
 }
 
 #[test]
