@@ -75,7 +75,8 @@ static void call(const uint8_t *state, size_t state_len, const uint8_t *items, s
     if (items_len && memcmp(list.at, items, items_len)) fail("the list was written");
     for (size_t i = counts[2]; i < room; i++)
         if (answers.at[i] != 0xC3) fail("answer bytes past those written changed");
-    if (state_len != SWARMTEMPO_IMAGE_LEN && state_len != SWARMTEMPO_IMAGE_LEN_LATER && stop != SWARMTEMPO_REFUSED_STATE) fail("an image of another length was taken");
+    size_t whole = state_len > 3 && state[3] == 'X' ? SWARMTEMPO_IMAGE_LEN_LATER : SWARMTEMPO_IMAGE_LEN;
+    if (state_len != whole && stop != SWARMTEMPO_REFUSED_STATE) fail("an image of another length was taken");
     if (stop == SWARMTEMPO_REFUSED_STATE) {
         if (counts[1] || counts[2]) fail("counts on 7");
         if (state_len && memcmp(image.at, state, state_len)) fail("the image was written on 7");
