@@ -89,6 +89,28 @@ static void call(const uint8_t *state, size_t state_len, const uint8_t *items, s
     }
 }
 
+/* The list turned over into every room up to twice its length. */
+static void conversions(const uint8_t *items, size_t items_len, int at_end)
+{
+    static const uint8_t blank[512];
+    for (size_t room = 0; room <= 2 * items_len; room++) {
+        uint64_t counts[4] = {~0ull, 77, 78, ~0ull};
+        place(&list, items, items_len, at_end);
+        place(&answers, blank, room, at_end);
+        memset(answers.at, 0xC3, room);
+        uint8_t stop = swarmtempo_convert(list.at, items_len, answers.at, room, &counts[1], &counts[2]);
+        calls++;
+        guards_hold(&list);
+        guards_hold(&answers);
+        if (counts[0] != ~0ull || counts[3] != ~0ull) fail("a byte beside the numbers was written");
+        if (counts[1] > room || counts[2] > counts[1]) fail("a conversion's numbers");
+        if (stop == SWARMTEMPO_REFUSED_ROOM ? counts[1] || counts[2] : stop > SWARMTEMPO_REFUSED_CUT) fail("a conversion's refusal");
+        if (items_len && memcmp(list.at, items, items_len)) fail("the list was written");
+        for (size_t i = counts[1]; i < room; i++)
+            if (answers.at[i] != 0xC3) fail("bytes past those written changed");
+    }
+}
+
 /* Rooms of every length, with numbers of cells that a chip has and others, those with more bits among them. */
 static void fresh_images(void)
 {
@@ -133,7 +155,11 @@ static void null_buffers(const uint8_t *state, size_t state_len, const uint8_t *
     uint64_t start = 78, size = 79, written = 80;
     if (swarmtempo_sheet_get(NULL, 0, NULL, 0, 7, &which, &start, &size) || which || start || size) fail("sheets at NULL");
     if (swarmtempo_sheet_compact(NULL, 0, NULL, 0, &written) || written) fail("a sheet at NULL");
-    calls += 4;
+    if (swarmtempo_convert(NULL, 0, NULL, 0, &start, &written) || start || written) fail("a capture at NULL");
+    uint8_t answered = 81, answer = 82;
+    if (swarmtempo_keyboard_fresh(NULL, 0, 3) != SWARMTEMPO_REFUSED_ROOM) fail("a fresh keyboard at NULL");
+    if (swarmtempo_keyboard_wait(NULL, 0, 1, &answered, &answer) != SWARMTEMPO_REFUSED_STATE || answered || answer) fail("a keyboard at NULL");
+    calls += 7;
 }
 
 /* Sheets of every length, sound and cut, with every room. */
@@ -205,6 +231,8 @@ int main(int argc, char **argv)
     len += swarmtempo_in(items + len, 0, 4, 0);
     len += swarmtempo_rd(items + len, 0, SWARMTEMPO_IWM(14));
     sheets();
+    for (int at_end = 0; at_end < 2; at_end++)
+        for (size_t n = 0; n <= len; n++) conversions(items, n, at_end);
     for (size_t i = 0; i < 2; i++) {
         uint8_t state[2 * SWARMTEMPO_IMAGE_LEN_LATER] = {0};
         size_t state_len = (size_t)swarmtempo_image_len(cells[i]);

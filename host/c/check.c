@@ -1,6 +1,6 @@
 /*
- * Runs S2, S4, a save and restore amid a half-sent command, and the later chip; asks for versions and words, and reads
- * answers. Fails where something differs.
+ * Runs S2, S4, a save and restore amid a half-sent command, the later chip, and a conversion; asks for versions
+ * and words, and reads answers. Fails where something differs.
  */
 #include <stdio.h>
 #include <stdlib.h>
@@ -149,8 +149,8 @@ static void refusals(void)
     for (unsigned i = 0; i < 256; i++) {
         const char *words = swarmtempo_refusal((uint8_t)i);
         expect(words != NULL && *words, "words");
-        expect((strcmp(words, unknown) == 0) == (i > SWARMTEMPO_REFUSED_DISK), "numbers that have words");
-        for (unsigned j = 0; j < i && j <= SWARMTEMPO_REFUSED_DISK; j++)
+        expect((strcmp(words, unknown) == 0) == (i > SWARMTEMPO_REFUSED_RETIRED && i != SWARMTEMPO_REFUSED_KEY), "numbers that have words");
+        for (unsigned j = 0; j < i && j <= SWARMTEMPO_REFUSED_RETIRED; j++)
             expect(strcmp(words, swarmtempo_refusal((uint8_t)j)) != 0, "words of two numbers");
     }
 }
@@ -179,6 +179,28 @@ static void readers(void)
     }
 }
 
+/* W-214: a locked disk into the external drive; register 6 has not retired. */
+static void conversion(void)
+{
+    uint8_t list[4 * SWARMTEMPO_ITEM_MAX], expected[64], out[64];
+    size_t len = 0, used = 0;
+    uint64_t written = 99, count = 99;
+    len += swarmtempo_in(list + len, 7, 0, 0);
+    len += swarmtempo_sn(list + len, 258, 1, 3, 0);
+    len += swarmtempo_sn(list + len, 513, 1, 1, 0);
+    len += swarmtempo_sn(list + len, 9, 0, 6, 1);
+    used += swarmtempo_in(expected + used, 7, 0, 0);
+    used += swarmtempo_in(expected + used, 258, 0, 0);
+    used += swarmtempo_in(expected + used, 513, 0, 0);
+    used += swarmtempo_di(expected + used, 0, 1, 1, 1, 1);
+    used += swarmtempo_sn(expected + used, 9, 0, 6, 1);
+    expect(swarmtempo_convert(list, len, out, sizeof out, &written, &count) == 0, "W-214");
+    expect(written == used && count == 1 && memcmp(out, expected, used) == 0, "W-214, what is written");
+    expect(swarmtempo_convert(list, len, out, used - 1, &written, &count) == SWARMTEMPO_REFUSED_ROOM, "W-214, room");
+    expect(swarmtempo_convert(list, len - 1, out, sizeof out, &written, &count) == SWARMTEMPO_REFUSED_CUT, "W-214, a cut record");
+    expect(written == used - 9 && count == 1, "W-214, what comes before it");
+}
+
 int main(void)
 {
     expect(swarmtempo_image_len(SWARMTEMPO_CELLS_FIRST) == SWARMTEMPO_IMAGE_LEN, "image length");
@@ -192,5 +214,6 @@ int main(void)
     readers();
     save_and_restore();
     later_chip();
+    conversion();
     return failures ? EXIT_FAILURE : EXIT_SUCCESS;
 }

@@ -6,7 +6,7 @@ const char *swarmtempo_version(void)
     return SWARMTEMPO_VERSION;
 }
 
-/* The words are those of the Rust crate's Refusal. */
+/* The words are those of the Rust crate's Refusal and KeyboardFull. */
 const char *swarmtempo_refusal(uint8_t number)
 {
     switch (number) {
@@ -19,6 +19,8 @@ const char *swarmtempo_refusal(uint8_t number)
     case SWARMTEMPO_REFUSED_ROOM: return "no room for an answer";
     case SWARMTEMPO_REFUSED_STATE: return "image is none of an accepted state";
     case SWARMTEMPO_REFUSED_DISK: return "a disk is there already, or none is";
+    case SWARMTEMPO_REFUSED_RETIRED: return "SN on this register has retired";
+    case SWARMTEMPO_REFUSED_KEY: return "eight key codes are held already";
     default: return "unknown number";
     }
 }

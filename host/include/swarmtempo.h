@@ -49,7 +49,7 @@ extern "C" {
 /* Bytes of the longest item that the functions below write. */
 #define SWARMTEMPO_ITEM_MAX 11
 
-/* How a run stopped (0, 1, 6, 7), and the numbers of NO answers (1 to 5, 8). swarmtempo_fresh has 5 and 6. */
+/* How a run stopped (0, 1, 6, 7), and the numbers of NO answers (1 to 5, 8, 9). swarmtempo_fresh has 5 and 6. */
 #define SWARMTEMPO_END 0u             /* the end of the list */
 #define SWARMTEMPO_REFUSED_CUT 1u     /* a cut record or a length below 2; NO 1 is written, the run stops before it */
 #define SWARMTEMPO_REFUSED_KIND 2u    /* unknown kind */
@@ -59,6 +59,7 @@ extern "C" {
 #define SWARMTEMPO_REFUSED_ROOM 6u    /* list bytes remain, fewer than 8 answer bytes left; the item is not done */
 #define SWARMTEMPO_REFUSED_STATE 7u   /* the image is none of an accepted state; no buffer is changed */
 #define SWARMTEMPO_REFUSED_DISK 8u    /* a disk inserted where one is, or removed where none is */
+#define SWARMTEMPO_REFUSED_RETIRED 9u /* SN on a register that the drive has itself: 0 to 5, 12, 15 */
 
 /* Address of VIA register r, 0 to 15, and of IWM location k, 0 to 15. */
 #define SWARMTEMPO_VIA(r) ((uint32_t)(0xEFE1FEul + 512ul * (r)))
@@ -125,6 +126,19 @@ uint64_t swarmtempo_image_len(uint32_t cells);
  */
 uint8_t swarmtempo_fresh(uint8_t *image, size_t image_len, uint32_t cells);
 
+/*
+ * Turns a capture over that was made before SN on registers 0 to 5, 12 and 15 retired, begun on a fresh
+ * machine: such an SN becomes an IN of the same wait that repeats line 0's level, with a DI after it
+ * where the SN items alone change whether a disk is in the drive. All other records pass as they are.
+ *
+ * Returns 0 at the end of the capture; 1 where a cut record ended the work, what comes before it being
+ * written; 6 where out_len is too small, and then nothing is written. Twice list_len is enough.
+ * `*written` is the number of bytes written, `*count` the number of SN items replaced without a DI;
+ * both are 0 on 6. Bytes past those written keep their contents.
+ */
+uint8_t swarmtempo_convert(const uint8_t *list, size_t list_len, uint8_t *out, size_t out_len,
+                           uint64_t *written, uint64_t *count);
+
 /* Microseconds as VIA ticks, rounded up: 12,000 gives 9,401. One wait takes 65,535 ticks at most. */
 uint32_t swarmtempo_ticks_of_micros(uint32_t micros);
 
@@ -169,6 +183,42 @@ uint8_t swarmtempo_sheet_get(const uint8_t *bench, size_t bench_len, const uint8
  */
 uint8_t swarmtempo_sheet_compact(const uint8_t *sheet, size_t sheet_len, uint8_t *out, size_t out_len,
                                  uint64_t *written);
+
+/*
+ * ---- The keyboard, a part of its own: no item of a list reaches it, and its image is in no state image.
+ */
+/* Bytes of a keyboard's image of this version; swarmtempo_keyboard_len() says the same. */
+#define SWARMTEMPO_KEYBOARD_LEN 18
+/* VIA ticks after which a waiting Inquiry answers Null. */
+#define SWARMTEMPO_INQUIRY_TICKS 195840ul
+/* Eight key codes are held already. */
+#define SWARMTEMPO_REFUSED_KEY 11u
+
+/* Command bytes. */
+#define SWARMTEMPO_INQUIRY 0x10u
+#define SWARMTEMPO_INSTANT 0x14u
+#define SWARMTEMPO_MODEL 0x16u
+#define SWARMTEMPO_TEST 0x36u
+
+/* Bytes of a keyboard's image. */
+uint64_t swarmtempo_keyboard_len(void);
+
+/*
+ * Writes the image of a keyboard that was just made; `model` is what the command Model answers. Returns
+ * 0, or 6 where image_len is below swarmtempo_keyboard_len(), and then writes nothing. Bytes past the
+ * image keep their contents.
+ */
+uint8_t swarmtempo_keyboard_fresh(uint8_t *image, size_t image_len, uint8_t model);
+
+/*
+ * A command byte, a key code, and a wait, each on the keyboard in `image` (exactly one image, image_len
+ * bytes). Each returns 0, or the refusal: 7 where no accepted keyboard has this image, 11 where a key is
+ * one too many. `*answered` is 1 where there is an answer byte, and `*answer` is that byte; else both are
+ * 0. On a refusal the image keeps its bytes. A wait may be cut anywhere.
+ */
+uint8_t swarmtempo_keyboard_command(uint8_t *image, size_t image_len, uint8_t command, uint8_t *answered, uint8_t *answer);
+uint8_t swarmtempo_keyboard_key(uint8_t *image, size_t image_len, uint8_t code, uint8_t *answered, uint8_t *answer);
+uint8_t swarmtempo_keyboard_wait(uint8_t *image, size_t image_len, uint32_t via_ticks, uint8_t *answered, uint8_t *answer);
 
 /*
  * ---- Writers of items. Each writes one record at `at`, which has room for SWARMTEMPO_ITEM_MAX bytes, and
@@ -228,7 +278,7 @@ static inline size_t swarmtempo_in(uint8_t *at, uint16_t wait_via_ticks, uint8_t
     return swarmtempo_item(at, 'I', 'N', wait_via_ticks, 2);
 }
 
-/* Sets the level of sense register 0 to 15 of drive 0 (internal) or 1 (external). */
+/* Sets the level of sense register 6 to 11, 13 or 14 of drive 0 (internal) or 1 (external). */
 static inline size_t swarmtempo_sn(uint8_t *at, uint16_t wait_via_ticks, uint8_t drive, uint8_t reg, uint8_t level)
 {
     at[6] = drive;

@@ -1,12 +1,11 @@
 //! `swarmtempo asm` and `disasm`: text to records, and back.
 
-use super::conflicts::Uses;
+use super::conflicts::ends;
 use super::contents;
 use super::draft;
 use super::failure::{failure, Failure};
 use super::files::{self, say, Out};
 use super::lines::{list_failure, Lines};
-use super::place::{Input, Output};
 use super::source;
 use super::summary::converted;
 use super::words::Given;
@@ -15,14 +14,6 @@ use swarmtempo::{pieces, text, Chunks, Piece};
 
 /// What to do with records that come as a text.
 const RECORDS: &str = "disasm makes a text of records";
-
-/// What is read and what is written.
-fn ends(command: &'static str, word: &str, given: &Given) -> Result<(Input, Output), Failure> {
-    let input = given.operand()?.map_or(Input::standard(), Input::of);
-    let output = given.value("-o").map_or(Output::standard(), Output::of);
-    Uses::of(command).reads(word, &input).writes("-o", &output).check()?;
-    Ok((input, output))
-}
 
 /// Text to records. Nothing is written where a line is wrong.
 pub fn asm(given: &Given) -> Result<u8, Failure> {

@@ -123,7 +123,7 @@ pub const GROUPS: [Group; 1] = [Group {
 }];
 
 /// All commands.
-pub const COMMANDS: [Command; 14] = [
+pub const COMMANDS: [Command; 16] = [
     Command {
         name: "run",
         operand: "LIST",
@@ -159,12 +159,55 @@ pub const COMMANDS: [Command; 14] = [
         }],
     },
     Command {
+        name: "convert",
+        operand: "[OLD]",
+        brief: "a capture from before SN retired, turned over",
+        about: "Turns a capture (records) over that was made before SN retired on the registers that a drive\n\
+                has itself, 0 to 5, 12 and 15: such an SN becomes an IN of the same wait, and a DI after it\n\
+                where a disk came or went. Without OLD it reads standard input. It takes at most 268,435,456\n\
+                bytes, which begin on a fresh machine.\n\
+                \n\
+                Exit status: 1 where a record is cut; what comes before it is converted and written.",
+        flags: &[OUT, Flag {
+            name: "--records",
+            value: "",
+            help: "OLD is records even where it looks like a text",
+        }],
+    },
+    Command {
         name: "image",
         operand: "FILE",
         brief: "a state image in words",
         about: "Shows the state in an image that run --save wrote, all cells of its clock chip too. An image of no accepted state is refused\n\
                 with the first field that is out of its range: its name, offset and value.",
         flags: &[],
+    },
+    Command {
+        name: "keyboard",
+        operand: "[EVENTS]",
+        brief: "a keyboard's answers to commands, keys and waits",
+        about: "Runs a text of events on a keyboard and shows its answers. Without EVENTS it reads standard\n\
+                input. A line has a wait in VIA ticks, which ends in t, and what happens after it:\n\
+                \n  \
+                0t      COMMAND $10   ; a command byte, or INQUIRY, INSTANT, MODEL, TEST\n  \
+                100t    KEY $33       ; a key code\n  \
+                195840t               ; a wait alone\n\
+                \n\
+                Every wrong line is named, as FILE:LINE:COLUMN: MESSAGE, and then nothing is run. Exit\n\
+                status: 7 where the image is none of an accepted keyboard.",
+        flags: &[
+            Flag {
+                name: "--model",
+                value: "BYTE",
+                help: "what the command Model answers (without it: $03)",
+            },
+            Flag {
+                name: "--image",
+                value: "FILE",
+                help: "begins with the keyboard of this image, not with one just made",
+            },
+            Flag { name: "--save", value: "FILE", help: "writes the image of the keyboard reached" },
+        ],
     },
     Command {
         name: "sheet get",
@@ -193,8 +236,9 @@ pub const COMMANDS: [Command; 14] = [
         name: "sheet make",
         operand: "[TEXT]",
         brief: "text to a sheet",
-        about: "Turns a text, one record a line, into a sheet. Without TEXT it reads standard input. Every\n\
-                wrong line is named, as FILE:LINE:COLUMN: MESSAGE, and then nothing is written.",
+        about: "Turns a text, one record a line, into a sheet (sheet --help shows the form). Without TEXT it reads\n\
+                standard input. Every wrong line is named, as FILE:LINE:COLUMN: MESSAGE, and then nothing is\n\
+                written.",
         flags: &[OUT],
     },
     Command {
@@ -226,13 +270,22 @@ pub const COMMANDS: [Command; 14] = [
         name: "bench",
         operand: "",
         brief: "records a second, beside a plain model of the board",
-        about: "Times lists of several kinds: on the library with either clock chip, and on a plain model of\n\
-                the same board.",
-        flags: &[Flag {
-            name: "--records",
-            value: "COUNT",
-            help: "records in each list (without it: 200000)",
-        }],
+        about: "Times lists on the library and on a plain model of the same board: each kind of item, refusals,\n\
+                transactions with the clock chip, long waits, a mix, and calls with one item; and on the library\n\
+                with 256 cells. The last lines are for scripts: the ratios of the mix, of the worst list, and of\n\
+                calls with one item.",
+        flags: &[
+            Flag {
+                name: "--records",
+                value: "COUNT",
+                help: "records in each list (without it: 200000; at most 10000 with --instructions)",
+            },
+            Flag {
+                name: "--instructions",
+                value: "",
+                help: "counts instructions a record, by valgrind, which takes longer, in place of times",
+            },
+        ],
     },
     Command {
         name: "man",
@@ -269,7 +322,7 @@ pub const COMMANDS: [Command; 14] = [
 /// The text form, the units and the statuses, for help and the man page.
 pub const TEXT_FORM: &str = "\
 12t WR VIA.ORB $41     0t RD $EFE1FE     12000us VB    0t SE     0t RS
-0t IN 3 1              0t SN internal 1 0              0t DI internal 1 0 1
+0t IN 3 1              0t SN internal 6 0              0t DI internal 1 0 1
 0t PW 5s               RAW 05 00                       ; comment
 ";
 
@@ -281,8 +334,8 @@ turned into VIA ticks and rounded up), a time off in s (seconds).";
 /// Statuses, in a sentence.
 pub const STATUSES: &str = "\
 Exit status of run: 0 at the end of the list, 1 a record is cut, 6 no room for an answer, 7 the image
-is none of an accepted state; with --strict the number of the first refusal. Of sheet: 1 a sheet is
-broken, 2 a setting is not set, 6 too little room. Of all commands: 64 wrong words, 65 an error in a
+is none of an accepted state; with --strict the number of the first refusal. Of convert: 1 a
+record is cut. Of sheet: 1 a sheet is broken, 2 a setting is not set, 6 too little room. Of all commands: 64 wrong words, 65 an error in a
 text or a file of another kind, 74 a file cannot be read or written.";
 
 /// The group of a word.

@@ -25,7 +25,7 @@ enum Values {
 
 fn values(name: &str) -> Values {
     match name.trim_matches(['[', ']']) {
-        "FILE" | "LIST" | "TEXT" | "SHEET" => Values::Files,
+        "EVENTS" | "FILE" | "LIST" | "OLD" | "SHEET" | "TEXT" => Values::Files,
         "WHEN" => Values::Words(vec!["always", "never", "auto"]),
         "CELLS" => Values::Words(vec!["20", "256"]),
         "SHELL" => Values::Words(SHELLS.to_vec()),

@@ -3,6 +3,7 @@
 use super::draft::{folder_of, Target};
 use super::failure::Failure;
 use super::place::{Input, Output};
+use super::words::Given;
 use std::ffi::OsString;
 use std::fmt;
 use std::fs::{self, File, Metadata};
@@ -91,6 +92,15 @@ impl Uses {
         };
         Err(Failure::usage(self.command, &what))
     }
+}
+
+/// What a command reads, by default standard input, and what it writes by `-o`, by default standard
+/// output.
+pub fn ends(command: &'static str, word: &str, given: &Given) -> Result<(Input, Output), Failure> {
+    let input = given.operand()?.map_or(Input::standard(), Input::of);
+    let output = given.value("-o").map_or(Output::standard(), Output::of);
+    Uses::of(command).reads(word, &input).writes("-o", &output).check()?;
+    Ok((input, output))
 }
 
 /// Every two of them, the earlier one first.

@@ -17,6 +17,8 @@ pub enum Failure {
     File(String, io::Error),
     /// An image that is none of an accepted state.
     State(String, String),
+    /// An image that is none of an accepted keyboard.
+    Keyboard(String),
     /// A sheet that is refused.
     Sheet(String, SheetRefusal),
 }
@@ -28,7 +30,7 @@ impl Failure {
             Failure::Usage(_) => 64,
             Failure::Text(..) | Failure::Content(..) => 65,
             Failure::File(..) => 74,
-            Failure::State(..) => 7,
+            Failure::State(..) | Failure::Keyboard(_) => 7,
             Failure::Sheet(_, refusal) => refusal.number(),
         }
     }
@@ -52,6 +54,7 @@ impl fmt::Display for Failure {
             Failure::State(name, why) => {
                 write!(f, "{name}: not the image of an accepted state: {why}")
             }
+            Failure::Keyboard(name) => write!(f, "{name}: not the image of an accepted keyboard"),
             Failure::Sheet(name, refusal) => {
                 write!(f, "{name}: {refusal} (refusal {})", refusal.number())
             }

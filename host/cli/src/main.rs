@@ -6,11 +6,13 @@ mod commands;
 mod completions;
 mod conflicts;
 mod contents;
+mod convert;
 mod draft;
 mod failure;
 mod files;
 mod help;
 mod image;
+mod keyboard;
 mod lines;
 mod manual;
 mod numbers;
@@ -100,11 +102,13 @@ fn act(command: &str, given: &Given) -> Result<u8, Failure> {
         "run" => run::run(&request::Options::of(given)?),
         "asm" => assemble::asm(given),
         "disasm" => assemble::disasm(given),
+        "convert" => convert::convert(given),
         "image" => {
             let input = Input::of(given.need()?);
             let machine = image::read(&input, source::open(&input)?)?;
             print(&describe::image(&machine)).map(|()| 0)
         }
+        "keyboard" => keyboard::keyboard(given),
         "sheet get" => sheet::get(given),
         "sheet list" => sheet::list(given),
         "sheet make" => sheet::make(given),
@@ -113,7 +117,11 @@ fn act(command: &str, given: &Given) -> Result<u8, Failure> {
         "bench" => {
             given.operand()?;
             let records = given.number("--records")?.unwrap_or(200_000).clamp(1, 10_000_000);
-            bench::bench(records as usize).map(|()| 0)
+            if given.flag("--instructions") {
+                bench::instructions(records.min(10_000) as usize).map(|()| 0)
+            } else {
+                bench::bench(records as usize).map(|()| 0)
+            }
         }
         "man" => write(given, &manual::page()),
         "completions" => {

@@ -1,6 +1,6 @@
 //! The man page.
 
-use super::commands::{Command, COMMANDS, STATUSES, TEXT_FORM, UNITS};
+use super::commands::{Command, COMMANDS, GROUPS, STATUSES, TEXT_FORM, UNITS};
 
 /// The page, for `man`.
 pub fn page() -> String {
@@ -20,8 +20,13 @@ pub fn page() -> String {
          A file named - is standard input or output; after -- there are no options.",
         &mut out,
     );
-    for command in &COMMANDS {
+    for command in COMMANDS.iter().filter(|command| command.group().is_none()) {
         section(command, &mut out);
+    }
+    for group in &GROUPS {
+        out.push_str(&format!(".SS {}\n", group.name));
+        paragraph(group.about, &mut out);
+        group.commands().for_each(|command| section(command, &mut out));
     }
     out.push_str(".SH TEXT FORM\n");
     paragraph(UNITS, &mut out);
@@ -46,12 +51,19 @@ fn section(command: &Command, out: &mut String) {
     }
 }
 
+/// Lines that are filled, but for those that begin with a blank, which stay as they are.
 fn paragraph(text: &str, out: &mut String) {
+    let mut as_is = false;
     for line in text.lines() {
+        if as_is != line.starts_with(' ') {
+            as_is = !as_is;
+            out.push_str(if as_is { ".nf\n" } else { ".fi\n" });
+        }
         let line = escaped(line);
         out.push_str(if line.is_empty() { ".PP" } else { &line });
         out.push('\n');
     }
+    out.push_str(if as_is { ".fi\n" } else { "" });
 }
 
 /// Text in which nothing is a request of the page's language.

@@ -1,6 +1,6 @@
 //! `swarmtempo sheet`: sheets of settings.
 
-use super::conflicts::Uses;
+use super::conflicts::{ends, Uses};
 use super::contents::{self, Looks};
 use super::failure::{failure, Failure};
 use super::files::{self, print, Out};
@@ -88,14 +88,6 @@ fn setting(given: &Given) -> Result<u16, Failure> {
         let what = format!("SETTING is a number from 0 to 65535, not `{}`", shown(&word));
         Failure::usage("sheet get", &what)
     })
-}
-
-/// What is read and what is written.
-fn ends(command: &'static str, word: &str, given: &Given) -> Result<(Input, Output), Failure> {
-    let input = given.operand()?.map_or(Input::standard(), Input::of);
-    let output = given.value("-o").map_or(Output::standard(), Output::of);
-    Uses::of(command).reads(word, &input).writes("-o", &output).check()?;
-    Ok((input, output))
 }
 
 /// Writes a sheet, which is made once its file is open.

@@ -8,11 +8,13 @@ use std::process::Command;
 use swarmtempo::text::assemble;
 use swarmtempo::{Chip, Machine, CHUNK_LEN};
 
-const COMMANDS: [&str; 14] = [
+const COMMANDS: [&str; 16] = [
     "run",
     "asm",
     "disasm",
+    "convert",
     "image",
+    "keyboard",
     "sheet get",
     "sheet list",
     "sheet make",
@@ -401,6 +403,10 @@ fn the_first_list_and_what_it_names() {
 /// The man page has no mistake that groff would tell of, and names every option.
 #[test]
 fn the_man_page() {
+    let text = stdout(&program(&["man"], b""));
+    for part in [".SS sheet\n", ".SS sheet compact [SHEET]", "7  3 \"north bench\"", "KEY $33"] {
+        assert!(text.contains(part), "{part}");
+    }
     let folder = Folder::new("man");
     let page = folder.path("swarmtempo.1");
     assert_eq!(status(&program(&["man", "-o", &page], b"")), 0);

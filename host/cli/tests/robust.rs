@@ -85,6 +85,8 @@ const TEXTS: [&str; 4] = [
 
 const SHEET: &str = "7 3 \"north bench\"\n20 1 14\n$201 255 00 FF ; remark\n7 3 \"x\"\n9 0\n";
 
+const EVENTS: &str = "0t COMMAND Inquiry\n100t KEY $33\n195840t ; alone\n0t COMMAND 0x16\n";
+
 fn broken_text(random: &mut Random) -> Vec<u8> {
     let text = TEXTS[random.below(TEXTS.len())];
     random.broken(text.as_bytes())
@@ -96,7 +98,7 @@ fn records(random: &mut Random) -> Vec<u8> {
 
 /// Anything that a file can hold: noise, broken texts, records and images.
 fn contents(random: &mut Random) -> Vec<u8> {
-    match random.below(7) {
+    match random.below(8) {
         0 => random.bytes(300),
         1 => random.broken(&sheet_text::assemble(SHEET).expect("in the form")),
         2 => random.broken(SHEET.as_bytes()),
@@ -104,6 +106,7 @@ fn contents(random: &mut Random) -> Vec<u8> {
             let chip = Chip::BOTH[random.below(2)];
             random.broken(Machine::fresh(chip).image())
         }
+        6 => random.broken(EVENTS.as_bytes()),
         4 => {
             let list = records(random);
             random.broken(&list)
@@ -180,7 +183,8 @@ fn images() {
 #[test]
 fn the_program() {
     let folder = Folder::new("robust");
-    let commands: [&[&str]; 14] = [
+    folder.put("nothing", b"");
+    let commands: [&[&str]; 18] = [
         &["run", "file"],
         &["run", "file", "--text"],
         &["run", "file", "--records", "--vcd", "vcd", "--quiet"],
@@ -190,9 +194,13 @@ fn the_program() {
         &["asm", "-o", "out"],
         &["disasm", "file", "--records"],
         &["image", "file"],
+        &["convert", "file", "-o", "out"],
+        &["convert", "--records"],
         &["sheet", "get", "7", "--bench", "file"],
         &["sheet", "get", "7", "--text", "--house", "file"],
         &["sheet", "list"],
+        &["keyboard", "--save", "out"],
+        &["keyboard", "--image", "file", "nothing"],
         &["sheet", "make", "file", "-o", "out"],
         &["sheet", "compact", "file", "-o", "out", "--room", "70"],
     ];
@@ -218,6 +226,6 @@ fn the_program() {
         let told = String::from_utf8_lossy(&folder.get("told")).into_owned();
         assert!(!told.contains("panicked"), "{words:?} on {file}: {told}");
         let status = ended.code().unwrap_or(-1);
-        assert!([0, 1, 2, 3, 4, 5, 6, 7, 8, 65].contains(&status), "{words:?} {status}: {told}");
+        assert!([0, 1, 2, 3, 4, 5, 6, 7, 8, 9, 65].contains(&status), "{words:?} {status}: {told}");
     });
 }

@@ -27,13 +27,15 @@ impl Chip {
     }
 }
 
-struct Writer {
-    bytes: Vec<u8>,
+struct Writer<'a> {
+    bytes: &'a mut [u8],
+    at: usize,
 }
 
-impl Writer {
+impl Writer<'_> {
     fn put(&mut self, bytes: &[u8]) {
-        self.bytes.extend_from_slice(bytes);
+        self.bytes[self.at..self.at + bytes.len()].copy_from_slice(bytes);
+        self.at += bytes.len();
     }
 
     fn flag(&mut self, on: bool) {
@@ -121,8 +123,15 @@ impl Reader<'_> {
 impl Machine {
     /// The image of an accepted state.
     pub fn image(&self) -> Vec<u8> {
+        let mut image = vec![0; self.clock.store.chip.image_len()];
+        self.save(&mut image);
+        image
+    }
+
+    /// Writes it to memory of its length.
+    fn save(&self, image: &mut [u8]) {
         let chip = self.clock.store.chip;
-        let mut w = Writer { bytes: Vec::with_capacity(chip.image_len()) };
+        let mut w = Writer { bytes: image, at: 0 };
         w.put(&(chip.image_len() as u16 - 2).to_le_bytes());
         w.put(&chip.kind());
         let via = &self.via;
@@ -170,8 +179,7 @@ impl Machine {
             };
             w.put(&[second]);
         }
-        debug_assert_eq!(w.bytes.len(), chip.image_len());
-        w.bytes
+        debug_assert_eq!(w.at, chip.image_len());
     }
 
     /// The accepted state of an image, or none.
@@ -234,6 +242,6 @@ pub fn run_image(image: &mut [u8], list: &[u8], answers: &mut [u8]) -> Run {
         return Run { stop: refusal::STATE, consumed: 0, written: 0 };
     };
     let run = machine.run(list, answers);
-    image.copy_from_slice(&machine.image());
+    machine.save(image);
     run
 }

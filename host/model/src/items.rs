@@ -99,11 +99,14 @@ pub fn decode(record: &[u8]) -> Result<(u16, Item), u8> {
         b"VB" => Item::Blank,
         b"SE" => Item::Second,
         b"IN" => Item::Line { line: below(body[0], 7)?, level: level(body[1])? },
-        b"SN" => Item::Sense {
-            drive: below(body[0], 2)?,
-            register: below(body[1], 16)?,
-            level: level(body[2])?,
-        },
+        b"SN" => {
+            let (drive, register) = (below(body[0], 2)?, below(body[1], 16)?);
+            let level = level(body[2])?;
+            if matches!(register, 0..=5 | 12 | 15) {
+                return Err(refusal::RETIRED);
+            }
+            Item::Sense { drive, register, level }
+        }
         b"DI" => Item::Disk {
             drive: below(body[0], 2)?,
             insert: level(body[1])?,

@@ -7,9 +7,11 @@
 #![allow(clippy::struct_excessive_bools, reason = "lines and flags are levels")]
 
 mod clock;
+mod convert;
 mod drive;
 mod image;
 mod items;
+mod keyboard;
 mod machine;
 mod run;
 pub mod sheet;
@@ -18,9 +20,13 @@ mod via;
 pub use clock::{
     decode_command, decode_extended, Chip, Clock, Command, Phase, Store, Target, CELLS_MOST,
 };
+pub use convert::{convert, Conversion};
 pub use drive::{ticks_of_micros, Drive, Drives, Strobe, EJECT_TICKS, STEP_TICKS, WRITE_TICKS};
 pub use image::{fresh_image, run_image};
 pub use items::{decode, Item, IWM_BASE, STRIDE, VIA_BASE};
+pub use keyboard::{
+    keyboard_call, keyboard_fresh, Keyboard, KeyboardEvent, FULL, INQUIRY_TICKS, KEYBOARD_LEN,
+};
 pub use machine::{Machine, Wires};
 pub use run::{frame, Run};
 pub use via::{Timer1, Timer2, Via};
@@ -43,4 +49,6 @@ pub mod refusal {
     pub const STATE: u8 = 7;
     /// A disk inserted where one is, or removed where none is.
     pub const DISK: u8 = 8;
+    /// SN on a register that the drive has itself.
+    pub const RETIRED: u8 = 9;
 }

@@ -140,6 +140,9 @@ fn refusals() {
     assert_eq!(b.refused(&record(b"SN", 9, &[2, 0, 0])), 5);
     assert_eq!(b.refused(&record(b"SN", 9, &[0, 16, 0])), 5);
     assert_eq!(b.refused(&record(b"SN", 9, &[0, 0, 2])), 5);
+    for register in [0, 1, 2, 3, 4, 5, 12, 15] {
+        assert_eq!(b.refused(&record(b"SN", 9, &[1, register, 0])), 9);
+    }
     assert_eq!(b.refused(&[5, 0, b'X', b'X', 0, 0, 0]), 2);
     assert_eq!(b.refused(&[2, 0, b'S', b'T']), 2);
     assert_eq!(b.refused(&[2, 0, b's', b'e']), 2);
@@ -300,7 +303,7 @@ fn disk_lines_and_sense() {
     assert_eq!(b.rd(0, iwm(13)), [0xFF, 0, 0x40, 1]);
     assert_eq!(b.rd(0, iwm(14)), [0x80, 0, 0x40, 1], "ENABLE off reads 1");
     b.wr(0, iwm(9), 0);
-    b.ok(&record(b"SN", 0, &[0, 1, 0]));
+    assert_eq!(b.refused(&record(b"SN", 0, &[0, 1, 0])), 9);
     assert_eq!(b.rd(0, iwm(14)), [0x80, 0, 0x50, 1], "register 1 is the drive's: no disk");
     b.wr(0, iwm(5), 0);
     b.ok(&record(b"SN", 0, &[0, 9, 0]));
@@ -317,7 +320,7 @@ fn disk_lines_and_sense() {
     assert_eq!(b.rd(0, iwm(14)), [0x00, 0, 0x77, 0]);
     b.ok(&record(b"RS", 0, &[]));
     assert_eq!(b.0.lines, 0);
-    assert_eq!(b.0.sense, !(1 << 1 | 1 << 9 | 1 << 30));
+    assert_eq!(b.0.sense, !(1 << 9 | 1 << 30));
 }
 
 #[test]

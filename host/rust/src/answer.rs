@@ -28,11 +28,13 @@ pub enum Refusal {
     State = 7,
     /// A disk inserted where one is, or removed where none is.
     Disk = 8,
+    /// SN on a register that the drive has itself: 0 to 5, 12, 15.
+    Retired = 9,
 }
 
 impl Refusal {
     /// All, in the order of their numbers.
-    pub const ALL: [Refusal; 8] = [
+    pub const ALL: [Refusal; 9] = [
         Refusal::Cut,
         Refusal::Kind,
         Refusal::Length,
@@ -41,6 +43,7 @@ impl Refusal {
         Refusal::Room,
         Refusal::State,
         Refusal::Disk,
+        Refusal::Retired,
     ];
 
     /// The refusal of a number.
@@ -65,6 +68,7 @@ impl fmt::Display for Refusal {
             Refusal::Room => "no room for an answer",
             Refusal::State => "image is none of an accepted state",
             Refusal::Disk => "a disk is there already, or none is",
+            Refusal::Retired => "SN on this register has retired",
         })
     }
 }

@@ -79,6 +79,12 @@ impl SenseRegister {
     pub fn number(self) -> u8 {
         self.0
     }
+
+    /// True for 0 to 5, 12 and 15, which the drive has itself: an SN on them has retired, and a run
+    /// refuses it with [`Refusal::Retired`]. [`crate::convert`] turns captures with such items over.
+    pub fn is_retired(self) -> bool {
+        matches!(self.0, 0..=5 | 12 | 15)
+    }
 }
 
 /// Something known by its number.
@@ -213,7 +219,8 @@ impl Item {
     /// Reads a record, given without its length.
     ///
     /// # Errors
-    /// The refusal that a run answers whatever the state. [`Refusal::Disk`] is none of those.
+    /// The refusal that a run answers whatever the state. [`Refusal::Disk`] is none of those, nor is
+    /// [`Refusal::Retired`]: items of an old capture can be looked at and shown.
     pub fn read(record: &[u8]) -> Result<(ViaTicks, Item), Refusal> {
         let (kind, rest) = record.split_first_chunk::<2>().ok_or(Refusal::Cut)?;
         if !Self::KINDS.contains(&kind) {

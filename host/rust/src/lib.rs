@@ -26,6 +26,8 @@
 //!   [`Machine::run`] and [`Machine::run_in`] for answers as bytes, which [`answers`] reads.
 //! - States: [`Machine::image`] to save and [`Machine::from_image`] to restore; [`State`] to look at.
 //! - For people: [`table`], [`vcd`], [`describe`], and `Display` of nearly everything.
+//! - Captures from before SN retired on the drives' own registers: [`convert`].
+//! - A keyboard, by itself: [`Keyboard`].
 //! - Settings of a bench: [`Sheets`], [`compact`], and as text [`sheet_text`].
 //! - The C functions as they are: [`sys`].
 //!
@@ -43,9 +45,11 @@ mod answer;
 mod chip;
 mod chunks;
 mod command;
+mod convert;
 pub mod describe;
 mod error;
 mod item;
+mod keyboard;
 mod list;
 mod machine;
 pub mod sheet_text;
@@ -69,8 +73,10 @@ pub use answer::{
 pub use chip::Chip;
 pub use chunks::{pieces, Chunks, Piece, Pieces, CHUNK_LEN};
 pub use command::{Command, Target};
+pub use convert::{convert, convert_in, Conversion};
 pub use error::ParseError;
 pub use item::{Drive, InLine, Item, SenseRegister, Timed};
+pub use keyboard::{Keyboard, KeyboardFull, KeyboardState, INQUIRY_TICKS, KEYBOARD_LEN};
 pub use list::{items, Items, List};
 pub use machine::{Exchange, Exchanges, Machine, Run, Transcript};
 pub use sheets::{

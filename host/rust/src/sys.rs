@@ -22,6 +22,14 @@ extern "C" {
     fn swarmtempo_image_len(cells: u32) -> u64;
     fn swarmtempo_ticks_of_micros(micros: u32) -> u32;
     fn swarmtempo_fresh(image: *mut c_uchar, image_len: usize, cells: u32) -> u8;
+    fn swarmtempo_convert(
+        list: *const c_uchar,
+        list_len: usize,
+        out: *mut c_uchar,
+        out_len: usize,
+        written: *mut u64,
+        count: *mut u64,
+    ) -> u8;
     fn swarmtempo_sheet_get(
         bench: *const c_uchar,
         bench_len: usize,
@@ -38,6 +46,29 @@ extern "C" {
         out: *mut c_uchar,
         out_len: usize,
         written: *mut u64,
+    ) -> u8;
+    fn swarmtempo_keyboard_len() -> u64;
+    fn swarmtempo_keyboard_fresh(image: *mut c_uchar, image_len: usize, model: u8) -> u8;
+    fn swarmtempo_keyboard_command(
+        image: *mut c_uchar,
+        image_len: usize,
+        command: u8,
+        answered: *mut u8,
+        answer: *mut u8,
+    ) -> u8;
+    fn swarmtempo_keyboard_key(
+        image: *mut c_uchar,
+        image_len: usize,
+        code: u8,
+        answered: *mut u8,
+        answer: *mut u8,
+    ) -> u8;
+    fn swarmtempo_keyboard_wait(
+        image: *mut c_uchar,
+        image_len: usize,
+        via_ticks: u32,
+        answered: *mut u8,
+        answer: *mut u8,
     ) -> u8;
 }
 
@@ -91,6 +122,34 @@ pub fn fresh(image: &mut [u8], cells: u32) -> u8 {
     unsafe { swarmtempo_fresh(image.as_mut_ptr(), image.len(), cells) }
 }
 
+/// What a conversion reports, as numbers.
+#[derive(Clone, Copy, Debug, PartialEq, Eq)]
+pub struct Converted {
+    /// 0 at the end of the capture, 1 where a record is cut, 6 where there is too little room.
+    pub refusal: u8,
+    /// Bytes written.
+    pub written: u64,
+    /// SN items replaced without a DI.
+    pub count: u64,
+}
+
+/// Turns an old capture over.
+pub fn convert(list: &[u8], out: &mut [u8]) -> Converted {
+    let (mut written, mut count) = (u64::MAX, u64::MAX);
+    // SAFETY: two slices and two numbers that live through the call and do not overlap.
+    let refusal = unsafe {
+        swarmtempo_convert(
+            list.as_ptr(),
+            list.len(),
+            out.as_mut_ptr(),
+            out.len(),
+            &raw mut written,
+            &raw mut count,
+        )
+    };
+    Converted { refusal, written, count }
+}
+
 /// Where a setting's bytes are, as numbers.
 #[derive(Clone, Copy, Debug, PartialEq, Eq)]
 pub struct Found {
@@ -139,4 +198,59 @@ pub fn sheet_compact(sheet: &[u8], out: &mut [u8]) -> (u8, u64) {
         )
     };
     (refusal, written)
+}
+
+/// What a keyboard says to an event, as numbers.
+#[derive(Clone, Copy, Debug, PartialEq, Eq)]
+pub struct Said {
+    /// 0, 7 where no accepted keyboard has this image, or 11 where a key is one too many.
+    pub refusal: u8,
+    /// 1 where there is an answer byte, else 0.
+    pub answered: u8,
+    /// The answer byte, 0 where there is none.
+    pub answer: u8,
+}
+
+/// Bytes of a keyboard's image.
+pub fn keyboard_len() -> u64 {
+    // SAFETY: takes nothing.
+    unsafe { swarmtempo_keyboard_len() }
+}
+
+/// Writes the image of a keyboard that was just made: 0, or 6 where there are too few bytes.
+pub fn keyboard_fresh(image: &mut [u8], model: u8) -> u8 {
+    // SAFETY: a slice that lives through the call.
+    unsafe { swarmtempo_keyboard_fresh(image.as_mut_ptr(), image.len(), model) }
+}
+
+/// A command byte.
+pub fn keyboard_command(image: &mut [u8], command: u8) -> Said {
+    let (at, len) = (image.as_mut_ptr(), image.len());
+    // SAFETY: a slice, and the two numbers of `said`, live through the call and do not overlap.
+    said(|answered, answer| unsafe {
+        swarmtempo_keyboard_command(at, len, command, answered, answer)
+    })
+}
+
+/// A key code.
+pub fn keyboard_key(image: &mut [u8], code: u8) -> Said {
+    let (at, len) = (image.as_mut_ptr(), image.len());
+    // SAFETY: as for a command.
+    said(|answered, answer| unsafe { swarmtempo_keyboard_key(at, len, code, answered, answer) })
+}
+
+/// A wait in VIA ticks.
+pub fn keyboard_wait(image: &mut [u8], via_ticks: u32) -> Said {
+    let (at, len) = (image.as_mut_ptr(), image.len());
+    // SAFETY: as for a command.
+    said(|answered, answer| unsafe {
+        swarmtempo_keyboard_wait(at, len, via_ticks, answered, answer)
+    })
+}
+
+fn said(call: impl FnOnce(*mut u8, *mut u8) -> u8) -> Said {
+    // Numbers that would show where they are left unwritten.
+    let (mut answered, mut answer) = (u8::MAX, u8::MAX);
+    let refusal = call(&raw mut answered, &raw mut answer);
+    Said { refusal, answered, answer }
 }

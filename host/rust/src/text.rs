@@ -7,7 +7,7 @@
 //! 0t  WR IWM.LSTRB+ 0
 //! 12000us VB              ; 12,000 microseconds: 9,401 VIA ticks, rounded up; also SE and RS
 //! 0t  IN 3 1              ; line, level
-//! 0t  SN internal 1 0     ; drive, register, level
+//! 0t  SN internal 6 0     ; drive, register, level
 //! 0t  DI internal 1 0 1   ; drive, insert, locked, double-sided
 //! 0t  PW 5s               ; power cut, 5 seconds off
 //! RAW 05 00 53 45 00 00 00  ; bytes as they are

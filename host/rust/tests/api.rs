@@ -7,10 +7,10 @@ use std::fmt::{Debug, Display};
 use std::str::FromStr;
 use swarmtempo::text::{LineError, TextError};
 use swarmtempo::{
-    answers, items, sys, table, vcd, Address, Answer, Chip, DiskLine, Drive, InLine, Item, Lines,
-    List, Machine, Micros, NoAnswer, ParseError, Phase, Refusal, Register, Seconds, Seen,
-    SenseRegister, Setting, State, TickCount, Timed, TooLong, UnknownRefusal, ViaTicks, ANSWER_LEN,
-    SETTING_MAX, TICKS_PER_SECOND,
+    answers, items, sys, table, vcd, Address, Answer, Chip, DiskLine, Drive, InLine, Item,
+    KeyboardFull, Lines, List, Machine, Micros, NoAnswer, ParseError, Phase, Refusal, Register,
+    Seconds, Seen, SenseRegister, Setting, State, TickCount, Timed, TooLong, UnknownRefusal,
+    ViaTicks, ANSWER_LEN, INQUIRY_TICKS, KEYBOARD_LEN, SETTING_MAX, TICKS_PER_SECOND,
 };
 
 const NOW: ViaTicks = ViaTicks(0);
@@ -158,7 +158,7 @@ fn names() {
         assert_eq!(InLine::try_from(number).map(u8::from), in_range(number, 7));
         assert_eq!(SenseRegister::try_from(number).map(u8::from), in_range(number, 16));
         let refusal = Refusal::try_from(number);
-        assert_eq!(refusal.is_ok(), (1..=8).contains(&number));
+        assert_eq!(refusal.is_ok(), (1..=9).contains(&number));
         assert_eq!(refusal.map_or_else(|UnknownRefusal(n)| n, u8::from), number);
     }
 }
@@ -194,7 +194,7 @@ fn answers_there_and_back() {
     let mut some = answers(&bytes);
     assert_eq!(some.by_ref().count(), 3);
     assert_eq!(some.next(), None);
-    for wrong in [[6, 0, b'O', b'K', 0, 0, 0, 2], [6, 0, b'N', b'O', 9, 0, 0, 0], [0; 8]] {
+    for wrong in [[6, 0, b'O', b'K', 0, 0, 0, 2], [6, 0, b'N', b'O', 10, 0, 0, 0], [0; 8]] {
         assert_eq!(Answer::try_from(wrong), Err(NoAnswer));
     }
 }
@@ -395,6 +395,8 @@ fn the_header_has_the_same_numbers() {
     for line in DiskLine::ALL {
         assert_eq!(number_of(line.name()), 1 << line.index());
     }
+    assert_eq!(number_of("KEYBOARD_LEN") as usize, KEYBOARD_LEN);
+    assert_eq!(number_of("INQUIRY_TICKS"), INQUIRY_TICKS.0);
     assert_eq!(number_of("SETTING_MAX") as usize, SETTING_MAX);
     let mut record = Vec::new();
     Setting { setting: 0, version: 0, bytes: &[0; SETTING_MAX] }.write(&mut record);
@@ -416,7 +418,10 @@ fn the_header_has_the_same_numbers() {
 fn refusals_have_the_same_numbers_and_words_in_c() {
     let words = include_str!("../../c/words.c");
     let cases = words.lines().filter(|line| line.trim_start().starts_with("case "));
-    assert_eq!(cases.count(), 1 + Refusal::ALL.len());
+    // None, those of lists and images, and the keyboard's.
+    assert_eq!(cases.count(), 1 + Refusal::ALL.len() + 1);
+    assert_eq!(number_of("REFUSED_KEY"), u32::from(KeyboardFull::NUMBER));
+    assert!(words.contains(&format!("case SWARMTEMPO_REFUSED_KEY: return \"{KeyboardFull}\";")));
     for refusal in Refusal::ALL {
         let name = format!("REFUSED_{}", format!("{refusal:?}").to_uppercase());
         assert_eq!(number_of(&name), u32::from(refusal.number()));

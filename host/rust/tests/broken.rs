@@ -105,7 +105,10 @@ fn lists() {
                     taken += 1;
                     assert_eq!(timed.to_bytes(), done.record);
                     assert_eq!(timed.to_string().parse(), Ok(timed));
-                    assert!(matches!(answer, Answer::Ok(_) | Answer::No(Refusal::Disk)));
+                    let retired = matches!(timed.item, Item::Sense(_, it, _) if it.is_retired());
+                    assert_eq!(answer == Answer::No(Refusal::Retired), retired);
+                    let by_state = matches!(answer, Answer::Ok(_) | Answer::No(Refusal::Disk));
+                    assert!(by_state || retired, "{timed}: {answer}");
                 }
                 (Err(refusal), answer) => assert_eq!(answer, Answer::No(refusal)),
             }

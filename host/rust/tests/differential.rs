@@ -709,10 +709,10 @@ fn number(name: &str, otherwise: u64) -> u64 {
 #[derive(Default, Debug)]
 struct Reached {
     stops: [u64; 8],
-    refusals: [u64; 9],
+    refusals: [u64; 10],
     phases: [u64; 6],
     /// Amid a second byte, and past cell 19.
-    seconds_begun: u64,
+    second_bytes: u64,
     far_cells: u64,
     /// Runs with either chip.
     chips: [u64; 2],
@@ -743,7 +743,7 @@ impl Reached {
             self.chips[usize::from(later)] += 1;
             self.phases[usize::from(left.image[23])] += 1;
             let first = left.image[24] & 0x78 == 0x38;
-            self.seconds_begun += u64::from(left.image[23] == 2 && first);
+            self.second_bytes += u64::from(left.image[23] == 2 && first);
             self.far_cells += u64::from(later && left.image[123..359] != case.image[123..359]);
             self.protected += u64::from(left.image[27]);
             self.cells += u64::from(left.image[33..53] != case.image[33..53]);
@@ -756,10 +756,10 @@ impl Reached {
 
     fn enough(&self, lists: u64) {
         let counts = [0, 1, 6, 7].map(|i| self.stops[i]).into_iter();
-        let refusals = [1, 2, 3, 4, 5, 8].map(|i| self.refusals[i]);
+        let refusals = [1, 2, 3, 4, 5, 8, 9].map(|i| self.refusals[i]);
         let counts = counts.chain(refusals).chain(self.phases);
         let counts = counts.chain([self.moved, self.motors, self.strobes]).chain(self.chips);
-        let counts = counts.chain([self.seconds_begun, self.far_cells]);
+        let counts = counts.chain([self.second_bytes, self.far_cells]);
         let counts = counts.chain([self.protected, self.cells, self.seconds, self.asked]);
         for count in counts {
             assert!(count * 500 >= lists, "too little of something: {self:?}");
