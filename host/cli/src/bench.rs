@@ -221,12 +221,12 @@ fn best(name: &str, list: &List, records: usize) -> [Duration; 3] {
 }
 
 /// A line for scripts: the mix, the worst list of records in one call, and calls of one item.
-fn summary(word: &str, ratios: &[(&str, f64)]) -> String {
+fn summary(word: &str, digits: usize, ratios: &[(&str, f64)]) -> String {
     let of = |name: &str| ratios.iter().find(|r| r.0 == name).map_or(f64::NAN, |r| r.1);
     let rows = ratios.iter().filter(|r| r.0 != ONE);
     let worst = rows.max_by(|a, b| a.1.total_cmp(&b.1)).copied().unwrap_or(("none", f64::NAN));
     format!(
-        "{word} mix={:.2} worst={:.2} one-item={:.2} worst-list=\"{}\"\n",
+        "{word} mix={:.digits$} worst={:.digits$} one-item={:.digits$} worst-list=\"{}\"\n",
         of(MIX),
         worst.1,
         of(ONE),
@@ -258,7 +258,7 @@ pub fn bench(records: usize) -> Result<(), Failure> {
             .map(|time: Duration| time.as_secs_f64() * 1e9 / records as f64);
         let (ratio, by_first) = (library / model, later / library);
         print(&format!(
-            "{name:<18} {:>17.0} {library:>21.1} {model:>21.1} {ratio:>7.2} {later:>23.1} {by_first:>10.2}\n",
+            "{name:<18} {:>17.0} {library:>21.1} {model:>21.1} {ratio:>7.2} {later:>23.1} {by_first:>10.3}\n",
             1e9 / library,
         ))?;
         ratios.push((name, ratio));
@@ -266,8 +266,8 @@ pub fn bench(records: usize) -> Result<(), Failure> {
     }
     print("ratio: time of the library by time of the model; below 1 the library is quicker\n")?;
     print("256 cells by 20: time of the library with 256 cells by its time with 20\n")?;
-    print(&summary("cells", &by_cells))?;
-    print(&summary("summary", &ratios))
+    print(&summary("cells", 3, &by_cells))?;
+    print(&summary("summary", 2, &ratios))
 }
 
 // ---- instructions, counted by callgrind
@@ -316,11 +316,11 @@ pub fn instructions(records: usize) -> Result<(), Failure> {
         let later = counted("later", "swarmtempo_run", name, records)?;
         let (ratio, by_first) = (library / model, later / library);
         print(&format!(
-            "{name:<18} {library:>9.0} {model:>11.0} {ratio:>7.2} {later:>10.0} {by_first:>16.2}\n"
+            "{name:<18} {library:>9.0} {model:>11.0} {ratio:>7.2} {later:>10.0} {by_first:>16.3}\n"
         ))?;
         ratios.push((name, ratio));
         by_cells.push((name, by_first));
     }
-    print(&summary("cells", &by_cells))?;
-    print(&summary("summary", &ratios))
+    print(&summary("cells", 3, &by_cells))?;
+    print(&summary("summary", 2, &ratios))
 }
