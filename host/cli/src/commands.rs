@@ -65,9 +65,14 @@ const OUT: Flag = Flag {
     help: "writes to FILE, which appears whole or not at all (without it: standard output)",
 };
 
-const RUN: [Flag; 10] = [
+const RUN: [Flag; 11] = [
     Flag { name: "--text", value: "", help: "LIST is in the text form" },
     Flag { name: "--records", value: "", help: "LIST is records even where it looks like a text" },
+    Flag {
+        name: "--cells",
+        value: "CELLS",
+        help: "the fresh machine's clock chip has so many cells: 20 (without it, too) or 256",
+    },
     Flag {
         name: "--image",
         value: "FILE",
@@ -173,7 +178,7 @@ pub const COMMANDS: [Command; 16] = [
         name: "image",
         operand: "FILE",
         brief: "a state image in words",
-        about: "Shows the state in an image that run --save wrote. An image of no accepted state is refused\n\
+        about: "Shows the state in an image that run --save wrote, all cells of its clock chip too. An image of no accepted state is refused\n\
                 with the first field that is out of its range: its name, offset and value.",
         flags: &[],
     },
@@ -266,8 +271,9 @@ pub const COMMANDS: [Command; 16] = [
         operand: "",
         brief: "records a second, beside a plain model of the board",
         about: "Times lists on the library and on a plain model of the same board: each kind of item, refusals,\n\
-                transactions with the clock chip, long waits, a mix, and calls with one item. The last line is\n\
-                for scripts: the ratios of the mix, of the worst list, and of calls with one item.",
+                transactions with the clock chip, long waits, a mix, and calls with one item; and on the library\n\
+                with 256 cells. The last lines are for scripts: the ratios of the mix, of the worst list, and of\n\
+                calls with one item.",
         flags: &[
             Flag {
                 name: "--records",

@@ -27,6 +27,7 @@ fn values(name: &str) -> Values {
     match name.trim_matches(['[', ']']) {
         "EVENTS" | "FILE" | "LIST" | "OLD" | "SHEET" | "TEXT" => Values::Files,
         "WHEN" => Values::Words(vec!["always", "never", "auto"]),
+        "CELLS" => Values::Words(vec!["20", "256"]),
         "SHELL" => Values::Words(SHELLS.to_vec()),
         "COMMAND" => Values::Words(names()),
         _ => Values::Nothing,

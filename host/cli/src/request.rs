@@ -5,6 +5,7 @@ use super::failure::Failure;
 use super::place::{Input, Output};
 use super::style::When;
 use super::words::Given;
+use swarmtempo::Chip;
 
 /// What the words say of the list.
 #[derive(Clone, Copy, PartialEq, Eq)]
@@ -27,6 +28,8 @@ pub struct Options {
     pub strict: bool,
     /// Whether there are colours.
     pub colour: When,
+    /// The clock chip of a fresh machine.
+    pub chip: Chip,
     /// The image to begin with.
     pub image: Option<Input>,
     /// Where the image reached goes.
@@ -60,6 +63,7 @@ impl Options {
             strict: given.flag("--strict"),
             colour: colour
                 .ok_or_else(|| Failure::usage("run", "--color needs always, never or auto"))?,
+            chip: chip(given)?,
             image: given.value("--image").map(Input::of),
             save: output("--save"),
             answers: output("--answers"),
@@ -95,4 +99,18 @@ impl Options {
         }
         uses
     }
+}
+
+/// The clock chip of a fresh machine. An image has its own.
+fn chip(given: &Given) -> Result<Chip, Failure> {
+    let Some(word) = given.value("--cells") else {
+        return Ok(Chip::First);
+    };
+    if given.value("--image").is_some() {
+        let what = "--cells and --image: an image says how many cells there are";
+        return Err(Failure::usage("run", what));
+    }
+    let cells = word.to_str().and_then(|word| word.parse().ok());
+    let needs = || Failure::usage("run", "--cells needs 20 or 256, the cells of the clock chip");
+    cells.and_then(Chip::of_cells).ok_or_else(needs)
 }

@@ -28,7 +28,7 @@ pub fn run(options: &Options) -> Result<u8, Failure> {
     let outs = Outs::open(options)?;
     let machine = match image {
         Some((input, file)) => image::read(input, file)?,
-        None => Machine::fresh(),
+        None => Machine::fresh(options.chip),
     };
     if options.form == Form::Text && source::length(&options.list).is_some() {
         // The whole text first, so that nothing is run where a line is wrong.
