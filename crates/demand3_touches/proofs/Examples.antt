@@ -1,6 +1,6 @@
--- For each of the five kinds of entry two lists that differ in it alone, from the fresh machine with either chip, and end with different clocks: none of the
--- five, no value and no seconds off can be left out of W-208's sequence. And lists with other waits and other items, whose sequences are the same.
-use Prim.Native.Nat.{ℕ, _+_, _%_, _/_}
+-- For each of the five kinds of entry two lists that differ in it alone, from the fresh machine with either chip, and end with different clocks. And lists
+-- with other waits and other items, whose sequences are the same.
+use Prim.Native.Nat.{ℕ, _+_}
 use mathlib.Core.Path.{_≡_, refl}
 use mathlib.Core.List.{List, [], _∷_, _++_}
 use lib.ListN.{getD}
@@ -27,7 +27,6 @@ use Rattle.item_spec.specs.Addresses.{placeFrom, foundOf}
 use Rattle.item_spec.specs.Items.{readRecord, writeRecord, plainRecord, powerRecord}
 use Rattle.item_spec.specs.Ranged.{lineRecord}
 use Rattle.item_spec.specs.Kinds.{isKind, decodedOf}
-use Rattle.item_spec.specs.declared.Item.the-variants.{WriteVia, Second, Reset, Power}
 use Rattle.machine_spec.specs.Pins.{wiresOf}
 use Rattle.machine_spec.specs.Machine.{acceptedOf, freshMachine}
 use Rattle.machine_spec.specs.Accesses.{viaRead, iwmRead}
@@ -50,7 +49,7 @@ seAfter w = 4 ∷ 0 ∷ 83 ∷ 69 ∷ w ∷ 0 ∷ []
 abbrev rsAfter : ℕ → List ℕ
 rsAfter w = 4 ∷ 0 ∷ 82 ∷ 83 ∷ w ∷ 0 ∷ []
 
-abbrev power : ℕ → ℕ → List ℕ
+abbrev pub power : ℕ → ℕ → List ℕ
 power w s = 8 ∷ 0 ∷ 80 ∷ 87 ∷ w ∷ 0 ∷ s ∷ 0 ∷ 0 ∷ 0 ∷ []
 
 -- VB after a wait in VIA ticks; IN line 2 to 0; a record of a kind that there is not.
@@ -64,25 +63,25 @@ abbrev unknown : List ℕ
 unknown = 2 ∷ 0 ∷ 88 ∷ 88 ∷ []
 
 -- A write to cell 0 ($41), seven of its data bits and the low data-clock of the eighth.
-abbrev almost : List ℕ
+abbrev pub almost : List ℕ
 almost = begin ++ select ++ byte 0x41 ++ sent 7 8 0 ++ wr 0 0 0
 
 -- The eighth bit.
-abbrev rise : ℕ → List ℕ
+abbrev pub rise : ℕ → List ℕ
 rise b = wr 0 0 (2 + b)
 
 -- ---- cell 0, the seconds, the phase and the sequence after a list from the fresh machine, with 1,000 bytes of room
 
-abbrev cell : Chip → List ℕ → ℕ
+abbrev pub cell : Chip → List ℕ → ℕ
 cell k l = getD (runOf (freshMachine k) l 1000 .machine .clock .store .cells) 0 0
 
-abbrev seconds : Chip → List ℕ → ℕ
+abbrev pub seconds : Chip → List ℕ → ℕ
 seconds k l = runOf (freshMachine k) l 1000 .machine .clock .store .seconds
 
 abbrev phase : Chip → List ℕ → Phase
 phase k l = runOf (freshMachine k) l 1000 .machine .clock .phase
 
-abbrev sequence : Chip → List ℕ → List Touch
+abbrev pub sequence : Chip → List ℕ → List Touch
 sequence k l = touches (freshMachine k) l 1000
 
 -- ---- the facts
@@ -96,7 +95,7 @@ pub record Examples (k : Chip) : Type 0 where
   pub ofReset : (cell k (almost ++ rise 1) ≡ 1) × (cell k (almost ++ rs ++ rise 1) ≡ 0)
   pub ofTick : (seconds k se ≡ 1) × (seconds k [] ≡ 0)
   -- PW adds its seconds off, and ends the transaction.
-  pub ofPowerCut : (seconds k (power 0 5) ≡ 5) × (seconds k (power 0 4) ≡ 4) × (cell k (almost ++ power 0 0 ++ rise 1) ≡ 0)
+  pub ofPowerCut : (seconds k (power 0 1) ≡ 1) × (seconds k (power 0 0) ≡ 0) × (seconds k (power 0 5) ≡ 5) × (cell k (almost ++ power 0 0 ++ rise 1) ≡ 0)
   -- All five in one list, the newest first.
   pub allFive : sequence k (wr 0 2 4 ++ wr 0 0 6 ++ rs ++ se ++ power 0 5) ≡ powerCut 5 ∷ tick ∷ reset ∷ portB 6 ∷ directionB 4 ∷ []
   -- With waits of 1 to 3 VIA ticks the sequence is the same.
@@ -117,7 +116,7 @@ examples First =
       ofDirectionB = (refl, refl, refl, refl);
       ofReset = (refl, refl);
       ofTick = (refl, refl);
-      ofPowerCut = (refl, refl, refl);
+      ofPowerCut = (refl, refl, refl, refl);
       allFive = refl;
       waits = refl;
       others = refl;
@@ -129,7 +128,7 @@ examples Later =
       ofDirectionB = (refl, refl, refl, refl);
       ofReset = (refl, refl);
       ofTick = (refl, refl);
-      ofPowerCut = (refl, refl, refl);
+      ofPowerCut = (refl, refl, refl, refl);
       allFive = refl;
       waits = refl;
       others = refl;
