@@ -119,7 +119,7 @@ left m i h p e =
     ∙ ap (λ (x : Event). afterMove (m .via .ports .outb) (m .via .ports .dirb) x (seenOf m)) e
     ∙ no-move m h
 
--- A WR to each register.
+-- A WR to a VIA register: 0, 2, or another.
 wrote : (m : Machine) (w r v : ℕ) → Fits m → seenOf (stepOf m (WriteVia w r v) .machine) ≡ afterTouches (writes r v) (seenOf m)
 unfolding actedOf itemWait eventOf viaWritten portsWritten
 wrote m w r v h = go (eqb r 0) (eqb r 2) refl refl
@@ -139,7 +139,7 @@ wrote m w r v h = go (eqb r 0) (eqb r 2) refl refl
     go false true e f = step-move m x (m .via .ports .outb) v (o false e ∙ waited-port m w .0, d true f)
     go false false e f = left m x h (o false e ∙ waited-port m w .0, d false f ∙ waited-port m w .1) refl
 
--- Every item done.
+-- Every item that is done.
 pub done : (m : Machine) (i : Item) → Fits m → seenOf (stepOf m i .machine) ≡ afterTouches (touchesOf i) (seenOf m)
 unfolding touchesOf actedOf itemWait eventOf viaRead iwmRead registerRead raisedOf resetOf freshVia
 done m (ReadVia w r) h = left m (ReadVia w r) h (waited-port m w) refl
