@@ -35,7 +35,7 @@ use Rattle.machine_spec.proofs.Drives.{reset-drives, power-drives}
 use Rattle.machine_spec.proofs.Waits.{waits-add}
 use Rattle.run_spec.specs.Outcome.{Out, halt, onto, piecesFrom, runPieces, runOf, ranOf, over}
 use Rattle.run_spec.proofs.Joined.{cut-list}
-use Rattle.run_laws.specs.Laws.{oneThenOther, secondsOff, roomLeft, JoinedAs, Laws}
+use Rattle.run_laws.specs.Laws.{oneThenOther, waitBetween, secondsOff, roomLeft, JoinedAs, Laws}
 
 -- ---- power cuts
 
@@ -55,13 +55,13 @@ unfolding drivesTicks driveTicks strobeTicks
 no-ticks d = refl
 
 -- After a reset and after a power cut no wire of the clock is driven, and LSTRB is off: the second moves no line.
-resets-one : (m : Machine) (w : ℕ) → oneThenOther m (Reset w) (Reset 0) ≡ stepOf m (Reset w)
-unfolding stepOf actedOf itemWait ticks resetOf freshVia wiresOf stepWires between next acts act
+resets-one : (m : Machine) (w : ℕ) → oneThenOther m (Reset w) (Reset waitBetween) ≡ stepOf m (Reset w)
+unfolding waitBetween stepOf actedOf itemWait ticks resetOf freshVia wiresOf stepWires between next acts act
 resets-one m w =
     let n = stepOf m (Reset w) .machine in
     ap (λ (d : Drives). noValue (withDrives n d))
-    (reset-drives n 0
-    ∙ ap (λ (d : Drives). withStrobe (drivesTicks 0 d) noStrobe) (reset-drives m w)
+    (reset-drives n waitBetween
+    ∙ ap (λ (d : Drives). withStrobe (drivesTicks waitBetween d) noStrobe) (reset-drives m w)
     ∙ no-ticks (drivesTicks w (m .drives))
     ∙ sym (reset-drives m w))
 
@@ -69,14 +69,14 @@ powered-again : (d : Drives) → withStrobe (drivesPowered (drivesTicks 0 (withS
 unfolding drivesTicks driveTicks strobeTicks drivesPowered
 powered-again d = refl
 
-power-cuts-one : (m : Machine) (w s t : ℕ) → oneThenOther m (Power w s) (Power 0 t) ≡ stepOf m (Power w (secondsOff s t))
-unfolding stepOf actedOf itemWait ticks freshVia wiresOf stepWires between next acts act
+power-cuts-one : (m : Machine) (w s t : ℕ) → oneThenOther m (Power w s) (Power waitBetween t) ≡ stepOf m (Power w (secondsOff s t))
+unfolding waitBetween stepOf actedOf itemWait ticks freshVia wiresOf stepWires between next acts act
 power-cuts-one m w s t =
     let n = stepOf m (Power w s) .machine in
     let o = stepOf m (Power w (secondsOff s t)) .machine in
     ap₂ (λ (d : Drives) (x : ℕ). noValue (withDrives (withClock o (withStore (o .clock) (withSeconds (o .clock .store) x))) d))
-    (power-drives n 0 t
-    ∙ ap (λ (d : Drives). withStrobe (drivesPowered (drivesTicks 0 d)) noStrobe) (power-drives m w s)
+    (power-drives n waitBetween t
+    ∙ ap (λ (d : Drives). withStrobe (drivesPowered (drivesTicks waitBetween d)) noStrobe) (power-drives m w s)
     ∙ powered-again (drivesTicks w (m .drives))
     ∙ sym (power-drives m w (secondsOff s t)))
     (seconds-add (stops (m .clock .store .test)) s t (m .clock .store .seconds))

@@ -27,12 +27,12 @@ use Rattle.machine_spec.specs.Stages.{itemWait, refusesOf, afterWait}
 use Rattle.machine_spec.specs.Step.{stepOf, answerOf}
 use Rattle.run_spec.specs.Turn.{turnOf}
 use Rattle.run_spec.specs.Outcome.{cut, piecesFrom, onto, onPiece, runPieces, runOf}
-use Rattle.run_laws.specs.Laws.{secondsOff, roomLeft}
+use Rattle.run_laws.specs.Laws.{waitBetween, secondsOff, roomLeft}
 use Rattle.run_laws.specs.Samples.{Samples}
 use Rattle.run_laws.proofs.Proved.{laws}
 
 pub samples : (k : Chip) → Samples k
-unfolding secondsOff roomLeft stepOf answerOf itemWait refusesOf actedOf acceptedOf wiresOf selOf interruptLevel freshVia latchOf tickOf ticks raisedOf resetOf asking levelOf
+unfolding waitBetween secondsOff roomLeft stepOf answerOf itemWait refusesOf actedOf acceptedOf wiresOf selOf interruptLevel freshVia latchOf tickOf ticks raisedOf resetOf asking levelOf
     acceptedVia viaWritten unusedClear act between shownLevel acceptedPhase next acts stepWires linesOff afterAccess lineByteOf driveTicks tickDrive acceptedDrive watchedOf
     heldStill unspoilt registerOf tickStrobe strobeTicks strobeAfter longEnough strobeWrites acceptedStrobe drivesTicks drivesPowered drivesAfter acceptedDrives allBelow
     le16Of frameOf answerBytes noOf plainRecord isKind decodedOf turnOf cut piecesFrom onto onPiece runPieces runOf

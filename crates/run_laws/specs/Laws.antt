@@ -17,6 +17,10 @@ use Rattle.run_spec.specs.Outcome.{Out, runOf, ranOf, over}
 abbrev pub oneThenOther : Machine → Item → Item → Did
 oneThenOther m i j = stepOf (stepOf m i .machine) j
 
+-- "With no wait between": the second item's wait, in VIA ticks.
+unfoldable pub waitBetween : ℕ
+waitBetween = 0
+
 -- "One of s+t modulo 4,294,967,296": the seconds off of two power cuts as those of one.
 unfoldable pub secondsOff : ℕ → ℕ → ℕ
 secondsOff s t = (s + t) % 4294967296
@@ -41,9 +45,9 @@ pub record Laws (m : Machine) : Type 0 where
   -- A state between two waits is one that a run accepts.
   pub waitAccepted : (a : ℕ) → acceptedOf m ≡ true → acceptedOf (afterWait a m) ≡ true
   -- "Two resets with no wait between equal one": the first after any wait w, the second with none.
-  pub resets : (w : ℕ) → oneThenOther m (Reset w) (Reset 0) ≡ stepOf m (Reset w)
+  pub resets : (w : ℕ) → oneThenOther m (Reset w) (Reset waitBetween) ≡ stepOf m (Reset w)
   -- "Power cuts of s and t seconds, with no wait between, equal one of s+t modulo 4,294,967,296", also while the test byte stops the seconds.
-  pub powerCuts : (w s t : ℕ) → oneThenOther m (Power w s) (Power 0 t) ≡ stepOf m (Power w (secondsOff s t))
+  pub powerCuts : (w s t : ℕ) → oneThenOther m (Power w s) (Power waitBetween t) ≡ stepOf m (Power w (secondsOff s t))
   -- That one is a PW that can be written: its seconds fit four bytes.
   pub secondsFit : (s t : ℕ) → secondsOff s t < 4294967296
   -- "Running a list cut between records equals running the whole, answers joined, where the first part stops with 0 and the second gets the answer room left."

@@ -2,7 +2,6 @@
 use Prim.Native.Nat.{ℕ}
 use mathlib.Core.Path.{_≡_}
 use mathlib.Core.List.{List, [], _∷_, _++_}
-use Rattle.via.specs.declared.Via.{Via}
 use Rattle.clock_spec.specs.declared.Chip.{Chip}
 use Rattle.clock_spec.specs.Store.{withSeconds, withTest}
 use Rattle.clock.specs.Step.{withStore}
@@ -12,7 +11,7 @@ use Rattle.machine_spec.specs.Machine.{withClock, freshMachine}
 use Rattle.machine_spec.specs.Stages.{afterWait}
 use Rattle.machine_spec.specs.Step.{stepOf}
 use Rattle.run_spec.specs.Outcome.{Out, runOf, ranOf}
-use Rattle.run_laws.specs.Laws.{oneThenOther, secondsOff, roomLeft}
+use Rattle.run_laws.specs.Laws.{oneThenOther, waitBetween, secondsOff, roomLeft}
 
 -- T1 armed with 3 to go, and a strobe on: ENABLE, then LSTRB.
 abbrev pub busy : Chip → Machine
@@ -31,7 +30,7 @@ clocked k seconds test =
     withClock m (withStore (m .clock) (withTest (withSeconds (m .clock .store) seconds) test))
 
 abbrev pub secondsAfter : Machine → ℕ → ℕ → ℕ
-secondsAfter m s t = oneThenOther m (Power 0 s) (Power 0 t) .machine .clock .store .seconds
+secondsAfter m s t = oneThenOther m (Power 0 s) (Power waitBetween t) .machine .clock .store .seconds
 
 abbrev pub secondsAfterOne : Machine → ℕ → ℕ
 secondsAfterOne m s = stepOf m (Power 0 s) .machine .clock .store .seconds
@@ -61,7 +60,7 @@ pub record Samples (k : Chip) : Type 0 where
   pub wait5 : counted (afterWait 5 (busy k)) ≡ 65534 ∷ 64 ∷ 5 ∷ []
   -- A reset after 2 VIA ticks; one more at once; one more a tick later, which is not the same.
   pub reset : counted (stepOf (busy k) (Reset 2) .machine) ≡ 1 ∷ 0 ∷ 0 ∷ []
-  pub resetTwice : counted (oneThenOther (busy k) (Reset 2) (Reset 0) .machine) ≡ 1 ∷ 0 ∷ 0 ∷ []
+  pub resetTwice : counted (oneThenOther (busy k) (Reset 2) (Reset waitBetween) .machine) ≡ 1 ∷ 0 ∷ 0 ∷ []
   pub resetApart : counted (oneThenOther (busy k) (Reset 2) (Reset 1) .machine) ≡ 0 ∷ 0 ∷ 0 ∷ []
   -- Seconds off.
   pub sumSmall : secondsOff 4294967290 5 ≡ 4294967295
