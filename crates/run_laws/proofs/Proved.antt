@@ -1,8 +1,8 @@
 -- The laws of W-212 hold of every state.
-use Prim.Native.Nat.{ℕ, _+_, _-_, _%_, _^_, _<_}
+use Prim.Native.Nat.{ℕ, _+_, _-_, _<_}
 use mathlib.Core.Path.{_≡_, refl, sym, ap, ap₂, subst, _∙_}
 use mathlib.Core.Bool.{Bool, true, false, cond}
-use mathlib.Core.List.{List, [], _∷_, _++_, append-nil, append-assoc}
+use mathlib.Core.List.{List, [], _++_, append-nil, append-assoc}
 use native.Mathlib.Omega.{arith}
 use native.Mathlib.Nat.{add-zero}
 use lib.ListN.{length, drop, length-append}
@@ -14,16 +14,14 @@ use Rattle.clock_spec.specs.Store.{withSeconds, act}
 use Rattle.clock_spec.specs.Phase.{between, acceptedPhase}
 use Rattle.clock.specs.Step.{withStore, next, acts, stepWires}
 use Rattle.clock_spec.specs.declared.Wires.{Wires}
-use Rattle.disk_lines.specs.Lines.{linesOff}
 use Rattle.disk_spec.specs.declared.Drives.{Drives}
 use Rattle.disk_spec.specs.Strobe.{noStrobe, strobeTicks}
 use Rattle.disk_spec.specs.Drive.{driveTicks}
 use Rattle.disk_spec.specs.declared.Watched.{Watched}
 use Rattle.disk_spec.specs.Drives.{withStrobe, drivesTicks, drivesPowered, acceptedDrives}
-use Rattle.disk_spec.proofs.DrivesLaws.{drivesTicks-accepted, powered-twice}
+use Rattle.disk_spec.proofs.DrivesLaws.{drivesTicks-accepted}
 use Rattle.item_spec.specs.declared.Item.the-variants.{Reset, Power}
 use Rattle.machine_spec.specs.declared.Machine.{Machine}
-use Rattle.machine_spec.specs.declared.Did.{Did}
 use Rattle.machine_spec.specs.Pins.{wiresOf}
 use Rattle.machine_spec.specs.Machine.{withClock, withDrives, strobeLevels, acceptedOf, noValue}
 use Rattle.machine_spec.specs.Action.{actedOf}
@@ -33,7 +31,7 @@ use Rattle.machine_spec.proofs.MachineLaws.{parts, whole}
 use Rattle.machine_spec.proofs.Stages.{waited-wires, waited-watched}
 use Rattle.machine_spec.proofs.Drives.{reset-drives, power-drives}
 use Rattle.machine_spec.proofs.Waits.{waits-add}
-use Rattle.run_spec.specs.Outcome.{Out, halt, onto, piecesFrom, runPieces, runOf, ranOf, over}
+use Rattle.run_spec.specs.Outcome.{Out, halt, onto, piecesFrom, runPieces, runOf}
 use Rattle.run_spec.proofs.Joined.{cut-list}
 use Rattle.run_laws.specs.Laws.{oneThenOther, waitBetween, secondsOff, roomLeft, JoinedAs, Laws}
 
