@@ -1,34 +1,22 @@
 // Runs the script on standard input: the samples, as lines that do something or say something. docs/FORMATS.md has their language.
-ghost use mathlib.Core.Path.{_≡_};
-ghost use Rattle.image_spec.specs.Image.{imageLength};
-ghost use lib.ListN.{length};
-use clock_spec::Chip;
 use vectors_operations::Order;
 
-// Makes the machine fresh: 0.
-fn fresh(image: &mut [u8]) -> u64
-    requires { ⌜ length (now image) ≡ imageLength Chip.First ⌝ }
-{
-    image::save(image, machine::fresh(Chip::First));
+// Makes the machine fresh, with the first chip: 0.
+fn fresh(image: &mut [u8]) -> u64 {
+    swarmtempo::swarmtempo_fresh(image, 20);
     0
 }
 
-// Runs a list, and prints what its operation shows.
-fn carry_out(image: &mut [u8], op: u8, list: &[u8], answers: &mut [u8])
-    requires { ⌜ length (now image) ≡ imageLength Chip.First ⌝ }
-{
-    if !image::valid(image) {
-        vectors_print::shown(op, answers, 7, 0, 0);
-        return;
-    }
-    let r = run::run(image::load(image), list, answers);
-    image::save(image, r.machine);
-    vectors_print::shown(op, answers, r.stop, r.consumed, r.written);
+// Runs a list through the C entry, and prints what its operation shows.
+fn carry_out(image: &mut [u8], op: u8, list: &[u8], answers: &mut [u8]) {
+    let mut consumed: u64 = 0;
+    let mut written: u64 = 0;
+    let stop = swarmtempo::swarmtempo_run(image, list, answers, &mut consumed, &mut written);
+    vectors_print::shown(op, answers, stop, consumed, written);
 }
 
 // A line of an answer room, whose bytes hold $ee, and a list: the value as it was, or 256 where the line is bad.
 fn raw(image: &mut [u8], op: u8, text: &[u8], value: u64) -> u64
-    requires { ⌜ length (now image) ≡ imageLength Chip.First ⌝ }
 {
     let mut answers = [0xee; 32];
     let given = vectors_words::read_list(text);
@@ -44,7 +32,6 @@ fn raw(image: &mut [u8], op: u8, text: &[u8], value: u64) -> u64
 
 // One access: the value of its answer.
 fn once(image: &mut [u8], x: Order) -> u8
-    requires { ⌜ length (now image) ≡ imageLength Chip.First ⌝ }
 {
     let list = vectors_operations::record(x);
     let mut answers = [0u8; 8];
@@ -54,7 +41,6 @@ fn once(image: &mut [u8], x: Order) -> u8
 
 // The accesses of an operation: the value seen.
 fn many(image: &mut [u8], x: Order, value: u64) -> u64
-    requires { ⌜ length (now image) ≡ imageLength Chip.First ⌝ }
 {
     let n = vectors_operations::accesses(x);
     let mut byte = vectors_operations::start(x, value);
@@ -69,7 +55,6 @@ fn many(image: &mut [u8], x: Order, value: u64) -> u64
 
 // A line of an operation: the value seen then, or 256 where it is bad.
 fn operation(image: &mut [u8], x: Order, value: u64) -> u64
-    requires { ⌜ length (now image) ≡ imageLength Chip.First ⌝ }
 {
     let op = x.op;
     match op {
@@ -81,7 +66,6 @@ fn operation(image: &mut [u8], x: Order, value: u64) -> u64
 
 // One line: the value seen then, or 256 or more where it is bad. An empty line makes the machine fresh.
 fn line(image: &mut [u8], text: &[u8], value: u64) -> u64
-    requires { ⌜ length (now image) ≡ imageLength Chip.First ⌝ }
 {
     if text.len() == 0 {
         return fresh(image);
@@ -97,7 +81,6 @@ fn line(image: &mut [u8], text: &[u8], value: u64) -> u64
 
 // The lines of the script, up to one that is bad.
 fn script(image: &mut [u8], s: &[u8])
-    requires { ⌜ length (now image) ≡ imageLength Chip.First ⌝ }
 {
     let mut at: usize = 0;
     let mut number: u64 = 1;

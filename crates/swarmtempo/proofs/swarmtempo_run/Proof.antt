@@ -50,7 +50,7 @@ save-requires : tie.Need-save-requires
 save-requires c κs =
     let start = c .before .before .before .before .before .before .before .before .before .before .before .before .before in
     let m = c .before .before .before .before .before .load in
-    let r = c .before .before .before .run in
+    let r = c .before .before .before .run-accepted in
     whole (c .before .before .before .before .before .before .before)
     ∙ ap imageLength (sym (ap (λ (x : Ran). x .machine .clock .store .chip) (r .ensures .0)
     ∙ size-kept (m .result) (now (start .args .list)) (length (now (start .args .answers)))
