@@ -30,7 +30,7 @@ use Rattle.transaction_spec.specs.declared.Act.the-variants.{Port, Side,
 use Rattle.transaction_spec.specs.Acts.{items, bytesOf, actsBy}
 use Rattle.transaction_spec.specs.declared.Ask.{Ask}
 use Rattle.transaction_spec.specs.declared.Ask.the-variants.{WriteCell, WriteSeconds, WriteProtect, ReadCell, ReadSeconds}
-use Rattle.transaction_spec.specs.Asked.{targetOf, readsOf, byteOf, hasOf, commandOf, extendedOf, secondOf, actsOf, transactionOf, sizeBy, countBy, sizeOf, countOf}
+use Rattle.transaction_spec.specs.Asked.{targetOf, readsOf, byteOf, hasOf, commandOf, extendedOf, secondByteOf, actsOf, transactionOf, sizeBy, countBy, sizeOf, countOf}
 use Rattle.transaction_spec.proofs.Pins.{pins}
 use Rattle.transaction_spec.proofs.Chip.{Means}
 use Rattle.transaction_spec.proofs.Fold.{bare, at, folded, write-folds, read-folds}
@@ -52,14 +52,14 @@ idle k Ignoring false h a = absurd (true≢false (sym h))
 -- The command's bytes mean what is asked.
 record Commands (k : Chip) (a : Ask) : Type 0 where
   first : commandOf a < 256
-  second : secondOf a < 256
-  means : Means k (extendedOf a) (readsOf a) (commandOf a) (secondOf a) (targetOf a)
+  second : secondByteOf a < 256
+  means : Means k (extendedOf a) (readsOf a) (commandOf a) (secondByteOf a) (targetOf a)
 
 cell-in : (k : Chip) (i : ℕ) → i < cellsOf k → i < 256
 cell-in k i h = omega (arith, cells-most k)
 
 commands : (k : Chip) (a : Ask) → hasOf k a ≡ true → Commands k a
-unfolding commandOf secondOf extendedOf hasOf readsOf targetOf
+unfolding commandOf secondByteOf extendedOf hasOf readsOf targetOf
 commands k (WriteCell i d) h =
     let l : i < cellsOf k = ltb-true _ _ h in record { first = cell-small false i (cell-in k i l); second = second-small i; means = cell-named k false i l }
 commands k (WriteSeconds n d) h = record { first = seconds-small false n (ltb-true _ _ h); second = omega arith; means = seconds-named k false n (ltb-true _ _ h) }
@@ -74,7 +74,7 @@ unfolding transactionOf actsOf sizeOf
 size-is m a = go (readsOf a) (extendedOf a)
   where
     go : (z l : Bool)
-        → length (bytesOf (m .via .ports .outb / 8) (m .via .ports .dirb / 8) (actsBy z l (commandOf a) (secondOf a) (byteOf a))) ≡ sizeBy z l
+        → length (bytesOf (m .via .ports .outb / 8) (m .via .ports .dirb / 8) (actsBy z l (commandOf a) (secondByteOf a) (byteOf a))) ≡ sizeBy z l
     go true true = refl
     go true false = refl
     go false true = refl
@@ -84,7 +84,7 @@ pub count-is : (a : Ask) → length (actsOf a) ≡ countOf a
 unfolding actsOf countOf
 count-is a = go (readsOf a) (extendedOf a)
   where
-    go : (z l : Bool) → length (actsBy z l (commandOf a) (secondOf a) (byteOf a)) ≡ countBy z l
+    go : (z l : Bool) → length (actsBy z l (commandOf a) (secondByteOf a) (byteOf a)) ≡ countBy z l
     go true true = refl
     go true false = refl
     go false true = refl
@@ -134,13 +134,13 @@ module _ (m : Machine) (a : Ask) (room : ℕ) (ok : acceptedOf m ≡ true) (free
     unfolding actsOf
     left k = go (readsOf a) (commands chip a has .means)
       where
-        go : (z : Bool) → Means chip (extendedOf a) z (commandOf a) (secondOf a) (targetOf a)
-            → folded m (items q r (actsBy z (extendedOf a) (commandOf a) (secondOf a) (byteOf a))) ≡ leftBy m z (targetOf a) (byteOf a)
+        go : (z : Bool) → Means chip (extendedOf a) z (commandOf a) (secondByteOf a) (targetOf a)
+            → folded m (items q r (actsBy z (extendedOf a) (commandOf a) (secondByteOf a) (byteOf a))) ≡ leftBy m z (targetOf a) (byteOf a)
         go true e =
-            read-folds m q r (parts m ok .drives) (extendedOf a) (commandOf a) (secondOf a) (byteOf a) (targetOf a) (commands chip a has .first) (commands chip a has .second) e
+            read-folds m q r (parts m ok .drives) (extendedOf a) (commandOf a) (secondByteOf a) (byteOf a) (targetOf a) (commands chip a has .first) (commands chip a has .second) e
             ∙ ap (λ (p : Phase). bare m (8 * q + 6) (8 * r + 6) p (m .clock .store)) (sym still)
         go false e =
-            write-folds m q r (parts m ok .drives) (extendedOf a) (commandOf a) (secondOf a) (byteOf a) (targetOf a) (commands chip a has .first) (commands chip a has .second) k e
+            write-folds m q r (parts m ok .drives) (extendedOf a) (commandOf a) (secondByteOf a) (byteOf a) (targetOf a) (commands chip a has .first) (commands chip a has .second) k e
             ∙ ap (λ (p : Phase). bare m (8 * q + 6) (8 * r + 7) p (askedBy false (targetOf a) (byteOf a) (m .clock .store))) (sym still)
 
     shows : m .via .ports .dirb < 256 → readsOf a ≡ true
@@ -148,11 +148,11 @@ module _ (m : Machine) (a : Ask) (room : ℕ) (ok : acceptedOf m ≡ true) (free
     unfolding actsOf
     shows k h = go (readsOf a) h (commands chip a has .means)
       where
-        go : (z : Bool) → z ≡ true → Means chip (extendedOf a) z (commandOf a) (secondOf a) (targetOf a)
-            → bits (actsBy z (extendedOf a) (commandOf a) (secondOf a) (byteOf a)) (answersOf m (items q r (actsBy z (extendedOf a) (commandOf a) (secondOf a) (byteOf a))))
+        go : (z : Bool) → z ≡ true → Means chip (extendedOf a) z (commandOf a) (secondByteOf a) (targetOf a)
+            → bits (actsBy z (extendedOf a) (commandOf a) (secondByteOf a) (byteOf a)) (answersOf m (items q r (actsBy z (extendedOf a) (commandOf a) (secondByteOf a) (byteOf a))))
             ≡ bitsHighFirst 8 (fetch (targetOf a) (m .clock .store))
         go true h e =
-            read-seen m q r (parts m ok .drives) (omega arith) (extendedOf a) (commandOf a) (secondOf a) (byteOf a) (targetOf a) (commands chip a has .first) (commands chip a has .second) e
+            read-seen m q r (parts m ok .drives) (omega arith) (extendedOf a) (commandOf a) (secondByteOf a) (byteOf a) (targetOf a) (commands chip a has .first) (commands chip a has .second) e
         go false h e = absurd (true≢false (sym h))
 
     -- "Running them with answer room does what was asked under the protect rule, changes nothing else in the state .., and ends with enable up."

@@ -76,11 +76,11 @@ secondByte (Cell i) = 4 * (i % 32)
 unfoldable pub extendedOf : Ask → Bool
 extendedOf a = isExtended (targetOf a)
 
-unfoldable pub secondOf : Ask → ℕ
-secondOf a = secondByte (targetOf a)
+unfoldable pub secondByteOf : Ask → ℕ
+secondByteOf a = secondByte (targetOf a)
 
 unfoldable pub actsOf : Ask → List Act
-actsOf a = actsBy (readsOf a) (extendedOf a) (commandOf a) (secondOf a) (byteOf a)
+actsOf a = actsBy (readsOf a) (extendedOf a) (commandOf a) (secondByteOf a) (byteOf a)
 
 -- Bits 3 to 7 of port B's output and direction bytes are the state's.
 unfoldable pub transactionOf : Machine → Ask → List ℕ
