@@ -228,8 +228,8 @@ read s l c e d t h k m =
     let z = sent s (fetch t s) d (lastBit l c e) in (
       parted s true l c e d ∙ ap (λ (x : Held). ran x (dataActs true d)) q ∙ z .0,
       seen-join (free s) (called c) (secondSent l e ++ dataActs true d)
-      ∙ seen-join (ran (free s) (called c)) (secondSent l e) (dataActs true d)
-      ∙ ap (λ (x : List Bool). x ++ seen (ran (ran (free s) (called c)) (secondSent l e)) (dataActs true d)) (unseen (ran (free s) (called c)) l e)
-      ∙ ap (λ (x : Held). seen x (dataActs true d)) q
-      ∙ z .1,
+          ∙ seen-join (ran (free s) (called c)) (secondSent l e) (dataActs true d)
+          ∙ ap (λ (x : List Bool). x ++ seen (ran (ran (free s) (called c)) (secondSent l e)) (dataActs true d)) (unseen (ran (free s) (called c)) l e)
+          ∙ ap (λ (x : Held). seen x (dataActs true d)) q
+          ∙ z .1,
     )
