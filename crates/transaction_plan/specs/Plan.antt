@@ -1,7 +1,7 @@
 -- The items of a transaction by their numbers, and their bytes one after the other.
-use Prim.Native.Nat.{ℕ, zero, suc, _+_, _-_, _/_, _%_, _^_}
-use mathlib.Core.Bool.{Bool, true, false, cond}
-use mathlib.Core.List.{List, [], _∷_, _++_}
+use Prim.Native.Nat.{ℕ, zero, suc, _-_, _/_, _%_, _^_}
+use mathlib.Core.Bool.{true, false, cond}
+use mathlib.Core.List.{List, [], _++_}
 use lib.ListN.{take}
 use lib.Dec.{eqb, ltb}
 use Rattle.transaction_spec.specs.declared.Act.{Act}

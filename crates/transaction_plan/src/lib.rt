@@ -1,14 +1,12 @@
 // The items of a clock transaction by their numbers, as bytes made by value: request W-209.
 ghost use mathlib.Core.Path.{_≡_};
-ghost use mathlib.Core.Bool.{true};
-ghost use mathlib.Core.List.{_++_};
 ghost use Prim.Native.Nat.{_+_, _/_, _%_, _^_, _≤_, _<_};
 ghost use lib.Dec.{eqb};
-ghost use lib.ListN.{length, drop};
+ghost use lib.ListN.{length};
 ghost use Rattle.clock_spec.specs.Command.{bitNumber};
 ghost use Rattle.transaction_spec.specs.declared.Act.{Act};
-ghost use Rattle.transaction_spec.specs.Acts.{outAt, dirAt, wr, recordOf};
-ghost use Rattle.transaction_plan.specs.Plan.{sentAt, askedAt, tailWrite, tailRead, tailAt, extendedAt, actAt, partAt, bytesIn, parts};
+ghost use Rattle.transaction_spec.specs.Acts.{outAt, dirAt, recordOf};
+ghost use Rattle.transaction_plan.specs.Plan.{sentAt, askedAt, tailWrite, tailRead, tailAt, extendedAt, actAt, partAt, bytesIn};
 use transaction_spec::Act;
 
 // Bits 3 to 7 of port B's output and direction bytes, the command's first byte, its second one and whether it has one, the byte to

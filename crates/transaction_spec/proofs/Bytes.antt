@@ -1,15 +1,13 @@
 -- A transaction as bytes: its records are whole, each asks for its item, and a run carries them out one after the other.
-use Prim.Native.Nat.{ℕ, _+_, _-_, _*_, _≤_, _<_}
+use Prim.Native.Nat.{ℕ, _+_, _-_, _*_, _≤_}
 use mathlib.Core.Path.{_≡_, refl, sym, ap, ap₂, _∙_}
-use mathlib.Core.Bool.{Bool, true, false, cond}
 use mathlib.Core.List.{List, [], _∷_, _++_}
 use native.Mathlib.Omega.{arith}
-use lib.ListN.{length, take, drop, length-append}
+use lib.ListN.{length, drop, length-append}
 use Rattle.octets.specs.Octets.{le16Of, le32Of}
 use Rattle.item_spec.specs.declared.Answer.{Answer}
 use Rattle.item_spec.specs.declared.Item.{Item}
 use Rattle.item_spec.specs.declared.Decoded.the-variants.{Done}
-use Rattle.item_spec.specs.declared.Framed.the-variants.{Whole}
 use Rattle.item_spec.specs.Addresses.{placeFrom, foundOf}
 use Rattle.item_spec.specs.Items.{readRecord, writeRecord}
 use Rattle.item_spec.specs.Kinds.{isKind, decodedOf}
@@ -20,7 +18,7 @@ use Rattle.machine_spec.specs.Stages.{refusesOf}
 use Rattle.machine_spec.specs.Step.{stepOf, answerOf}
 use Rattle.run_spec.specs.Turn.{doneTurn, turnOf}
 use Rattle.run_spec.specs.declared.Turn.{Turn}
-use Rattle.run_spec.specs.Outcome.{Piece, whole, piecesFrom, pieces, Out, halt, onto, runPieces}
+use Rattle.run_spec.specs.Outcome.{Piece, whole, piecesFrom, pieces, Out, onto, runPieces}
 use Rattle.run_spec.proofs.Turns.{carried-out}
 use Rattle.run_spec.proofs.Pieces.{pieces-whole}
 use Rattle.run_spec.proofs.Users.{item-after-item}

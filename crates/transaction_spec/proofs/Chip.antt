@@ -1,6 +1,6 @@
 -- What a transaction's items do to the chip, by the three levels alone. No port, no byte and no machine is in it: each law is computed.
-use Prim.Native.Nat.{ℕ, zero, suc, _+_, _*_, _/_, _%_, _^_, _<_}
-use mathlib.Core.Path.{_≡_, refl, ap, ap₂, _∙_}
+use Prim.Native.Nat.{ℕ, zero, suc, _+_, _*_, _/_, _%_, _<_}
+use mathlib.Core.Path.{_≡_, refl, ap, _∙_}
 use mathlib.Core.Bool.{Bool, true, false, cond}
 use mathlib.Core.List.{List, [], _∷_, _++_}
 use mathlib.Core.Option.{some}
@@ -11,20 +11,20 @@ use Rattle.clock_spec.specs.Store.{act, fetch}
 use Rattle.clock_spec.specs.Phase.{edgeOf, shownLevel, byFirst, bySecond, byThird, hear, bytePhase, writeOf}
 use Rattle.clock_spec.specs.Patterns.{bitsHighFirst, meant, secondMeant, extend}
 use Rattle.clock_spec.specs.declared.Command.{Command}
-use Rattle.clock_spec.specs.declared.Command.the-variants.{Write, Read, Extended}
+use Rattle.clock_spec.specs.declared.Command.the-variants.{Extended}
 use Rattle.clock_spec.specs.declared.Target.{Target}
 use Rattle.clock_spec.specs.declared.Store.{Store}
 use Rattle.clock_spec.specs.declared.Chip.{Chip}
 use Rattle.clock_spec.specs.declared.Bytes.{Bytes}
 use Rattle.clock_spec.specs.declared.Bytes.the-variants.{Nothing, One, Two}
 use Rattle.clock_spec.specs.declared.Verdict.{Verdict}
-use Rattle.clock_spec.specs.declared.Verdict.the-variants.{More, Reads, Writes, Ignored}
+use Rattle.clock_spec.specs.declared.Verdict.the-variants.{More, Reads, Writes}
 use Rattle.clock_spec.specs.declared.Phase.{Phase}
 use Rattle.clock_spec.specs.declared.Phase.the-variants.{Idle, Listening, Sending, Ignoring}
 use Rattle.clock.specs.Step.{next, acts}
 use Rattle.transaction_spec.specs.declared.Act.{Act}
 use Rattle.transaction_spec.specs.declared.Act.the-variants.{Port, Side, Look}
-use Rattle.transaction_spec.specs.Acts.{sends, asks, eight, called, secondSent, closing, dataActs}
+use Rattle.transaction_spec.specs.Acts.{sends, called, secondSent, closing, dataActs}
 
 -- The output bits of enable, data-clock and data, whether data is an output, and the chip.
 pub record Held : Type 0 where

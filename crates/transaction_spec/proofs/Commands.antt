@@ -1,20 +1,18 @@
 -- The command's bytes mean what is asked: computed for every cell and seconds byte, on both chips.
 use Prim.Native.Nat.{ℕ, _+_, _-_, _*_, _/_, _%_, _≤_, _<_}
-use mathlib.Core.Path.{_≡_, refl, ap, _∙_}
+use mathlib.Core.Path.{_≡_, refl}
 use mathlib.Core.Bool.{Bool, true, false, cond}
 use native.Mathlib.Omega.{arith}
 use lib.Dec.{ltb, leb}
-use borrow.Author.Tests.{lt-ltb, le-ltb, ltb-true, ltb-false, le-leb, lt-leb}
+use borrow.Author.Tests.{le-ltb, ltb-true, ltb-false, le-leb, lt-leb}
 use Rattle.clock_spec.specs.Command.{cellsOf, either, bitNumber}
 use Rattle.clock_spec.specs.Patterns.{meant, secondMeant}
 use Rattle.clock_spec.proofs.Commands.{listed, at-each}
 use Rattle.clock_spec.specs.declared.Chip.{Chip}
 use Rattle.clock_spec.specs.declared.Chip.the-variants.{First, Later}
-use Rattle.clock_spec.specs.declared.Target.{Target}
-use Rattle.clock_spec.specs.declared.Target.the-variants.{Seconds, Test, Protect, Cell}
-use Rattle.clock_spec.specs.declared.Command.{Command}
-use Rattle.clock_spec.specs.declared.Command.the-variants.{Write, Read, Extended}
-use Rattle.transaction_spec.specs.Asked.{cellByte, plainByte, commandFor, isExtended, secondByte}
+use Rattle.clock_spec.specs.declared.Target.the-variants.{Seconds, Protect, Cell}
+use Rattle.clock_spec.specs.declared.Command.the-variants.{Write, Extended}
+use Rattle.transaction_spec.specs.Asked.{cellByte, commandFor, isExtended, secondByte}
 use Rattle.transaction_spec.proofs.Chip.{Means}
 
 pub seconds-named : (k : Chip) (z : Bool) (n : ℕ) → n < 4 → meant k (commandFor z (Seconds n)) ≡ either z (Seconds n)

@@ -1,16 +1,12 @@
 -- A transaction's items one after the other, from any machine.
-use Prim.Native.Nat.{ℕ, _+_, _*_, _/_, _%_, _^_, _<_}
+use Prim.Native.Nat.{ℕ, _/_, _%_, _<_}
 use mathlib.Core.Path.{_≡_, refl, ap, ap₂, _∙_}
 use mathlib.Core.Bool.{Bool, true, false, cond}
-use mathlib.Core.List.{List, [], _∷_, _++_}
+use mathlib.Core.List.{List, [], _∷_}
 use mathlib.Core.Option.{some}
-use native.Mathlib.Omega.{arith}
 use lib.Dec.{eqb}
-use Rattle.clock_spec.specs.Command.{bitNumber}
-use Rattle.clock_spec.specs.Store.{act, fetch}
-use Rattle.clock_spec.specs.Phase.{edgeOf, between, shownLevel, acceptedPhase}
-use Rattle.clock_spec.specs.Patterns.{bitsHighFirst}
-use Rattle.clock_spec.specs.declared.Command.the-variants.{Write, Read}
+use Rattle.clock_spec.specs.Store.{act}
+use Rattle.clock_spec.specs.Phase.{edgeOf, between, shownLevel}
 use Rattle.clock_spec.specs.declared.Target.{Target}
 use Rattle.clock_spec.specs.declared.Store.{Store}
 use Rattle.clock_spec.specs.declared.Phase.{Phase}
@@ -21,28 +17,26 @@ use Rattle.clock.specs.Step.{next, acts, stepWires}
 use Rattle.via.specs.Setters.{withPorts}
 use Rattle.via.specs.Via.{ticks}
 use Rattle.via.specs.Writes.{portsWritten, timer1Written, timer2Written, flagsWritten, viaWritten}
-use Rattle.via.specs.Registers.{registerRead, flagsRead, valueRead}
-use Rattle.disk_spec.specs.declared.Watched.{Watched}
+use Rattle.via.specs.Registers.{registerRead, flagsRead}
 use Rattle.disk_spec.specs.declared.Drives.{Drives}
 use Rattle.disk_spec.specs.Drive.{driveTicks}
 use Rattle.disk_spec.specs.Strobe.{strobeTicks}
-use Rattle.disk_spec.specs.Drives.{drivesTicks, drivesAfter, acceptedDrives}
+use Rattle.disk_spec.specs.Drives.{drivesTicks, acceptedDrives}
 use Rattle.disk_spec.proofs.DrivesLaws.{drives-untouched}
 use Rattle.item_spec.specs.declared.Item.{Item}
 use Rattle.item_spec.specs.declared.Item.the-variants.{ReadVia, WriteVia}
 use Rattle.machine_spec.specs.declared.Machine.{Machine}
-use Rattle.machine_spec.specs.Machine.{withVia, withClock, withDrives, wires, strobeLevels, acceptedOf}
-use Rattle.machine_spec.specs.Pins.{wiresOf, selOf, pin}
+use Rattle.machine_spec.specs.Machine.{withVia, withClock, withDrives, wires, strobeLevels}
+use Rattle.machine_spec.specs.Pins.{wiresOf, selOf}
 use Rattle.machine_spec.specs.Accesses.{viaRead}
 use Rattle.machine_spec.specs.Action.{actedOf}
 use Rattle.machine_spec.specs.Stages.{itemWait, afterWires, afterStrobe}
 use Rattle.machine_spec.specs.Step.{stepOf}
-use Rattle.machine_spec.proofs.MachineLaws.{parts}
 use Rattle.transaction_spec.specs.declared.Act.{Act}
 use Rattle.transaction_spec.specs.declared.Act.the-variants.{Port, Side, Look}
 use Rattle.transaction_spec.specs.Acts.{outAt, dirAt, itemOf, items, opening, actsBy}
-use Rattle.transaction_spec.proofs.Pins.{portsAt, levels, pins, out-high}
-use Rattle.transaction_spec.proofs.Chip.{Held, held, after, moved, ran, seen, Means, body, wrote, read}
+use Rattle.transaction_spec.proofs.Pins.{portsAt, pins, out-high}
+use Rattle.transaction_spec.proofs.Chip.{Held, held, after, moved, ran, Means, body, wrote, read}
 
 -- The machine m with these port B bytes and this clock; all else is m's.
 abbrev pub bare : Machine → ℕ → ℕ → Phase → Store → Machine

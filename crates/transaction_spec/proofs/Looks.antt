@@ -2,7 +2,7 @@
 use Prim.Native.Nat.{ℕ, _+_, _*_, _/_, _%_, _<_}
 use mathlib.Core.Path.{_≡_, refl, ap, ap₂, _∙_}
 use mathlib.Core.Bool.{Bool, true, false, cond}
-use mathlib.Core.List.{List, [], _∷_, _++_}
+use mathlib.Core.List.{List, [], _∷_}
 use native.Mathlib.Omega.{arith}
 use lib.Dec.{eqb}
 use lib.ListN.{getD}
@@ -10,7 +10,6 @@ use Rattle.clock_spec.specs.Command.{bitNumber}
 use Rattle.clock_spec.specs.Store.{fetch}
 use Rattle.clock_spec.specs.Phase.{shownLevel}
 use Rattle.clock_spec.specs.Patterns.{bitsHighFirst}
-use Rattle.clock_spec.specs.declared.Command.the-variants.{Read}
 use Rattle.clock_spec.specs.declared.Target.{Target}
 use Rattle.clock_spec.specs.declared.Phase.the-variants.{Idle}
 use Rattle.via.specs.Registers.{registerRead, valueRead}
@@ -28,10 +27,10 @@ use Rattle.machine_spec.specs.Stages.{itemWait}
 use Rattle.machine_spec.specs.Step.{stepOf, answerOf}
 use Rattle.transaction_spec.specs.declared.Act.{Act}
 use Rattle.transaction_spec.specs.declared.Act.the-variants.{Port, Side, Look}
-use Rattle.transaction_spec.specs.Acts.{outAt, dirAt, itemOf, items, actsBy}
+use Rattle.transaction_spec.specs.Acts.{outAt, dirAt, items, actsBy}
 use Rattle.transaction_spec.proofs.Pins.{digit, bit-low, out-low}
 use Rattle.transaction_spec.proofs.Chip.{Held, held, moved, seen, Means, body, read}
-use Rattle.transaction_spec.proofs.Fold.{at, step-at, folded, opened}
+use Rattle.transaction_spec.proofs.Fold.{at, step-at, opened}
 use Rattle.transaction_spec.proofs.Bytes.{answersOf}
 
 -- Of the answers, bit 0 of each that a look gets.

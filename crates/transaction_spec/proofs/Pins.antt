@@ -1,6 +1,6 @@
 -- Port B's bits 0 to 2 as three levels: the bytes that a transaction writes, taken apart.
 use Prim.Native.Nat.{ℕ, _+_, _*_, _/_, _%_, _<_}
-use mathlib.Core.Path.{_≡_, refl, ap, _∙_}
+use mathlib.Core.Path.{_≡_}
 use mathlib.Core.Bool.{Bool, true, false, cond}
 use native.Mathlib.Omega.{arith}
 use lib.Dec.{eqb}
@@ -8,8 +8,6 @@ use Rattle.clock_spec.specs.Command.{bitNumber}
 use Rattle.clock_spec.specs.declared.Wires.{Wires}
 use Rattle.via.specs.declared.Ports.{Ports}
 use Rattle.machine_spec.specs.Pins.{wiresOf}
-use Rattle.transaction_spec.specs.declared.Act.{Act}
-use Rattle.transaction_spec.specs.declared.Act.the-variants.{Port, Side, Look}
 use Rattle.transaction_spec.specs.Acts.{outAt, dirAt}
 
 pub digit : (x : ℕ) (b : Bool) → x ≡ bitNumber b → eqb x 1 ≡ b

@@ -2,10 +2,14 @@
 use mathlib.Core.Path.{_≡_, refl}
 use mathlib.Core.Bool.{true, false}
 use mathlib.Core.List.{[], _∷_}
+use lib.ListN.{take}
+use Rattle.clock_spec.specs.declared.Chip.the-variants.{Later}
+use Rattle.via.specs.Via.{freshVia}
+use Rattle.machine_spec.specs.Machine.{freshMachine}
 use Rattle.transaction_spec.specs.declared.Act.the-variants.{Port, Side, Look}
 use Rattle.transaction_spec.specs.declared.Ask.the-variants.{WriteCell, WriteSeconds, WriteProtect, ReadCell, ReadSeconds}
 use Rattle.transaction_spec.specs.Acts.{recordOf}
-use Rattle.transaction_spec.specs.Asked.{targetOf, readsOf, cellByte, commandOf, extendedOf, secondByteOf, sizeOf}
+use Rattle.transaction_spec.specs.Asked.{targetOf, readsOf, cellByte, commandOf, byteOf, extendedOf, secondByteOf, actsOf, transactionOf, sizeOf}
 
 pub record Sampled : Type 0 where
   -- z1aaaa01 and z010aa01: cells 13 and 17.
@@ -21,9 +25,11 @@ pub record Sampled : Type 0 where
   pub outputs : recordOf 21 25 (Port true false true) ≡ 9 ∷ 0 ∷ 0x57 ∷ 0x52 ∷ 0 ∷ 0 ∷ 0xFE ∷ 0xE1 ∷ 0xEF ∷ 0 ∷ 0xAD ∷ []
   pub directions : recordOf 21 25 (Side false) ≡ 9 ∷ 0 ∷ 0x57 ∷ 0x52 ∷ 0 ∷ 0 ∷ 0xFE ∷ 0xE5 ∷ 0xEF ∷ 0 ∷ 0xCE ∷ []
   pub look : recordOf 21 25 Look ≡ 8 ∷ 0 ∷ 0x52 ∷ 0x44 ∷ 0 ∷ 0 ∷ 0xFE ∷ 0xE1 ∷ 0xEF ∷ 0 ∷ []
+  -- Fresh, all lines of port B are inputs: their levels are 1, their output bits 0.
+  pub fresh-first : take 11 (transactionOf (freshMachine Later) (ReadSeconds 2)) ≡ 9 ∷ 0 ∷ 0x57 ∷ 0x52 ∷ 0 ∷ 0 ∷ 0xFE ∷ 0xE1 ∷ 0xEF ∷ 0 ∷ 0x04 ∷ []
 
 pub sampled : Sampled
-unfolding commandOf cellByte targetOf readsOf extendedOf secondByteOf sizeOf
+unfolding commandOf cellByte targetOf readsOf extendedOf secondByteOf sizeOf transactionOf actsOf byteOf freshVia
 sampled =
     record {
       cell13 = (refl, refl);
@@ -36,4 +42,5 @@ sampled =
       outputs = refl;
       directions = refl;
       look = refl;
+      fresh-first = refl;
     }

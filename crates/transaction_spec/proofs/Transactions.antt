@@ -2,20 +2,18 @@
 use Prim.Native.Nat.{ℕ, _+_, _*_, _/_, _≤_, _<_}
 use mathlib.Core.Path.{_≡_, refl, sym, ap, _∙_}
 use mathlib.Core.Bool.{Bool, true, false, cond, true≢false}
-use mathlib.Core.List.{List, _++_}
+use mathlib.Core.List.{List}
 use mathlib.Core.Option.{some}
 use native.Mathlib.Omega.{arith}
 use lib.ListN.{length}
 use borrow.Author.Tests.{ltb-true}
-use Rattle.clock_spec.specs.Command.{cellsOf, either}
+use Rattle.clock_spec.specs.Command.{cellsOf}
 use Rattle.clock_spec.proofs.CommandRange.{cells-most}
 use Rattle.clock_spec.specs.Store.{act, fetch}
 use Rattle.clock_spec.specs.Phase.{acceptedPhase, shownLevel}
 use Rattle.clock_spec.specs.declared.Wires.{Wires}
 use Rattle.clock_spec.specs.Patterns.{bitsHighFirst}
-use Rattle.clock_spec.specs.declared.Command.the-variants.{Write, Read}
 use Rattle.clock_spec.specs.declared.Target.{Target}
-use Rattle.clock_spec.specs.declared.Target.the-variants.{Seconds, Test, Protect, Cell}
 use Rattle.clock_spec.specs.declared.Store.{Store}
 use Rattle.clock_spec.specs.declared.Chip.{Chip}
 use Rattle.clock_spec.specs.declared.Phase.{Phase}
@@ -25,15 +23,13 @@ use Rattle.machine_spec.specs.declared.Machine.{Machine}
 use Rattle.machine_spec.specs.Machine.{wires, acceptedOf}
 use Rattle.machine_spec.proofs.MachineLaws.{parts}
 use Rattle.run_spec.specs.Outcome.{Out, runOf}
-use Rattle.transaction_spec.specs.declared.Act.{Act}
-use Rattle.transaction_spec.specs.declared.Act.the-variants.{Port, Side, Look}
 use Rattle.transaction_spec.specs.Acts.{items, bytesOf, actsBy}
 use Rattle.transaction_spec.specs.declared.Ask.{Ask}
 use Rattle.transaction_spec.specs.declared.Ask.the-variants.{WriteCell, WriteSeconds, WriteProtect, ReadCell, ReadSeconds}
 use Rattle.transaction_spec.specs.Asked.{targetOf, readsOf, byteOf, hasOf, commandOf, extendedOf, secondByteOf, actsOf, transactionOf, sizeBy, countBy, sizeOf, countOf}
 use Rattle.transaction_spec.proofs.Pins.{pins}
 use Rattle.transaction_spec.proofs.Chip.{Means}
-use Rattle.transaction_spec.proofs.Fold.{bare, at, folded, write-folds, read-folds}
+use Rattle.transaction_spec.proofs.Fold.{bare, folded, write-folds, read-folds}
 use Rattle.transaction_spec.proofs.Bytes.{answersOf, written, bytes-run}
 use Rattle.transaction_spec.proofs.Looks.{bits, read-seen}
 use Rattle.transaction_spec.proofs.Commands.{seconds-named, seconds-small, cell-named, cell-small, second-small, protect-named}

@@ -1,16 +1,14 @@
 -- The ways out of `write_transaction`, on plain lists.
 use Prim.Native.Nat.{ℕ, _/_, _≤_, _<_}
-use mathlib.Core.Path.{_≡_, refl, sym, ap, ap₂, _∙_}
-use mathlib.Core.Bool.{Bool, true, false, cond, not, true≢false}
+use mathlib.Core.Path.{_≡_, sym, ap, ap₂, _∙_}
+use mathlib.Core.Bool.{Bool, true, false, not, true≢false}
 use mathlib.Core.List.{List, _++_}
 use native.Mathlib.Omega.{arith}
 use lib.ListN.{length, drop}
-use lib.Dec.{ltb}
 use borrow.Author.Tests.{lt-ltb, le-ltb}
 use Rattle.machine_spec.specs.declared.Machine.{Machine}
 use Rattle.machine_spec.specs.Machine.{wires, acceptedOf}
 use Rattle.transaction_spec.specs.declared.Ask.{Ask}
-use Rattle.transaction_spec.specs.Acts.{bytesOf}
 use Rattle.transaction_spec.specs.Asked.{readsOf, byteOf, hasOf, commandOf, extendedOf, secondByteOf, actsOf, transactionOf, sizeOf, countOf}
 use Rattle.transaction_spec.proofs.Transactions.{size-is}
 use Rattle.transaction_plan.specs.declared.Plan.{Plan}
