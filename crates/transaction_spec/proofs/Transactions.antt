@@ -95,10 +95,16 @@ askedBy false t d s = act (some (record { to = t; byte = d })) s
 abbrev pub leftBy : Machine → Bool → Target → ℕ → Machine
 leftBy m z t d = bare m (8 * (m .via .ports .outb / 8) + 6) (8 * (m .via .ports .dirb / 8) + cond z 6 7) (m .clock .phase) (askedBy z t d (m .clock .store))
 
+-- "And ends with enable up."
+pub ends-up : (m : Machine) (z : Bool) (t : Target) (d : ℕ) → wires (leftBy m z t d) .enable ≡ true
+ends-up m true t d = ap (λ (w : Wires). w .enable) (pins (m .via .ports) _ _ true true false false (shownLevel (m .clock .phase)))
+ends-up m false t d = ap (λ (w : Wires). w .enable) (pins (m .via .ports) _ _ true true false true (shownLevel (m .clock .phase)))
+
 pub record Does (m : Machine) (a : Ask) (o : Out) (l : List Answer) : Type 0 where
   pub stop : o .stop ≡ 0
   pub consumed : o .consumed ≡ sizeOf a
   pub machine : o .machine ≡ leftBy m (readsOf a) (targetOf a) (byteOf a)
+  pub up : wires (o .machine) .enable ≡ true
   pub answers : o .answers ≡ written l
   pub shown : readsOf a ≡ true → bits (actsOf a) l ≡ bitsHighFirst 8 (fetch (targetOf a) (m .clock .store))
 
@@ -158,10 +164,10 @@ module _ (m : Machine) (a : Ask) (room : ℕ) (ok : acceptedOf m ≡ true) (free
           stop = ap (λ (o : Out). o .stop) runs;
           consumed = ap (λ (o : Out). o .consumed) runs ∙ size-is m a;
           machine = ap (λ (o : Out). o .machine) runs ∙ left k;
+          up =
+              ap (λ (o : Out). wires (o .machine) .enable) runs
+              ∙ ap (λ (n : Machine). wires n .enable) (left k)
+              ∙ ends-up m (readsOf a) (targetOf a) (byteOf a);
           answers = ap (λ (o : Out). o .answers) runs;
           shown = shows l;
         }
-
-pub ends-up : (m : Machine) (z : Bool) (t : Target) (d : ℕ) → wires (leftBy m z t d) .enable ≡ true
-ends-up m true t d = ap (λ (w : Wires). w .enable) (pins (m .via .ports) _ _ true true false false (shownLevel (m .clock .phase)))
-ends-up m false t d = ap (λ (w : Wires). w .enable) (pins (m .via .ports) _ _ true true false true (shownLevel (m .clock .phase)))
