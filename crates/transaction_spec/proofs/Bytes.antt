@@ -5,8 +5,6 @@ use mathlib.Core.List.{List, [], _∷_, _++_}
 use native.Mathlib.Omega.{arith}
 use lib.ListN.{length, drop, length-append}
 use Rattle.octets.specs.Octets.{le16Of, le32Of}
-use Rattle.item_spec.specs.declared.Answer.{Answer}
-use Rattle.item_spec.specs.declared.Item.{Item}
 use Rattle.item_spec.specs.declared.Decoded.the-variants.{Done}
 use Rattle.item_spec.specs.Addresses.{placeFrom, foundOf}
 use Rattle.item_spec.specs.Items.{readRecord, writeRecord}
@@ -22,6 +20,7 @@ use Rattle.run_spec.specs.Outcome.{Piece, whole, piecesFrom, pieces, Out, onto,
 use Rattle.run_spec.proofs.Turns.{carried-out}
 use Rattle.run_spec.proofs.Pieces.{pieces-whole}
 use Rattle.run_spec.proofs.Users.{item-after-item}
+use Rattle.transaction_spec.specs.Promise.{answersOf, bytesOfAnswers}
 use Rattle.transaction_spec.specs.declared.Act.{Act}
 use Rattle.transaction_spec.specs.declared.Act.the-variants.{Port, Side, Look}
 use Rattle.transaction_spec.specs.Acts.{itemOf, items, recordOf, bytesOf}
@@ -51,18 +50,9 @@ module _ (q r : ℕ) where
   turned m (Side x) = carried-out m _ _ (decoded (Side x)) refl
   turned m Look = carried-out m _ _ (decoded Look) refl
 
--- The answers of items, one after the other.
-abbrev pub answersOf : Machine → List Item → List Answer
-answersOf m [] = []
-answersOf m (i ∷ rest) = answerOf (stepOf m i) ∷ answersOf (stepOf m i .machine) rest
-
-abbrev pub written : List Answer → List ℕ
-written [] = []
-written (a ∷ rest) = answerBytes a ++ written rest
-
 pub bytes-run : (q r : ℕ) (xs : List Act) (m : Machine) (room : ℕ) → 8 * length xs ≤ room
     → runPieces m (pieces (bytesOf q r xs)) room
-    ≡ record { machine = folded m (items q r xs); stop = 0; consumed = length (bytesOf q r xs); answers = written (answersOf m (items q r xs)) }
+    ≡ record { machine = folded m (items q r xs); stop = 0; consumed = length (bytesOf q r xs); answers = bytesOfAnswers (answersOf m (items q r xs)) }
 unfolding runPieces piecesFrom onto
 bytes-run q r [] m room h = refl
 bytes-run q r (a ∷ xs) m room h =
@@ -73,5 +63,5 @@ bytes-run q r (a ∷ xs) m room h =
     ∙ ap (λ (t : Turn). onto (answerBytes (t .answer)) (length s + 2) (runPieces (t .machine) (pieces (bytesOf q r xs)) (room - 8))) (turned q r m a)
     ∙ ap₂ (λ (k : ℕ) (o : Out). onto (answerBytes (answerOf n)) k o) (size q r a) (bytes-run q r xs (n .machine) (room - 8) (omega arith))
     ∙ ap
-    (λ (k : ℕ). record { machine = folded m (items q r (a ∷ xs)); stop = 0; consumed = k; answers = written (answersOf m (items q r (a ∷ xs))) })
+    (λ (k : ℕ). record { machine = folded m (items q r (a ∷ xs)); stop = 0; consumed = k; answers = bytesOfAnswers (answersOf m (items q r (a ∷ xs))) })
     (sym (length-append (recordOf q r a) (bytesOf q r xs)))

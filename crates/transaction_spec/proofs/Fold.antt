@@ -14,7 +14,6 @@ use Rattle.clock_spec.specs.declared.Phase.the-variants.{Idle}
 use Rattle.clock_spec.specs.declared.Wires.{Wires}
 use Rattle.clock.specs.declared.Clock.{Clock}
 use Rattle.clock.specs.Step.{next, acts, stepWires}
-use Rattle.via.specs.Setters.{withPorts}
 use Rattle.via.specs.Via.{ticks}
 use Rattle.via.specs.Writes.{portsWritten, timer1Written, timer2Written, flagsWritten, viaWritten}
 use Rattle.via.specs.Registers.{registerRead, flagsRead}
@@ -26,21 +25,18 @@ use Rattle.disk_spec.proofs.DrivesLaws.{drives-untouched}
 use Rattle.item_spec.specs.declared.Item.{Item}
 use Rattle.item_spec.specs.declared.Item.the-variants.{ReadVia, WriteVia}
 use Rattle.machine_spec.specs.declared.Machine.{Machine}
-use Rattle.machine_spec.specs.Machine.{withVia, withClock, withDrives, wires, strobeLevels}
+use Rattle.machine_spec.specs.Machine.{withClock, withDrives, wires, strobeLevels}
 use Rattle.machine_spec.specs.Pins.{wiresOf, selOf}
 use Rattle.machine_spec.specs.Accesses.{viaRead}
 use Rattle.machine_spec.specs.Action.{actedOf}
 use Rattle.machine_spec.specs.Stages.{itemWait, afterWires, afterStrobe}
 use Rattle.machine_spec.specs.Step.{stepOf}
+use Rattle.transaction_spec.specs.Promise.{bare}
 use Rattle.transaction_spec.specs.declared.Act.{Act}
 use Rattle.transaction_spec.specs.declared.Act.the-variants.{Port, Side, Look}
 use Rattle.transaction_spec.specs.Acts.{outAt, dirAt, itemOf, items, opening, actsBy}
-use Rattle.transaction_spec.proofs.Pins.{portsAt, pins, out-high}
+use Rattle.transaction_spec.proofs.Pins.{pins, out-high}
 use Rattle.transaction_spec.proofs.Chip.{Held, held, after, moved, ran, Means, body, wrote, read}
-
--- The machine m with these port B bytes and this clock; all else is m's.
-abbrev pub bare : Machine → ℕ → ℕ → Phase → Store → Machine
-bare m o d p s = withClock (withVia m (withPorts (m .via) (portsAt (m .via .ports) o d))) (record { phase = p; store = s })
 
 abbrev pub at : Machine → ℕ → ℕ → Held → Machine
 at m q r h = bare m (outAt q (h .e) (h .c) (h .b)) (dirAt r (h .x)) (h .phase) (h .store)

@@ -16,7 +16,6 @@ use Rattle.via.specs.Registers.{registerRead, valueRead}
 use Rattle.via.proofs.Bits.{port-bit}
 use Rattle.via.specs.Via.{ticks}
 use Rattle.disk_spec.specs.Drives.{acceptedDrives}
-use Rattle.item_spec.specs.declared.Answer.{Answer}
 use Rattle.item_spec.specs.declared.Item.the-variants.{ReadVia}
 use Rattle.machine_spec.specs.declared.Machine.{Machine}
 use Rattle.machine_spec.specs.Machine.{strobeLevels}
@@ -25,21 +24,13 @@ use Rattle.machine_spec.specs.Accesses.{viaRead}
 use Rattle.machine_spec.specs.Action.{actedOf}
 use Rattle.machine_spec.specs.Stages.{itemWait}
 use Rattle.machine_spec.specs.Step.{stepOf, answerOf}
+use Rattle.transaction_spec.specs.Promise.{answersOf, bits}
 use Rattle.transaction_spec.specs.declared.Act.{Act}
 use Rattle.transaction_spec.specs.declared.Act.the-variants.{Port, Side, Look}
 use Rattle.transaction_spec.specs.Acts.{outAt, dirAt, items, actsBy}
 use Rattle.transaction_spec.proofs.Pins.{digit, bit-low, out-low}
 use Rattle.transaction_spec.proofs.Chip.{Held, held, moved, seen, Means, body, read}
 use Rattle.transaction_spec.proofs.Fold.{at, step-at, opened}
-use Rattle.transaction_spec.proofs.Bytes.{answersOf}
-
--- Of the answers, bit 0 of each that a look gets.
-abbrev pub bits : List Act → List Answer → List Bool
-bits [] more = []
-bits (a ∷ xs) [] = []
-bits (Port e c b ∷ xs) (x ∷ more) = bits xs more
-bits (Side y ∷ xs) (x ∷ more) = bits xs more
-bits (Look ∷ xs) (x ∷ more) = eqb (x .value / 1 % 2) 1 ∷ bits xs more
 
 input-bit : (line : Bool) (l : List ℕ) → eqb (inputsOf line l .b / 1 % 2) 1 ≡ line
 unfolding inputsOf

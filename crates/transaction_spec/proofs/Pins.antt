@@ -8,6 +8,7 @@ use Rattle.clock_spec.specs.Command.{bitNumber}
 use Rattle.clock_spec.specs.declared.Wires.{Wires}
 use Rattle.via.specs.declared.Ports.{Ports}
 use Rattle.machine_spec.specs.Pins.{wiresOf}
+use Rattle.transaction_spec.specs.Promise.{portsAt}
 use Rattle.transaction_spec.specs.Acts.{outAt, dirAt}
 
 pub digit : (x : ℕ) (b : Bool) → x ≡ bitNumber b → eqb x 1 ≡ b
@@ -36,9 +37,6 @@ module _ (q : ℕ) (e c b : Bool) where
 
   pub out-low : eqb (outAt q e c b / 1 % 2) 1 ≡ b
   out-low = digit _ b (low q (bitNumber e) (bitNumber c) (bitNumber b) (bit-low e) (bit-low c) (bit-low b))
-
-abbrev pub portsAt : Ports → ℕ → ℕ → Ports
-portsAt p o d = record { outb = o; outa = p .outa; dirb = d; dira = p .dira }
 
 abbrev pub levels : Bool → Bool → Bool → Wires
 levels e c d = record { enable = e; dataclock = c; dataline = d }

@@ -1,37 +1,34 @@
 -- Request W-209: running a transaction does what was asked.
 use Prim.Native.Nat.{ℕ, _+_, _*_, _/_, _≤_, _<_}
 use mathlib.Core.Path.{_≡_, refl, sym, ap, _∙_}
-use mathlib.Core.Bool.{Bool, true, false, cond, true≢false}
-use mathlib.Core.List.{List}
-use mathlib.Core.Option.{some}
+use mathlib.Core.Bool.{Bool, true, false, true≢false}
 use native.Mathlib.Omega.{arith}
 use lib.ListN.{length}
 use borrow.Author.Tests.{ltb-true}
 use Rattle.clock_spec.specs.Command.{cellsOf}
 use Rattle.clock_spec.proofs.CommandRange.{cells-most}
-use Rattle.clock_spec.specs.Store.{act, fetch}
+use Rattle.clock_spec.specs.Store.{fetch}
 use Rattle.clock_spec.specs.Phase.{acceptedPhase, shownLevel}
 use Rattle.clock_spec.specs.declared.Wires.{Wires}
 use Rattle.clock_spec.specs.Patterns.{bitsHighFirst}
 use Rattle.clock_spec.specs.declared.Target.{Target}
-use Rattle.clock_spec.specs.declared.Store.{Store}
 use Rattle.clock_spec.specs.declared.Chip.{Chip}
 use Rattle.clock_spec.specs.declared.Phase.{Phase}
-use Rattle.item_spec.specs.declared.Answer.{Answer}
 use Rattle.clock_spec.specs.declared.Phase.the-variants.{Idle, Listening, Sending, Ignoring}
 use Rattle.machine_spec.specs.declared.Machine.{Machine}
 use Rattle.machine_spec.specs.Machine.{wires, acceptedOf}
 use Rattle.machine_spec.proofs.MachineLaws.{parts}
 use Rattle.run_spec.specs.Outcome.{Out, runOf}
+use Rattle.transaction_spec.specs.Promise.{bare, askedBy, leftBy, answersOf, bytesOfAnswers, bits, Does}
 use Rattle.transaction_spec.specs.Acts.{items, bytesOf, actsBy}
 use Rattle.transaction_spec.specs.declared.Ask.{Ask}
 use Rattle.transaction_spec.specs.declared.Ask.the-variants.{WriteCell, WriteSeconds, WriteProtect, ReadCell, ReadSeconds}
 use Rattle.transaction_spec.specs.Asked.{targetOf, readsOf, byteOf, hasOf, commandOf, extendedOf, secondByteOf, actsOf, transactionOf, sizeBy, countBy, sizeOf, countOf}
 use Rattle.transaction_spec.proofs.Pins.{pins}
 use Rattle.transaction_spec.proofs.Chip.{Means}
-use Rattle.transaction_spec.proofs.Fold.{bare, folded, write-folds, read-folds}
-use Rattle.transaction_spec.proofs.Bytes.{answersOf, written, bytes-run}
-use Rattle.transaction_spec.proofs.Looks.{bits, read-seen}
+use Rattle.transaction_spec.proofs.Fold.{folded, write-folds, read-folds}
+use Rattle.transaction_spec.proofs.Bytes.{bytes-run}
+use Rattle.transaction_spec.proofs.Looks.{read-seen}
 use Rattle.transaction_spec.proofs.Commands.{seconds-named, seconds-small, cell-named, cell-small, second-small, protect-named}
 
 -- With enable up the chip is idle.
@@ -86,27 +83,10 @@ count-is a = go (readsOf a) (extendedOf a)
     go false true = refl
     go false false = refl
 
--- What is asked for, of the store: a write acts under the protect rule.
-abbrev pub askedBy : Bool → Target → ℕ → Store → Store
-askedBy true t d s = s
-askedBy false t d s = act (some (record { to = t; byte = d })) s
-
--- The state after a transaction: port B's output bits 0 to 2 are 6, its direction bits 0 to 2 are 7 after a write and 6 after a read.
-abbrev pub leftBy : Machine → Bool → Target → ℕ → Machine
-leftBy m z t d = bare m (8 * (m .via .ports .outb / 8) + 6) (8 * (m .via .ports .dirb / 8) + cond z 6 7) (m .clock .phase) (askedBy z t d (m .clock .store))
-
 -- "And ends with enable up."
 pub ends-up : (m : Machine) (z : Bool) (t : Target) (d : ℕ) → wires (leftBy m z t d) .enable ≡ true
 ends-up m true t d = ap (λ (w : Wires). w .enable) (pins (m .via .ports) _ _ true true false false (shownLevel (m .clock .phase)))
 ends-up m false t d = ap (λ (w : Wires). w .enable) (pins (m .via .ports) _ _ true true false true (shownLevel (m .clock .phase)))
-
-pub record Does (m : Machine) (a : Ask) (o : Out) (l : List Answer) : Type 0 where
-  pub stop : o .stop ≡ 0
-  pub consumed : o .consumed ≡ sizeOf a
-  pub machine : o .machine ≡ leftBy m (readsOf a) (targetOf a) (byteOf a)
-  pub up : wires (o .machine) .enable ≡ true
-  pub answers : o .answers ≡ written l
-  pub shown : readsOf a ≡ true → bits (actsOf a) l ≡ bitsHighFirst 8 (fetch (targetOf a) (m .clock .store))
 
 module _ (m : Machine) (a : Ask) (room : ℕ) (ok : acceptedOf m ≡ true) (free : wires m .enable ≡ true) (has : hasOf (m .clock .store .chip) a ≡ true) (long : 8 * countOf a ≤ room)
   where
@@ -121,7 +101,7 @@ module _ (m : Machine) (a : Ask) (room : ℕ) (ok : acceptedOf m ≡ true) (free
           machine = folded m (items q r (actsOf a));
           stop = 0;
           consumed = length (transactionOf m a);
-          answers = written (answersOf m (items q r (actsOf a)));
+          answers = bytesOfAnswers (answersOf m (items q r (actsOf a)));
         }
     unfolding runOf transactionOf
     runs = simp ok (bytes-run q r (actsOf a) m room (omega (arith, count-is a)))

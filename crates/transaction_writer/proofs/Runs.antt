@@ -12,8 +12,8 @@ use Rattle.run_spec.specs.Outcome.{runOf}
 use Rattle.transaction_spec.specs.declared.Ask.{Ask}
 use Rattle.transaction_spec.specs.Acts.{items}
 use Rattle.transaction_spec.specs.Asked.{byteOf, hasOf, actsOf, transactionOf, sizeOf, countOf}
-use Rattle.transaction_spec.proofs.Bytes.{answersOf}
-use Rattle.transaction_spec.proofs.Transactions.{Does, does, size-is}
+use Rattle.transaction_spec.specs.Promise.{answersOf, Does}
+use Rattle.transaction_spec.proofs.Transactions.{does, size-is}
 use Rattle.transaction_writer.specs.declared.TransactionResult.{TransactionResult}
 use Rattle.transaction_writer.specs.declared.TransactionResult.the-variants.{Wrote, Refused}
 use Rattle.transaction_writer.specs.Writer.{writerAnswer, bufferBy, bufferAfter}
