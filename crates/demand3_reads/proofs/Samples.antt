@@ -10,7 +10,7 @@ use Rattle.clock_spec.specs.Patterns.{meant, secondMeant}
 use Rattle.clock_spec.specs.Store.{unusedClear, fetch, put, act}
 use Rattle.clock_spec.specs.Phase.{between, hear, shownLevel, acceptedPhase}
 use Rattle.clock.specs.Step.{next, acts, stepWires}
-use Rattle.disk_lines.specs.Lines.{linesOff, lineByteOf}
+use Rattle.disk_lines.specs.Lines.{linesOff, withLevel, lineLevels, linesOf}
 use Rattle.disk_spec.specs.Sense.{acceptedDrive}
 use Rattle.disk_spec.specs.Strobe.{acceptedStrobe}
 use Rattle.disk_spec.specs.Drives.{acceptedDrives}
@@ -34,7 +34,7 @@ use Rattle.demand3_reads.specs.Samples.{ReadSamples}
 
 pub readSamples : ReadSamples
 unfolding runOf runPieces onPiece onto piecesFrom cut turnOf frameOf le16Of le32Of decodedOf isKind readRecord writeRecord plainRecord powerRecord foundOf placeFrom answerBytes noOf
-    stepOf answerOf itemWait eventOf actedOf viaRead refusesOf acceptedOf acceptedDrives acceptedDrive acceptedStrobe allBelow linesOff lineByteOf
+    stepOf answerOf itemWait eventOf actedOf viaRead refusesOf acceptedOf acceptedDrives acceptedDrive acceptedStrobe allBelow linesOff withLevel lineLevels linesOf
     acceptedVia freshVia portLevel tickOf ticks raisedOf asking levelOf viaWritten portsWritten registerRead wiresOf selOf inputsOf interruptLevel
     acceptedPhase unusedClear shownLevel stepWires between next acts act put hear meant secondMeant fetch replace
     answeredAfter stateAfter historyOf wiresAt rises endingAt protectAt endingClear last secondsAt readAt sentAt shownAt

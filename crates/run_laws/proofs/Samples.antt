@@ -9,7 +9,7 @@ use Rattle.clock_spec.specs.Phase.{between, shownLevel, acceptedPhase}
 use Rattle.clock.specs.Step.{next, acts, stepWires}
 use Rattle.clock_spec.specs.declared.Chip.{Chip}
 use Rattle.clock_spec.specs.declared.Chip.the-variants.{First, Later}
-use Rattle.disk_lines.specs.Lines.{linesOff, afterAccess, lineByteOf}
+use Rattle.disk_lines.specs.Lines.{linesOff, afterAccess, withLevel, lineLevels, linesOf}
 use Rattle.disk_spec.specs.Drive.{driveTicks, tickDrive}
 use Rattle.disk_spec.specs.Sense.{acceptedDrive}
 use Rattle.disk_spec.specs.Watched.{watchedOf, heldStill, unspoilt, registerOf}
@@ -33,7 +33,7 @@ use Rattle.run_laws.proofs.Proved.{laws}
 
 pub samples : (k : Chip) → Samples k
 unfolding waitBetween secondsOff roomLeft stepOf answerOf itemWait refusesOf actedOf acceptedOf wiresOf selOf interruptLevel freshVia latchOf tickOf ticks raisedOf resetOf asking levelOf
-    acceptedVia viaWritten unusedClear act between shownLevel acceptedPhase next acts stepWires linesOff afterAccess lineByteOf driveTicks tickDrive acceptedDrive watchedOf
+    acceptedVia viaWritten unusedClear act between shownLevel acceptedPhase next acts stepWires linesOff afterAccess withLevel lineLevels linesOf driveTicks tickDrive acceptedDrive watchedOf
     heldStill unspoilt registerOf tickStrobe strobeTicks strobeAfter longEnough strobeWrites acceptedStrobe drivesTicks drivesPowered drivesAfter acceptedDrives allBelow
     le16Of frameOf answerBytes noOf plainRecord isKind decodedOf turnOf cut piecesFrom onto onPiece runPieces runOf
 samples First =
