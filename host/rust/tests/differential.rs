@@ -625,6 +625,7 @@ fn some_case(seed: u64) -> Case {
             2..=4 => {
                 image[23..27].copy_from_slice(&odd_phase(random));
                 if random.one_in(2) {
+                    image[23] = random.pick(&[2, 5, 5]);
                     set_last(&mut image, random.pick(&[0, 4, 0x7C, 0x7D, 0x80]));
                 }
             }
