@@ -16,8 +16,7 @@ fn carry_out(image: &mut [u8], op: u8, list: &[u8], answers: &mut [u8]) {
 }
 
 // A line of an answer room, whose bytes hold $ee, and a list: the value as it was, or 256 where the line is bad.
-fn raw(image: &mut [u8], op: u8, text: &[u8], value: u64) -> u64
-{
+fn raw(image: &mut [u8], op: u8, text: &[u8], value: u64) -> u64 {
     let mut answers = [0xee; 32];
     let given = vectors_words::read_list(text);
     let list = given.list;
@@ -31,8 +30,7 @@ fn raw(image: &mut [u8], op: u8, text: &[u8], value: u64) -> u64
 }
 
 // One access: the value of its answer.
-fn once(image: &mut [u8], x: Order) -> u8
-{
+fn once(image: &mut [u8], x: Order) -> u8 {
     let list = vectors_operations::record(x);
     let mut answers = [0u8; 8];
     carry_out(image, x.op, &list, &mut answers);
@@ -40,8 +38,7 @@ fn once(image: &mut [u8], x: Order) -> u8
 }
 
 // The accesses of an operation: the value seen.
-fn many(image: &mut [u8], x: Order, value: u64) -> u64
-{
+fn many(image: &mut [u8], x: Order, value: u64) -> u64 {
     let n = vectors_operations::accesses(x);
     let mut byte = vectors_operations::start(x, value);
     let mut k: u64 = 0;
@@ -54,8 +51,7 @@ fn many(image: &mut [u8], x: Order, value: u64) -> u64
 }
 
 // A line of an operation: the value seen then, or 256 where it is bad.
-fn operation(image: &mut [u8], x: Order, value: u64) -> u64
-{
+fn operation(image: &mut [u8], x: Order, value: u64) -> u64 {
     let op = x.op;
     match op {
         0 => 256,
@@ -65,8 +61,7 @@ fn operation(image: &mut [u8], x: Order, value: u64) -> u64
 }
 
 // One line: the value seen then, or 256 or more where it is bad. An empty line makes the machine fresh.
-fn line(image: &mut [u8], text: &[u8], value: u64) -> u64
-{
+fn line(image: &mut [u8], text: &[u8], value: u64) -> u64 {
     if text.len() == 0 {
         return fresh(image);
     }
@@ -80,8 +75,7 @@ fn line(image: &mut [u8], text: &[u8], value: u64) -> u64
 }
 
 // The lines of the script, up to one that is bad.
-fn script(image: &mut [u8], s: &[u8])
-{
+fn script(image: &mut [u8], s: &[u8]) {
     let mut at: usize = 0;
     let mut number: u64 = 1;
     let mut value: u64 = 0;
