@@ -106,7 +106,7 @@ pub alike : (m n : Machine) → acceptedOf m ≡ true → acceptedOf n ≡ true 
 alike m n am an e a b roomA roomB q =
     run-touches m am a roomA ∙ ap (λ (ts : List Touch). afterTouches ts (seenOf m)) q ∙ ap (afterTouches (touches n b roomB)) e ∙ sym (run-touches n an b roomB)
 
-same : (c d : Clock) → c ≡ d → SameClock c d
+pub same : (c d : Clock) → c ≡ d → SameClock c d
 same c d e =
     record {
       cells = ap (λ (x : Clock). x .store .cells) e;

@@ -16,6 +16,8 @@ use Rattle.machine_spec.specs.Stages.{refusesOf}
 use Rattle.run_spec.specs.Outcome.{Piece, whole, broken, runOf}
 use Rattle.history.specs.Items.{stateAfter}
 use Rattle.demand3.specs.Runs.{afterPiece, answeredPieces}
+use Rattle.image_spec.specs.Image.{machineOf}
+use Rattle.entry_spec.specs.Call.{callOf}
 
 -- One entry of the sequence. No wait stands in it.
 pub data Touch : Type 0 where
@@ -75,3 +77,15 @@ pub record SameClock (a b : Clock) : Type 0 where
 abbrev pub TouchedAlike : Machine → Type 0
 TouchedAlike m =
     (a b : List ℕ) (roomA roomB : ℕ) → touches m a roomA ≡ touches m b roomB → SameClock (runOf m a roomA .machine .clock) (runOf m b roomB .machine .clock)
+
+-- The same of two calls of the C entry with one image, valid or not; on refusal 7 the clock is as it was.
+abbrev pub CalledAlike : List ℕ → Type 0
+CalledAlike i =
+    (a b : List ℕ) (roomA roomB : ℕ) → touches (machineOf i) a roomA ≡ touches (machineOf i) b roomB
+    → SameClock (callOf i a roomA .machine .clock) (callOf i b roomB .machine .clock)
+
+-- And of the states of the images left. By the entry's contract the image that a call left is that of the state reached: the two premises.
+abbrev pub LeftAlike : List ℕ → Type 0
+LeftAlike i =
+    (a b leftA leftB : List ℕ) (roomA roomB : ℕ) → machineOf leftA ≡ callOf i a roomA .machine → machineOf leftB ≡ callOf i b roomB .machine
+    → touches (machineOf i) a roomA ≡ touches (machineOf i) b roomB → SameClock (machineOf leftA .clock) (machineOf leftB .clock)

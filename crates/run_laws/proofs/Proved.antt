@@ -121,7 +121,7 @@ memory-joined a b d =
     ∙ ap (λ (e : List ℕ). a ++ (b ++ e)) (sym (drop-drop (length b) (length a) d))
 
 -- What `onto` makes of the second part.
-onto-joined : (first second : Out) → JoinedAs first second (onto (first .answers) (first .consumed) second)
+pub onto-joined : (first second : Out) → JoinedAs first second (onto (first .answers) (first .consumed) second)
 unfolding onto
 onto-joined first second =
     record {

@@ -12,6 +12,8 @@ use Rattle.machine_spec.specs.Machine.{acceptedOf}
 use Rattle.machine_spec.specs.Stages.{afterWait}
 use Rattle.machine_spec.specs.Step.{stepOf}
 use Rattle.run_spec.specs.Outcome.{Out, runOf, ranOf, over}
+use Rattle.image_spec.specs.Image.{machineOf, validImage}
+use Rattle.entry_spec.specs.Call.{callOf, callImage, callAnswers}
 
 -- One item and then another: the state after both, and the value that the second reads.
 abbrev pub oneThenOther : Machine → Item → Item → Did
@@ -55,3 +57,19 @@ pub record Laws (m : Machine) : Type 0 where
       → JoinedAs (runOf m a room) (runOf (runOf m a room .machine) b (roomLeft room (runOf m a room))) (runOf m (a ++ b) room)
   -- The first part is then read to its end: it holds whole records alone.
   pub firstWhole : (a : List ℕ) (room : ℕ) → runOf m a room .stop ≡ 0 → runOf m a room .consumed ≡ length a
+
+-- The same in calls of the C entry: the first with the image i, the second with the image `left` by it; a room is the length of the memory lent for answers.
+pub record CallsJoined (i left a b : List ℕ) (room : ℕ) : Type 0 where
+  -- State reached, stop number, answers joined, counts added.
+  pub outcome : JoinedAs (callOf i a room) (callOf left b (roomLeft room (callOf i a room))) (callOf i (a ++ b) room)
+  -- The second call leaves the image that one call with the whole list leaves, byte by byte.
+  pub image : callImage i (a ++ b) room ≡ callImage left b (roomLeft room (callOf i a room))
+  -- The second call is lent the memory past the first call's answers.
+  pub memory : (d : List ℕ) → length d ≡ room
+      → callAnswers i (a ++ b) d ≡ callOf i a room .answers ++ callAnswers left b (drop (length (callOf i a room .answers)) d)
+
+-- Of every image i, valid or not. By the entry's contract the image left is as valid as i, and its state is the one reached: the first two premises.
+abbrev pub CutCall : List ℕ → Type 0
+CutCall i =
+    (left a b : List ℕ) (room : ℕ) → validImage left ≡ validImage i → machineOf left ≡ callOf i a room .machine → callOf i a room .stop ≡ 0
+    → CallsJoined i left a b room
