@@ -219,7 +219,7 @@ pub const COMMANDS: [Command; 19] = [
         brief: "captures one after the other, as one",
         about: "Writes the records of all captures named, in the order in which they are named. Where each\n\
                 starts from the state that the one before it left, as the parts that cut makes do, a run of\n\
-                the whole gives what the runs of the parts gave.\n\
+                the whole gives what the runs of the parts gave. The whole has at most 268,435,456 bytes.\n\
                 \n\
                 Exit status: 1 where a record of a capture is cut; then nothing is written.",
         flags: &[OUT, CAPTURE_TEXT, CAPTURE_RECORDS],

@@ -11,6 +11,7 @@ use super::run::List;
 use super::words::Given;
 use super::{image, source};
 use std::ffi::{OsStr, OsString};
+use std::fmt;
 use std::io::Read;
 use swarmtempo::{pieces, Chunks, Machine, Piece};
 
@@ -54,6 +55,7 @@ pub fn join(given: &Given) -> Result<u8, Failure> {
         let bytes = capture("join", input, form)?;
         boundaries(input, &bytes)?;
         whole.extend_from_slice(&bytes);
+        short_enough("join", "the whole", &whole)?;
     }
     // Nothing goes to a pipe before all is known to be whole.
     out.put(&whole)?;
@@ -85,17 +87,27 @@ pub fn start(command: &str, given: &Given) -> Result<Machine, Failure> {
     }
 }
 
+/// A capture that is read.
+pub fn list(input: &Input, form: Form) -> Result<List, Failure> {
+    List::of(input, form, source::open(input)?, "with --text it is taken as one")
+}
+
 /// A capture, whole, as records.
 fn capture(command: &str, input: &Input, form: Form) -> Result<Vec<u8>, Failure> {
-    let list = List::of(input, form, source::open(input)?)?;
     let mut bytes = Vec::new();
-    let read = list.take(CAPTURE_MAX + 1).read_to_end(&mut bytes);
+    let read = list(input, form)?.take(CAPTURE_MAX + 1).read_to_end(&mut bytes);
     read.map_err(|error| list_failure(input, error))?;
-    if bytes.len() as u64 > CAPTURE_MAX {
-        let what = format!("{command}: {input} has more than {} bytes", grouped(CAPTURE_MAX));
-        return Err(Failure::Usage(what));
-    }
+    short_enough(command, input, &bytes)?;
     Ok(bytes)
+}
+
+/// Refuses what is too long to be held.
+fn short_enough(command: &str, what: impl fmt::Display, bytes: &[u8]) -> Result<(), Failure> {
+    if bytes.len() as u64 <= CAPTURE_MAX {
+        return Ok(());
+    }
+    let most = grouped(CAPTURE_MAX);
+    Err(Failure::Usage(format!("{command}: {what} has more than {most} bytes")))
 }
 
 /// Where the records of a capture end; all of them are whole.

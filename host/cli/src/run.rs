@@ -35,7 +35,7 @@ pub fn run(options: &Options) -> Result<u8, Failure> {
         let mut text = Lines::new(&options.list, source::open(&options.list)?, RECORDS)?;
         text.pour(&options.list, |_| Ok(()))?;
     }
-    let list = List::of(&options.list, options.form, list)?;
+    let list = List::of(&options.list, options.form, list, "run it with --text")?;
     let mut runner = Runner::new(options, machine, outs)?;
     runner.stream(list, options)?;
     runner.close(options)
@@ -50,12 +50,17 @@ pub enum List {
 }
 
 impl List {
-    /// From a file of this form.
-    pub fn of(input: &Input, form: Form, file: Box<dyn Read>) -> Result<List, Failure> {
+    /// From a file of this form; `advice` is what to do with a text where records are expected.
+    pub fn of(
+        input: &Input,
+        form: Form,
+        file: Box<dyn Read>,
+        advice: &str,
+    ) -> Result<List, Failure> {
         Ok(match form {
             Form::Text => List::Text(Box::new(Lines::new(input, file, RECORDS)?)),
             Form::Records => List::Records(contents::sample(input, file)?.1),
-            Form::Unsaid => List::Records(contents::records(input, file, "run it with --text")?),
+            Form::Unsaid => List::Records(contents::records(input, file, advice)?),
         })
     }
 }

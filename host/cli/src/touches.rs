@@ -1,7 +1,7 @@
 //! `swarmtempo touches`: what of a capture can touch the clock, and whether two captures agree in it.
 
 use super::conflicts::Uses;
-use super::cut::{inputs, reads, start};
+use super::cut::{inputs, list, reads, start};
 use super::failure::Failure;
 use super::files::{self, print, say, Out};
 use super::lines::list_failure;
@@ -9,7 +9,6 @@ use super::numbers::counted;
 use super::place::{Input, Output};
 use super::request::Form;
 use super::run::List;
-use super::source;
 use super::words::Given;
 use std::collections::VecDeque;
 use swarmtempo::{Chunks, Machine, Refusal, Touched, Touches};
@@ -74,10 +73,9 @@ struct Walk {
 
 impl Walk {
     fn new(input: &Input, form: Form, machine: Machine) -> Result<Walk, Failure> {
-        let list = List::of(input, form, source::open(input)?)?;
         Ok(Walk {
             input: input.clone(),
-            chunks: Chunks::new(list),
+            chunks: Chunks::new(list(input, form)?),
             touches: Touches::new(machine),
             ready: VecDeque::new(),
             stop: None,

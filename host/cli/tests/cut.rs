@@ -108,7 +108,7 @@ fn nothing_is_written_where_something_is_wrong() {
         (&["many", "--every", "1"], 64, "that makes 401 parts, more than 400"),
         (&["short", "--at", "6"], 1, "short: a record is cut at byte 49; no file is written"),
         (&["short", "--every", "1"], 1, "short: a record is cut at byte 49"),
-        (&["text", "--at", "6"], 65, "text: a text, not records"),
+        (&["text", "--at", "6"], 65, "text: a text, not records; with --text it is taken as one"),
         (&["whole", "--text", "--at", "6"], 65, "bytes, not a text"),
         (&["whole", "--at", "6", "--image", "text"], 7, "not the image of an accepted state"),
         (&["absent", "--at", "6"], 74, "absent: No such file"),
@@ -144,6 +144,11 @@ fn joined_captures_are_whole() {
     }
     assert_eq!(join(&["a", "a", "-o", "a"]).0, 64);
     assert_eq!(join(&[]).0, 64);
+    let long = std::fs::File::create(folder.path("long")).expect("made");
+    long.set_len((1 << 28) + 1).expect("a long file");
+    let (status, _, told) = join(&["long", "-o", "new"]);
+    assert!(status == 64 && told.contains("long has more than 268,435,456 bytes"), "{told}");
+    std::fs::remove_file(folder.path("long")).expect("removed");
     assert_eq!(join(&["-", "-"]).0, 64);
     assert_eq!(folder.names(), names);
     assert_eq!(join(&["a", "a", "a"]).1, SECOND.repeat(3));
