@@ -229,7 +229,7 @@ pub const COMMANDS: [Command; 19] = [
         operand: "CAPTURE..",
         brief: "what of a capture can touch the clock; whether two agree",
         about: "Shows the items of a capture that can touch the clock chip: those carried out that write VIA\n\
-                registers 0 (ORB) and 2 (DDRB), resets, one-second ticks (SE) and power cuts, each with its byte\n\
+                registers 0 (ORB) and 2 (DDRB), resets, every SE (one second), power cuts, each with its byte\n\
                 offset and the VIA ticks waited until it acts. Of two captures it says whether they agree in these\n\
                 items, and where they first part; two that agree leave the same cells, seconds, protect, test\n\
                 and half-made command, whatever their waits and other items are. Both begin on one state.\n\
