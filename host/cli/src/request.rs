@@ -18,6 +18,21 @@ pub enum Form {
     Text,
 }
 
+impl Form {
+    /// By the words of a command.
+    pub fn of(command: &str, given: &Given) -> Result<Form, Failure> {
+        match (given.flag("--text"), given.flag("--records")) {
+            (true, true) => {
+                let what = "--text and --records: the list is one of them";
+                Err(Failure::usage(command, what))
+            }
+            (true, false) => Ok(Form::Text),
+            (false, true) => Ok(Form::Records),
+            (false, false) => Ok(Form::Unsaid),
+        }
+    }
+}
+
 /// The words of the command.
 pub struct Options {
     /// What the list is.
@@ -50,20 +65,12 @@ impl Options {
         let output = |name: &str| given.value(name).map(Output::of);
         let colour = given.value("--color").map_or(Some(When::Auto), |word| When::of(&word));
         let options = Options {
-            form: match (given.flag("--text"), given.flag("--records")) {
-                (true, true) => {
-                    let what = "--text and --records: the list is one of them";
-                    return Err(Failure::usage("run", what));
-                }
-                (true, false) => Form::Text,
-                (false, true) => Form::Records,
-                (false, false) => Form::Unsaid,
-            },
+            form: Form::of("run", given)?,
             quiet: given.flag("--quiet"),
             strict: given.flag("--strict"),
             colour: colour
                 .ok_or_else(|| Failure::usage("run", "--color needs always, never or auto"))?,
-            chip: chip(given)?,
+            chip: chip("run", given)?,
             image: given.value("--image").map(Input::of),
             save: output("--save"),
             answers: output("--answers"),
@@ -102,15 +109,15 @@ impl Options {
 }
 
 /// The clock chip of a fresh machine. An image has its own.
-fn chip(given: &Given) -> Result<Chip, Failure> {
+pub fn chip(command: &str, given: &Given) -> Result<Chip, Failure> {
     let Some(word) = given.value("--cells") else {
         return Ok(Chip::First);
     };
     if given.value("--image").is_some() {
         let what = "--cells and --image: an image says how many cells there are";
-        return Err(Failure::usage("run", what));
+        return Err(Failure::usage(command, what));
     }
     let cells = word.to_str().and_then(|word| word.parse().ok());
-    let needs = || Failure::usage("run", "--cells needs 20 or 256, the cells of the clock chip");
+    let needs = || Failure::usage(command, "--cells needs 20 or 256, the cells of the clock chip");
     cells.and_then(Chip::of_cells).ok_or_else(needs)
 }

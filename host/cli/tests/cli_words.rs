@@ -8,11 +8,14 @@ use std::process::Command;
 use swarmtempo::text::assemble;
 use swarmtempo::{Chip, Machine, CHUNK_LEN};
 
-const COMMANDS: [&str; 16] = [
+const COMMANDS: [&str; 19] = [
     "run",
     "asm",
     "disasm",
     "convert",
+    "cut",
+    "join",
+    "touches",
     "image",
     "keyboard",
     "sheet get",

@@ -184,7 +184,7 @@ fn images() {
 fn the_program() {
     let folder = Folder::new("robust");
     folder.put("nothing", b"");
-    let commands: [&[&str]; 18] = [
+    let commands: [&[&str]; 22] = [
         &["run", "file"],
         &["run", "file", "--text"],
         &["run", "file", "--records", "--vcd", "vcd", "--quiet"],
@@ -196,6 +196,10 @@ fn the_program() {
         &["image", "file"],
         &["convert", "file", "-o", "out"],
         &["convert", "--records"],
+        &["cut", "file", "--records", "--every", "1000", "--out", "part"],
+        &["join", "file", "nothing", "file", "-o", "out"],
+        &["touches", "file", "--records"],
+        &["touches", "-", "file", "--text"],
         &["sheet", "get", "7", "--bench", "file"],
         &["sheet", "get", "7", "--text", "--house", "file"],
         &["sheet", "list"],

@@ -27,6 +27,7 @@
 //! - States: [`Machine::image`] to save and [`Machine::from_image`] to restore; [`State`] to look at.
 //! - For people: [`table`], [`vcd`], [`describe`], and `Display` of nearly everything.
 //! - Captures from before SN retired on the drives' own registers: [`convert`].
+//! - What of a capture can touch the clock: [`Touches`].
 //! - A keyboard, by itself: [`Keyboard`].
 //! - Settings of a bench: [`Sheets`], [`compact`], and as text [`sheet_text`].
 //! - The C functions as they are: [`sys`].
@@ -63,6 +64,7 @@ pub mod table;
     reason = "a number is cut, and a value expected, once its range is checked"
 )]
 pub mod text;
+mod touches;
 mod units;
 pub mod vcd;
 
@@ -83,4 +85,5 @@ pub use sheets::{
     compact, compact_into, settings, Setting, Sheet, SheetRefusal, Sheets, SETTING_MAX,
 };
 pub use state::{DriveState, Phase, State, Strobe, Timer1, Timer2, Wires};
+pub use touches::{Touch, Touched, Touches};
 pub use units::{Micros, Seconds, TickCount, TooLong, ViaTicks, TICKS_PER_SECOND};

@@ -4,6 +4,11 @@
 //! lists.
 //! A difference is made small and printed.
 
+#[path = "differential/laws.rs"]
+mod laws;
+#[path = "differential/touches.rs"]
+mod touches;
+
 use swarmtempo::text::disassemble;
 use swarmtempo::{sys, Address, Chip, DiskLine, Machine, Register};
 use swarmtempo_model as model;
