@@ -75,7 +75,8 @@ static void call(const uint8_t *state, size_t state_len, const uint8_t *items, s
     if (items_len && memcmp(list.at, items, items_len)) fail("the list was written");
     for (size_t i = counts[2]; i < room; i++)
         if (answers.at[i] != 0xC3) fail("answer bytes past those written changed");
-    if (state_len != SWARMTEMPO_IMAGE_LEN && stop != SWARMTEMPO_REFUSED_STATE) fail("an image of another length was taken");
+    size_t whole = state_len > 3 && state[3] == 'X' ? SWARMTEMPO_IMAGE_LEN_LATER : SWARMTEMPO_IMAGE_LEN;
+    if (state_len != whole && stop != SWARMTEMPO_REFUSED_STATE) fail("an image of another length was taken");
     if (stop == SWARMTEMPO_REFUSED_STATE) {
         if (counts[1] || counts[2]) fail("counts on 7");
         if (state_len && memcmp(image.at, state, state_len)) fail("the image was written on 7");
@@ -110,41 +111,46 @@ static void conversions(const uint8_t *items, size_t items_len, int at_end)
     }
 }
 
+/* Rooms of every length, with numbers of cells that a chip has and others, those with more bits among them. */
 static void fresh_images(void)
 {
-    static const uint8_t blank[SWARMTEMPO_IMAGE_LEN + 32];
-    for (size_t len = 0; len < SWARMTEMPO_IMAGE_LEN + 32; len++)
-        for (int at_end = 0; at_end < 2; at_end++) {
-            place(&image, blank, len, at_end);
-            uint8_t stop = swarmtempo_fresh(image.at, len);
-            size_t used = stop ? 0 : SWARMTEMPO_IMAGE_LEN;
-            calls++;
-            guards_hold(&image);
-            if (stop != (len < SWARMTEMPO_IMAGE_LEN ? SWARMTEMPO_REFUSED_ROOM : 0)) fail("fresh in this room");
-            for (size_t i = used; i < len; i++)
-                if (image.at[i]) fail("fresh wrote past the image");
-        }
+    static const uint8_t blank[SWARMTEMPO_IMAGE_LEN_LATER + 32];
+    static const uint32_t numbers[] = {SWARMTEMPO_CELLS_FIRST, SWARMTEMPO_CELLS_LATER, 0, 19, 21, 255, 257, 276, 65556, 0x80000014u, ~0u};
+    for (size_t n = 0; n < sizeof numbers / sizeof *numbers; n++)
+        for (size_t len = 0; len < sizeof blank; len++)
+            for (int at_end = 0; at_end < 2; at_end++) {
+                place(&image, blank, len, at_end);
+                uint8_t stop = swarmtempo_fresh(image.at, len, numbers[n]);
+                size_t whole = n == 0 ? SWARMTEMPO_IMAGE_LEN : n == 1 ? SWARMTEMPO_IMAGE_LEN_LATER : 0;
+                uint8_t expected = n > 1 ? SWARMTEMPO_REFUSED_RANGE : len < whole ? SWARMTEMPO_REFUSED_ROOM : 0;
+                calls++;
+                guards_hold(&image);
+                if (stop != expected || swarmtempo_image_len(numbers[n]) != whole) fail("fresh in this room");
+                for (size_t i = stop ? 0 : whole; i < len; i++)
+                    if (image.at[i]) fail("fresh wrote past the image");
+            }
 }
 
 /* Each buffer of length 0 at NULL, alone and together with others. */
-static void null_buffers(const uint8_t *state, const uint8_t *items, size_t len)
+static void null_buffers(const uint8_t *state, size_t state_len, const uint8_t *items, size_t len)
 {
     for (int i = 0; i < 8; i++) {
-        uint8_t copy[SWARMTEMPO_IMAGE_LEN], room[64];
+        uint8_t copy[SWARMTEMPO_IMAGE_LEN_LATER], room[64];
         uint64_t consumed = 77, written = 78;
         int no_image = i & 1, no_list = i >> 1 & 1, no_room = i >> 2 & 1;
-        memcpy(copy, state, sizeof copy);
+        memcpy(copy, state, state_len);
         memset(room, 0xC3, sizeof room);
-        uint8_t stop = swarmtempo_run(no_image ? NULL : copy, no_image ? 0 : sizeof copy, no_list ? NULL : items, no_list ? 0 : len,
+        uint8_t stop = swarmtempo_run(no_image ? NULL : copy, no_image ? 0 : state_len, no_list ? NULL : items, no_list ? 0 : len,
                                       no_room ? NULL : room, no_room ? 0 : sizeof room, &consumed, &written);
         uint8_t expected = no_image ? SWARMTEMPO_REFUSED_STATE : no_room && !no_list ? SWARMTEMPO_REFUSED_ROOM : SWARMTEMPO_END;
         int runs = !no_image && !no_list && !no_room;
         calls++;
         if (stop != expected) fail("a stop with NULL");
         if (consumed != (runs ? len : 0) || written != (runs ? 48u : 0)) fail("counts with NULL");
-        if (!runs && memcmp(copy, state, sizeof copy)) fail("the image changed with NULL");
+        if (!runs && memcmp(copy, state, state_len)) fail("the image changed with NULL");
     }
-    if (swarmtempo_fresh(NULL, 0) != SWARMTEMPO_REFUSED_ROOM) fail("fresh at NULL");
+    if (swarmtempo_fresh(NULL, 0, SWARMTEMPO_CELLS_FIRST) != SWARMTEMPO_REFUSED_ROOM) fail("fresh at NULL");
+    if (swarmtempo_fresh(NULL, 0, 0) != SWARMTEMPO_REFUSED_RANGE) fail("no cells at NULL");
     uint8_t which = 77;
     uint64_t start = 78, size = 79, written = 80;
     if (swarmtempo_sheet_get(NULL, 0, NULL, 0, 7, &which, &start, &size) || which || start || size) fail("sheets at NULL");
@@ -153,7 +159,7 @@ static void null_buffers(const uint8_t *state, const uint8_t *items, size_t len)
     uint8_t answered = 81, answer = 82;
     if (swarmtempo_keyboard_fresh(NULL, 0, 3) != SWARMTEMPO_REFUSED_ROOM) fail("a fresh keyboard at NULL");
     if (swarmtempo_keyboard_wait(NULL, 0, 1, &answered, &answer) != SWARMTEMPO_REFUSED_STATE || answered || answer) fail("a keyboard at NULL");
-    calls += 6;
+    calls += 7;
 }
 
 /* Sheets of every length, sound and cut, with every room. */
@@ -190,37 +196,49 @@ static void sheets(void)
             }
 }
 
+/* Images of every length, lists of every length with many rooms, and then one byte of each at random. */
+static void runs(const uint8_t *state, size_t state_len, const uint8_t *items, size_t len, unsigned long rounds)
+{
+    uint64_t seed = 1;
+    for (int at_end = 0; at_end < 2; at_end++) {
+        for (size_t n = 0; n <= 2 * SWARMTEMPO_IMAGE_LEN_LATER; n++) call(state, n, items, len, 48, at_end);
+        for (size_t n = 0; n <= len; n++)
+            for (size_t room = 0; room <= 56; room += 1 + room % 3) call(state, state_len, items, n, room, at_end);
+    }
+    for (unsigned long i = 0; i < rounds; i++) {
+        uint8_t odd_items[256], odd_state[SWARMTEMPO_IMAGE_LEN_LATER];
+        seed = seed * 6364136223846793005ull + 1442695040888963407ull;
+        memcpy(odd_items, items, len);
+        memcpy(odd_state, state, state_len);
+        odd_items[(seed >> 33) % len] = (uint8_t)(seed >> 56);
+        if (seed >> 20 & 1) odd_state[(seed >> 41) % state_len] = (uint8_t)(seed >> 25);
+        call(odd_state, state_len, odd_items, (seed >> 13) % (len + 1), (seed >> 7) % 64, (int)(seed >> 62 & 1));
+    }
+}
+
 int main(int argc, char **argv)
 {
-    uint8_t state[2 * SWARMTEMPO_IMAGE_LEN] = {0}, items[256];
+    static const uint32_t cells[] = {SWARMTEMPO_CELLS_FIRST, SWARMTEMPO_CELLS_LATER};
+    uint8_t items[256];
     unsigned long rounds = argc > 1 ? strtoul(argv[1], NULL, 10) : 20000;
     size_t len = 0;
-    uint64_t seed = 1;
     image = make(), list = make(), answers = make();
     fresh_images();
-    if (swarmtempo_fresh(state, sizeof state)) fail("fresh");
     len += swarmtempo_rd(items + len, 1, SWARMTEMPO_VIA(13));
     len += swarmtempo_wr(items + len, 2, SWARMTEMPO_VIA(0), 2);
     len += swarmtempo_sn(items + len, 65535, 1, 15, 0);
     len += swarmtempo_pw(items + len, 0, 0xFFFFFFFF);
     len += swarmtempo_in(items + len, 0, 4, 0);
     len += swarmtempo_rd(items + len, 0, SWARMTEMPO_IWM(14));
-    null_buffers(state, items, len);
     sheets();
-    for (int at_end = 0; at_end < 2; at_end++) {
+    for (int at_end = 0; at_end < 2; at_end++)
         for (size_t n = 0; n <= len; n++) conversions(items, n, at_end);
-        for (size_t n = 0; n <= sizeof state; n++) call(state, n, items, len, 48, at_end);
-        for (size_t n = 0; n <= len; n++)
-            for (size_t room = 0; room <= 56; room += 1 + room % 3) call(state, SWARMTEMPO_IMAGE_LEN, items, n, room, at_end);
-    }
-    for (unsigned long i = 0; i < rounds; i++) { /* one byte of the list and one of the image at random */
-        uint8_t odd_items[256], odd_state[SWARMTEMPO_IMAGE_LEN];
-        seed = seed * 6364136223846793005ull + 1442695040888963407ull;
-        memcpy(odd_items, items, len);
-        memcpy(odd_state, state, sizeof odd_state);
-        odd_items[(seed >> 33) % len] = (uint8_t)(seed >> 56);
-        if (seed >> 20 & 1) odd_state[(seed >> 41) % sizeof odd_state] = (uint8_t)(seed >> 25);
-        call(odd_state, sizeof odd_state, odd_items, (seed >> 13) % (len + 1), (seed >> 7) % 64, (int)(seed >> 62 & 1));
+    for (size_t i = 0; i < 2; i++) {
+        uint8_t state[2 * SWARMTEMPO_IMAGE_LEN_LATER] = {0};
+        size_t state_len = (size_t)swarmtempo_image_len(cells[i]);
+        if (swarmtempo_fresh(state, sizeof state, cells[i])) fail("fresh");
+        null_buffers(state, state_len, items, len);
+        runs(state, state_len, items, len, rounds);
     }
     printf("%lu calls\n", calls);
     return EXIT_SUCCESS;

@@ -1,6 +1,6 @@
 /*
- * Runs S2, S4, a save and restore amid a half-sent command, and a conversion; asks for versions and
- * words, and reads answers. Fails where something differs.
+ * Runs S2, S4, a save and restore amid a half-sent command, the later chip, and a conversion; asks for versions
+ * and words, and reads answers. Fails where something differs.
  */
 #include <stdio.h>
 #include <stdlib.h>
@@ -17,16 +17,21 @@ static void expect(int good, const char *what)
     }
 }
 
-static void run(uint8_t *image, const uint8_t *list, size_t len, uint8_t *answers, size_t items)
+static void run_of(uint8_t *image, size_t image_len, const uint8_t *list, size_t len, uint8_t *answers, size_t items)
 {
     uint64_t consumed = 99, written = 99;
-    uint8_t stop = swarmtempo_run(image, SWARMTEMPO_IMAGE_LEN, list, len, answers, 8 * items, &consumed, &written);
+    uint8_t stop = swarmtempo_run(image, image_len, list, len, answers, 8 * items, &consumed, &written);
     expect(stop == SWARMTEMPO_END && consumed == len && written == 8 * items, "stop and counts");
+}
+
+static void run(uint8_t *image, const uint8_t *list, size_t len, uint8_t *answers, size_t items)
+{
+    run_of(image, SWARMTEMPO_IMAGE_LEN, list, len, answers, items);
 }
 
 static void fresh(uint8_t *image)
 {
-    expect(swarmtempo_fresh(image, SWARMTEMPO_IMAGE_LEN) == 0, "fresh");
+    expect(swarmtempo_fresh(image, SWARMTEMPO_IMAGE_LEN, SWARMTEMPO_CELLS_FIRST) == 0, "fresh");
 }
 
 static void sample_2(void)
@@ -88,6 +93,36 @@ static void save_and_restore(void)
         expect(memcmp(saved, whole, sizeof whole) == 0, "state after a restore");
         expect(memcmp(parts, answers, sizeof answers) == 0, "answers after a restore");
     }
+}
+
+/* $3F $7C $AA on either chip, rise by rise: cell $FF is set at the 24th and not at the 23rd; the first chip ignores it. */
+static void later_chip(void)
+{
+    static const uint8_t bytes[] = {0x3F, 0x7C, 0xAA};
+    uint8_t first[SWARMTEMPO_IMAGE_LEN], later[SWARMTEMPO_IMAGE_LEN_LATER], list[3 * SWARMTEMPO_ITEM_MAX], answers[24];
+    size_t len = 0;
+    fresh(first);
+    expect(swarmtempo_fresh(later, sizeof later, SWARMTEMPO_CELLS_LATER) == 0, "fresh with 256 cells");
+    expect(first[2] == 'S' && first[3] == 'T' && later[2] == 'S' && later[3] == 'X', "kinds");
+    expect(memcmp(first + 4, later + 4, sizeof first - 4) == 0, "what both kinds have");
+    len += swarmtempo_wr(list + len, 0, SWARMTEMPO_VIA(0), 4);
+    len += swarmtempo_wr(list + len, 0, SWARMTEMPO_VIA(2), 7);
+    len += swarmtempo_wr(list + len, 0, SWARMTEMPO_VIA(0), 0);
+    run(first, list, len, answers, 3);
+    run_of(later, sizeof later, list, len, answers, 3);
+    for (int rise = 1; rise <= 24; rise++) {
+        uint8_t bit = bytes[(rise - 1) / 8] >> (7 - (rise - 1) % 8) & 1;
+        len = swarmtempo_wr(list, 0, SWARMTEMPO_VIA(0), bit);
+        len += swarmtempo_wr(list + len, 0, SWARMTEMPO_VIA(0), bit | 2);
+        run(first, list, len, answers, 2);
+        run_of(later, sizeof later, list, len, answers, 2);
+        for (size_t cell = 20; cell < 256; cell++)
+            expect(later[103 + cell] == (cell == 255 && rise == 24 ? 0xAA : 0), "cells 20 to 255");
+        expect(first[23] == (rise < 8 ? 1 : 4), "the first chip ignores $3F");
+    }
+    for (size_t cell = 0; cell < 20; cell++) expect(first[33 + cell] == 0 && later[33 + cell] == 0, "cells 0 to 19");
+    expect(swarmtempo_fresh(later, 0, 21) == SWARMTEMPO_REFUSED_RANGE, "a number of cells that no chip has");
+    expect(swarmtempo_image_len(0) == 0 && swarmtempo_image_len(255) == 0 && swarmtempo_image_len(276) == 0, "its length");
 }
 
 static void micros(void)
@@ -168,7 +203,8 @@ static void conversion(void)
 
 int main(void)
 {
-    expect(swarmtempo_image_len() == SWARMTEMPO_IMAGE_LEN, "image length");
+    expect(swarmtempo_image_len(SWARMTEMPO_CELLS_FIRST) == SWARMTEMPO_IMAGE_LEN, "image length");
+    expect(swarmtempo_image_len(SWARMTEMPO_CELLS_LATER) == SWARMTEMPO_IMAGE_LEN_LATER, "image length with 256 cells");
     if (failures) return EXIT_FAILURE;
     sample_2();
     sample_4();
@@ -177,6 +213,7 @@ int main(void)
     refusals();
     readers();
     save_and_restore();
+    later_chip();
     conversion();
     return failures ? EXIT_FAILURE : EXIT_SUCCESS;
 }

@@ -36,11 +36,11 @@ static void send(unsigned byte)
 int main(void)
 {
     unsigned value = 0;
-    if (swarmtempo_image_len() != SWARMTEMPO_IMAGE_LEN) {
+    if (swarmtempo_image_len(SWARMTEMPO_CELLS_FIRST) != SWARMTEMPO_IMAGE_LEN) {
         fprintf(stderr, "built for version %s, run with %s\n", SWARMTEMPO_VERSION, swarmtempo_version());
         return EXIT_FAILURE;
     }
-    uint8_t refusal = swarmtempo_fresh(image, sizeof image);
+    uint8_t refusal = swarmtempo_fresh(image, sizeof image, SWARMTEMPO_CELLS_FIRST);
     if (refusal) fail("no fresh machine", refusal);
     begin(), send(0x41), send(0xAA), wr(SWARMTEMPO_ORB, 4); /* write cell 0; enable up */
     begin(), send(0xC1), wr(SWARMTEMPO_DDRB, 6);            /* read cell 0; data becomes an input */

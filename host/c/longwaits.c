@@ -53,7 +53,7 @@ static double timed(const struct use *use, uint16_t wait, unsigned long *sum)
     uint8_t image[SWARMTEMPO_IMAGE_LEN], setup[4 * SWARMTEMPO_ITEM_MAX];
     size_t len = 0;
     for (size_t i = 0; i < WAITS; i++) swarmtempo_vb(list + ITEM * i, wait);
-    swarmtempo_fresh(image, sizeof image);
+    swarmtempo_fresh(image, sizeof image, SWARMTEMPO_CELLS_FIRST);
     len += swarmtempo_wr(setup + len, 0, SWARMTEMPO_VIA(11), use->acr);
     len += swarmtempo_wr(setup + len, 0, SWARMTEMPO_VIA(use->low), (uint8_t)(use->ticks & 0xFF));
     len += swarmtempo_wr(setup + len, 0, SWARMTEMPO_VIA(use->high), (uint8_t)(use->ticks >> 8));

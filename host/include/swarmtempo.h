@@ -28,21 +28,28 @@ extern "C" {
 #endif
 
 /* The version of this header; swarmtempo_version() has that of the library. */
-#define SWARMTEMPO_VERSION "0.1.0"
+#define SWARMTEMPO_VERSION "0.2.0"
 #define SWARMTEMPO_VERSION_MAJOR 0
-#define SWARMTEMPO_VERSION_MINOR 1
+#define SWARMTEMPO_VERSION_MINOR 2
 #define SWARMTEMPO_VERSION_PATCH 0
 
 /* VIA ticks a second. */
 #define SWARMTEMPO_TICKS_PER_SECOND 783360ul
 /* Bytes of an answer. */
 #define SWARMTEMPO_ANSWER_LEN 8
-/* Bytes of a state image of this version; swarmtempo_image_len() has that of the library. */
+/* Cells of the clock chip, chosen where a machine is made: of the first chip, and of the later one. */
+#define SWARMTEMPO_CELLS_FIRST 20u
+#define SWARMTEMPO_CELLS_LATER 256u
+/*
+ * Bytes of a state image of this version, with the first chip (kind ST) and with the later one (kind SX);
+ * swarmtempo_image_len(cells) has those of the library.
+ */
 #define SWARMTEMPO_IMAGE_LEN 123
+#define SWARMTEMPO_IMAGE_LEN_LATER 360
 /* Bytes of the longest item that the functions below write. */
 #define SWARMTEMPO_ITEM_MAX 11
 
-/* How a run stopped (0, 1, 6, 7), and the numbers of NO answers (1 to 5, 8, 9). */
+/* How a run stopped (0, 1, 6, 7), and the numbers of NO answers (1 to 5, 8, 9). swarmtempo_fresh has 5 and 6. */
 #define SWARMTEMPO_END 0u             /* the end of the list */
 #define SWARMTEMPO_REFUSED_CUT 1u     /* a cut record or a length below 2; NO 1 is written, the run stops before it */
 #define SWARMTEMPO_REFUSED_KIND 2u    /* unknown kind */
@@ -95,7 +102,8 @@ extern "C" {
  */
 
 /*
- * Runs a list on the state in `image` (exactly one image, image_len bytes).
+ * Runs a list on the state in `image` (exactly one image, image_len bytes). Which clock chip the machine
+ * has is in the image's kind, and no run changes it.
  *
  * Returns how the run stopped. `*consumed` is the number of list bytes of the records answered, but
  * for one refused with 1; `*written` the number of answer bytes, 8 for each answer. Answer bytes past
@@ -105,14 +113,18 @@ extern "C" {
 uint8_t swarmtempo_run(uint8_t *image, size_t image_len, const uint8_t *list, size_t list_len,
                        uint8_t *answers, size_t answers_len, uint64_t *consumed, uint64_t *written);
 
-/* Bytes of a state image. */
-uint64_t swarmtempo_image_len(void);
+/*
+ * Bytes of a state image of a machine whose clock chip has so many cells: SWARMTEMPO_CELLS_FIRST or
+ * SWARMTEMPO_CELLS_LATER. 0 for any other number.
+ */
+uint64_t swarmtempo_image_len(uint32_t cells);
 
 /*
- * Writes the image of a fresh machine. Returns 0, or 6 where image_len is below
- * swarmtempo_image_len(), and then writes nothing. Bytes past the image keep their contents.
+ * Writes the image of a fresh machine with so many cells. Returns 0; 5 where no chip has so many; else 6
+ * where image_len is below swarmtempo_image_len(cells). On 5 and 6 nothing is written. Bytes past the
+ * image keep their contents.
  */
-uint8_t swarmtempo_fresh(uint8_t *image, size_t image_len);
+uint8_t swarmtempo_fresh(uint8_t *image, size_t image_len, uint32_t cells);
 
 /*
  * Turns a capture over that was made before SN on registers 0 to 5, 12 and 15 retired, begun on a fresh
@@ -131,7 +143,7 @@ uint8_t swarmtempo_convert(const uint8_t *list, size_t list_len, uint8_t *out, s
 uint32_t swarmtempo_ticks_of_micros(uint32_t micros);
 
 /*
- * The version of the library, as "0.1.0". While its first number is 0, another second number may
+ * The version of the library, as "0.2.0". While its first number is 0, another second number may
  * have another image: a program asks that the first two are those of its header.
  */
 const char *swarmtempo_version(void);

@@ -8,35 +8,33 @@ use denote.Enum.Declared.{tagOf}
 use Rattle.clock_spec.specs.Store.{act}
 use Rattle.clock_spec.proofs.Phase.{the-type}
 use Rattle.clock_spec.specs.declared.Phase.{Phase}
-use Rattle.clock_spec.specs.declared.Phase.the-variants.{Idle, Listening, Taking, Sending, Ignoring}
+use Rattle.clock_spec.specs.declared.Phase.the-variants.{Idle, Listening, Sending, Ignoring}
 use Rattle.clock_spec.specs.declared.Edge.the-variants.{Fall, Rise}
 use Rattle.clock.specs.Step.{withPhase, next, acts, afterEdge}
 use Rattle.clock.specs.declared.Clock.{Clock}
 
 abbrev not-sending : List ℕ
-not-sending = 0 ∷ 1 ∷ 2 ∷ 4 ∷ []
+not-sending = 0 ∷ 1 ∷ 3 ∷ []
 
 abbrev not-counting : List ℕ
-not-counting = 0 ∷ 3 ∷ 4 ∷ []
+not-counting = 0 ∷ 2 ∷ 3 ∷ []
 
-pub fall-stays : (N : ℕ) (c : Clock) → OneOf not-sending (tagOf the-type (c .phase)) → c ≡ afterEdge N c Fall
+pub fall-stays : (c : Clock) → OneOf not-sending (tagOf the-type (c .phase)) → c ≡ afterEdge c Fall
 unfolding afterEdge next acts act
-fall-stays N c h = go (c .phase) h
+fall-stays c h = go (c .phase) h
   where
-    go : (p : Phase) → OneOf not-sending (tagOf the-type p) → withPhase c p ≡ afterEdge N (withPhase c p) Fall
+    go : (p : Phase) → OneOf not-sending (tagOf the-type p) → withPhase c p ≡ afterEdge (withPhase c p) Fall
     go Idle h = refl
-    go (Listening n v) h = refl
-    go (Taking k n v) h = refl
-    go (Sending y n) h = absurd (miss not-sending 3 tt h)
+    go (Listening bs n v) h = refl
+    go (Sending y n) h = absurd (miss not-sending 2 tt h)
     go Ignoring h = refl
 
-pub rise-stays : (N : ℕ) (c : Clock) (b : Bool) → OneOf not-counting (tagOf the-type (c .phase)) → c ≡ afterEdge N c (Rise b)
+pub rise-stays : (c : Clock) (b : Bool) → OneOf not-counting (tagOf the-type (c .phase)) → c ≡ afterEdge c (Rise b)
 unfolding afterEdge next acts act
-rise-stays N c b h = go (c .phase) h
+rise-stays c b h = go (c .phase) h
   where
-    go : (p : Phase) → OneOf not-counting (tagOf the-type p) → withPhase c p ≡ afterEdge N (withPhase c p) (Rise b)
+    go : (p : Phase) → OneOf not-counting (tagOf the-type p) → withPhase c p ≡ afterEdge (withPhase c p) (Rise b)
     go Idle h = refl
-    go (Listening n v) h = absurd (miss not-counting 1 tt h)
-    go (Taking k n v) h = absurd (miss not-counting 2 tt h)
+    go (Listening bs n v) h = absurd (miss not-counting 1 tt h)
     go (Sending y n) h = refl
     go Ignoring h = refl

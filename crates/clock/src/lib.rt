@@ -1,11 +1,14 @@
 // The clock chip: its phase and its store, fresh, and its step by the three wires.
 ghost use mathlib.Core.Path.{_≡_};
 ghost use mathlib.Core.Bool.{true};
-ghost use Rattle.clock_spec.specs.Phase.{counts, fewBits, acceptedPhase};
-ghost use Rattle.clock.specs.Step.{withPhase, freshClock, afterEdge, stepWires};
+ghost use Rattle.clock_spec.specs.Phase.{counts, fewBits, hear, acceptedPhase};
+ghost use Rattle.clock.specs.Step.{withPhase, freshClock, afterByte, afterEdge, stepWires};
+use clock_spec::Bytes;
+use clock_spec::Chip;
 use clock_spec::Edge;
 use clock_spec::Phase;
 use clock_spec::Store;
+use clock_spec::Verdict;
 use clock_spec::Wires;
 
 pub struct Clock {
@@ -13,11 +16,12 @@ pub struct Clock {
     pub store: Store,
 }
 
-pub fn fresh() -> Clock
-    ensures { λ r. ⌜ r ≡ freshClock 20 ⌝ }
+pub fn fresh(chip: Chip) -> Clock
+    ensures { λ r. ⌜ r ≡ freshClock chip ⌝ }
 {
     let s = Store {
-        cells: [0; 20],
+        chip: chip,
+        cells: [0; 256],
         seconds: 0,
         protect: false,
         test: 0,
@@ -29,23 +33,58 @@ pub fn fresh() -> Clock
 }
 
 impl Clock {
-    // A rise while data bits are taken: the last one completes the write.
-    fn take(self, command: u8, n: u8, v: u8, b: bool) -> Clock
+    // The last bit of a byte.
+    fn hear(self, bytes: Bytes, b: u8) -> Clock
+        ensures { λ r. ⌜ r ≡ afterByte (self .store) bytes b (hear (self .store .chip) bytes b) ⌝ }
+    {
+        let s = self.store;
+        let chip = s.chip;
+        match clock_command::hear(chip, bytes, b) {
+            Verdict::More => {
+                let more = clock_phase::with_byte(bytes, b);
+                Clock {
+                    phase: Phase::Listening {
+                        bytes: more,
+                        count: 0,
+                        bits: 0,
+                    },
+                    store: s,
+                }
+            }
+            Verdict::Reads(t) => {
+                let y = clock_store::fetch(s, t);
+                Clock {
+                    phase: Phase::Sending { byte: y, falls: 0 },
+                    store: s,
+                }
+            }
+            Verdict::Writes(t) => {
+                let u = clock_store::act(s, t, b);
+                Clock {
+                    phase: Phase::Ignoring,
+                    store: u,
+                }
+            }
+            Verdict::Ignored => Clock {
+                phase: Phase::Ignoring,
+                store: s,
+            },
+        }
+    }
+
+    // A rise while bits are taken.
+    fn take(self, bytes: Bytes, n: u8, v: u8, b: bool) -> Clock
         requires { ⌜ fewBits n v ≡ true ⌝ }
-        ensures { λ r. ⌜ r ≡ afterEdge 20 (withPhase self (Phase.Taking command n v)) (Edge.Rise b) ⌝ }
+        ensures { λ r. ⌜ r ≡ afterEdge (withPhase self (Phase.Listening bytes n v)) (Edge.Rise b) ⌝ }
     {
         let w = clock_phase::pushed(v, b);
-        let s = self.store;
         if n == 7 {
-            let t = clock_store::act(s, clock_command::decoded(20, command), w);
-            return Clock {
-                phase: Phase::Ignoring,
-                store: t,
-            };
+            return self.hear(bytes, w);
         }
+        let s = self.store;
         Clock {
-            phase: Phase::Taking {
-                command: command,
+            phase: Phase::Listening {
+                bytes: bytes,
                 count: n + 1,
                 bits: w,
             },
@@ -55,27 +94,18 @@ impl Clock {
 
     fn rise(self, b: bool) -> Clock
         requires { ⌜ counts (self .phase) ≡ true ⌝ }
-        ensures { λ r. ⌜ r ≡ afterEdge 20 self (Edge.Rise b) ⌝ }
+        ensures { λ r. ⌜ r ≡ afterEdge self (Edge.Rise b) ⌝ }
     {
         let p = self.phase;
         match p {
-            Phase::Listening { count, bits } => {
-                let s = self.store;
-                let q = clock_phase::heard(s, count, bits, b);
-                Clock { phase: q, store: s }
-            }
-            Phase::Taking {
-                command,
-                count,
-                bits,
-            } => self.take(command, count, bits, b),
+            Phase::Listening { bytes, count, bits } => self.take(bytes, count, bits, b),
             _ => self,
         }
     }
 
     fn fall(self) -> Clock
         requires { ⌜ counts (self .phase) ≡ true ⌝ }
-        ensures { λ r. ⌜ r ≡ afterEdge 20 self Edge.Fall ⌝ }
+        ensures { λ r. ⌜ r ≡ afterEdge self Edge.Fall ⌝ }
     {
         let p = self.phase;
         match p {
@@ -90,8 +120,8 @@ impl Clock {
 
     // The levels before an item and after it.
     pub fn step(self, before: Wires, after: Wires) -> Clock
-        requires { ⌜ acceptedPhase 20 (self .phase) (before .enable) ≡ true ⌝ }
-        ensures { λ r. ⌜ r ≡ stepWires 20 self before after ⌝ }
+        requires { ⌜ acceptedPhase (self .store .chip) (self .phase) (before .enable) ≡ true ⌝ }
+        ensures { λ r. ⌜ r ≡ stepWires self before after ⌝ }
     {
         match clock_phase::edge_between(before, after) {
             Edge::Up => {
@@ -104,7 +134,11 @@ impl Clock {
             Edge::Starts => {
                 let s = self.store;
                 Clock {
-                    phase: Phase::Listening { count: 0, bits: 0 },
+                    phase: Phase::Listening {
+                        bytes: Bytes::Nothing,
+                        count: 0,
+                        bits: 0,
+                    },
                     store: s,
                 }
             }

@@ -6,6 +6,8 @@ ghost use Rattle.clock_spec.specs.Shared.{advance, stops};
 ghost use Rattle.clock.specs.Step.{stepWires};
 ghost use Rattle.clock_parts.specs.Parts.{wholeClock, corePhase, coreSeconds, FitsPhase};
 use clock::Clock;
+use clock_spec::Bytes;
+use clock_spec::Chip;
 use clock_spec::Edge;
 use clock_spec::Phase;
 use clock_spec::Store;
@@ -14,6 +16,7 @@ use clock_spec::Wires;
 // The clock but for its cells.
 pub struct Core {
     pub phase: Phase,
+    pub chip: Chip,
     pub seconds: u32,
     pub protect: bool,
     pub test: u8,
@@ -24,15 +27,17 @@ pub fn core_of(c: Clock) -> Core
 {
     let p = c.phase;
     let s = c.store;
+    let chip = s.chip;
     Core {
         phase: p,
+        chip: chip,
         seconds: s.seconds,
         protect: s.protect,
         test: s.test,
     }
 }
 
-pub fn cells_of(c: Clock) -> [u8; 20]
+pub fn cells_of(c: Clock) -> [u8; 256]
     ensures { λ r. ⌜ r ≡ c .store .cells ⌝ }
 {
     let s = c.store;
@@ -40,11 +45,13 @@ pub fn cells_of(c: Clock) -> [u8; 20]
 }
 
 // The clock put together.
-pub fn whole_clock(k: Core, cells: [u8; 20]) -> Clock
+pub fn whole_clock(k: Core, cells: [u8; 256]) -> Clock
     ensures { λ r. ⌜ r ≡ wholeClock k cells ⌝ }
 {
     let p = k.phase;
+    let chip = k.chip;
     let s = Store {
+        chip: chip,
         cells: cells,
         seconds: k.seconds,
         protect: k.protect,
@@ -69,8 +76,10 @@ pub fn add_seconds(mut k: Core, seconds: u32) -> Core
 pub fn idle(k: Core) -> Core
     ensures { λ r. ⌜ r ≡ corePhase k Phase.Idle ⌝ }
 {
+    let chip = k.chip;
     Core {
         phase: Phase::Idle,
+        chip: chip,
         seconds: k.seconds,
         protect: k.protect,
         test: k.test,
@@ -80,7 +89,7 @@ pub fn idle(k: Core) -> Core
 // What an edge makes of a phase.
 enum PhaseAfter {
     Known(Phase),
-    // The eighth bit of a command or of a data byte: the store is read or written.
+    // The last bit of a byte: the store may be read or written.
     ByStore,
 }
 
@@ -90,27 +99,13 @@ fn phase_after_rise(p: Phase, b: bool) -> PhaseAfter
     ensures { λ r. ⌜ FitsPhase p (Edge.Rise b) r ⌝ }
 {
     match p {
-        Phase::Listening { count, bits } => {
+        Phase::Listening { bytes, count, bits } => {
             if count == 7 {
                 return PhaseAfter::ByStore;
             }
             let v = clock_phase::pushed(bits, b);
             PhaseAfter::Known(Phase::Listening {
-                count: count + 1,
-                bits: v,
-            })
-        }
-        Phase::Taking {
-            command,
-            count,
-            bits,
-        } => {
-            if count == 7 {
-                return PhaseAfter::ByStore;
-            }
-            let v = clock_phase::pushed(bits, b);
-            PhaseAfter::Known(Phase::Taking {
-                command: command,
+                bytes: bytes,
                 count: count + 1,
                 bits: v,
             })
@@ -136,22 +131,28 @@ fn phase_after(p: Phase, e: Edge) -> PhaseAfter
 {
     match e {
         Edge::Up => PhaseAfter::Known(Phase::Idle),
-        Edge::Starts => PhaseAfter::Known(Phase::Listening { count: 0, bits: 0 }),
+        Edge::Starts => PhaseAfter::Known(Phase::Listening {
+            bytes: Bytes::Nothing,
+            count: 0,
+            bits: 0,
+        }),
         Edge::Still => PhaseAfter::Known(p),
         Edge::Fall => phase_after_fall(p),
         Edge::Rise(b) => phase_after_rise(p, b),
     }
 }
 
-// The clock's step by the levels before an item and after it. The cells are touched at the eighth bit of a command or of a data byte alone.
-pub fn step(k: Core, before: Wires, after: Wires, cells: &mut [u8; 20]) -> Core
-    requires { ⌜ acceptedPhase 20 (k .phase) (before .enable) ≡ true ⌝ }
-    ensures { λ r. ⌜ wholeClock r (now (cells .exit)) ≡ stepWires 20 (wholeClock k (now (cells .entry))) before after ⌝ }
+// The clock's step by the levels before an item and after it. The cells are touched at the last bit of a byte alone.
+pub fn step(k: Core, before: Wires, after: Wires, cells: &mut [u8; 256]) -> Core
+    requires { ⌜ acceptedPhase (k .chip) (k .phase) (before .enable) ≡ true ⌝ }
+    ensures { λ r. ⌜ wholeClock r (now (cells .exit)) ≡ stepWires (wholeClock k (now (cells .entry))) before after ⌝ }
 {
     let p = k.phase;
+    let chip = k.chip;
     match phase_after(p, clock_phase::edge_between(before, after)) {
         PhaseAfter::Known(q) => Core {
             phase: q,
+            chip: chip,
             seconds: k.seconds,
             protect: k.protect,
             test: k.test,

@@ -1,14 +1,14 @@
 // The phase of a transaction: the edges of the three wires, bits taken and sent, the bit shown, the phases accepted.
 ghost use mathlib.Core.Path.{_≡_};
-ghost use mathlib.Core.Bool.{true};
 ghost use Prim.Native.Nat.{_<_, _+_, _*_};
-ghost use Rattle.clock_spec.specs.Command.{bitNumber, decode, isWrite};
-ghost use Rattle.clock_spec.specs.Phase.{between, commandPhase, fallPhase, commandBitPhase, fewBits, shownLevel, acceptedPhase};
+ghost use Rattle.clock_spec.specs.Command.{bitNumber};
+ghost use Rattle.clock_spec.specs.Phase.{between, withByte, fallPhase, fewBits, isMore, moreFollows, shownLevel, acceptedPhase};
 ghost use Rattle.clock_spec.specs.declared.Phase.{Phase};
-use clock_spec::Command;
+use clock_spec::Bytes;
+use clock_spec::Chip;
 use clock_spec::Edge;
 use clock_spec::Phase;
-use clock_spec::Store;
+use clock_spec::Verdict;
 use clock_spec::Wires;
 
 // What the wires do between two items.
@@ -41,36 +41,14 @@ pub fn pushed(v: u8, b: bool) -> u8
     if b { 2 * v + 1 } else { 2 * v }
 }
 
-// What the chip does with the command byte at the eighth rise.
-fn judged_by(s: Store, c: u8) -> Phase
-    ensures { λ r. ⌜ r ≡ commandPhase s c (decode 20 c) ⌝ }
+// One byte more, where another follows it.
+pub fn with_byte(bytes: Bytes, b: u8) -> Bytes
+    ensures { λ r. ⌜ r ≡ withByte bytes b ⌝ }
 {
-    match clock_command::decoded(20, c) {
-        Command::Write(_) => Phase::Taking {
-            command: c,
-            count: 0,
-            bits: 0,
-        },
-        Command::Read(t) => {
-            let y = clock_store::fetch(s, t);
-            Phase::Sending { byte: y, falls: 0 }
-        }
-        Command::Illegal => Phase::Ignoring,
-    }
-}
-
-// A rise while command bits are taken.
-pub fn heard(s: Store, n: u8, v: u8, b: bool) -> Phase
-    requires { ⌜ fewBits n v ≡ true ⌝ }
-    ensures { λ r. ⌜ r ≡ commandBitPhase 20 s n (2 * v + bitNumber b) ⌝ }
-{
-    let w = pushed(v, b);
-    if n == 7 {
-        return judged_by(s, w);
-    }
-    Phase::Listening {
-        count: n + 1,
-        bits: w,
+    match bytes {
+        Bytes::Nothing => Bytes::One(b),
+        Bytes::One(c) => Bytes::Two(c, b),
+        Bytes::Two(c, d) => Bytes::Two(c, d),
     }
 }
 
@@ -111,14 +89,26 @@ pub fn shown_line(p: Phase) -> bool
     }
 }
 
-// Whether a command is a legal write.
-fn is_write(c: Command) -> bool
-    ensures { λ r. ⌜ r ≡ isWrite c ⌝ }
+// Whether another byte follows.
+fn is_more(v: Verdict) -> bool
+    ensures { λ r. ⌜ r ≡ isMore v ⌝ }
 {
-    match c {
-        Command::Write(_) => true,
-        Command::Read(_) => false,
-        Command::Illegal => false,
+    match v {
+        Verdict::More => true,
+        Verdict::Reads(_) => false,
+        Verdict::Writes(_) => false,
+        Verdict::Ignored => false,
+    }
+}
+
+// Whether another byte follows these.
+fn more_follows(chip: Chip, bytes: Bytes) -> bool
+    ensures { λ r. ⌜ r ≡ moreFollows chip bytes ⌝ }
+{
+    match bytes {
+        Bytes::Nothing => true,
+        Bytes::One(c) => is_more(clock_command::hear(chip, Bytes::Nothing, c)),
+        Bytes::Two(c, d) => is_more(clock_command::hear(chip, Bytes::One(c), d)),
     }
 }
 
@@ -133,17 +123,14 @@ fn few_bits(n: u8, v: u8) -> bool
 }
 
 // Whether the chip can be in this phase while enable has this level.
-pub fn accepted_phase(p: Phase, enable: bool) -> bool
-    ensures { λ r. ⌜ r ≡ acceptedPhase 20 p enable ⌝ }
+pub fn accepted_phase(chip: Chip, p: Phase, enable: bool) -> bool
+    ensures { λ r. ⌜ r ≡ acceptedPhase chip p enable ⌝ }
 {
     match p {
         Phase::Idle => enable,
-        Phase::Listening { count, bits } => !enable & few_bits(count, bits),
-        Phase::Taking {
-            command,
-            count,
-            bits,
-        } => !enable & (is_write(clock_command::decoded(20, command)) & few_bits(count, bits)),
+        Phase::Listening { bytes, count, bits } => {
+            !enable & (more_follows(chip, bytes) & few_bits(count, bits))
+        }
         Phase::Sending { byte: _, falls } => !enable & (falls < 9),
         Phase::Ignoring => !enable,
     }

@@ -2,6 +2,5 @@ pub mod CommandRange
 pub mod Commands
 pub mod Places
 pub mod Stopped
-pub mod Unwritten
 pub mod PhaseRange
 pub mod Undriven

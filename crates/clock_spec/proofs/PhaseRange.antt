@@ -8,10 +8,10 @@ use native.Mathlib.Nat.{div-eq-of-lt, lt-mul-div-succ}
 use lib.Pow.{pow-pos}
 use borrow.Author.Tests.{ltb-true, ltb-false, eq-eqb, ne-eqb}
 use Rattle.levels.proofs.Laws.{both}
-use Rattle.clock_spec.specs.Command.{decode, isWrite}
-use Rattle.clock_spec.specs.Phase.{fewBits, acceptedPhase, counts}
+use Rattle.clock_spec.specs.Phase.{fewBits, moreFollows, acceptedPhase, counts}
+use Rattle.clock_spec.specs.declared.Chip.{Chip}
 use Rattle.clock_spec.specs.declared.Phase.{Phase}
-use Rattle.clock_spec.specs.declared.Phase.the-variants.{Idle, Listening, Taking, Sending, Ignoring}
+use Rattle.clock_spec.specs.declared.Phase.the-variants.{Idle, Listening, Sending, Ignoring}
 
 -- Seven bits at most are below 128.
 small : (n v : ℕ) → n < 8 → v < 2 ^ n → v < 128
@@ -43,11 +43,10 @@ below-shift n v = go (ltb v (2 ^ n)) refl
     go false h = ne-eqb (v / 2 ^ n) 0 (λ z. omega (arith, lt-mul-div-succ v (pow-pos n), ap (λ (q : ℕ). 2 ^ n * (q + 1)) z, ltb-false v (2 ^ n) h))
 
 -- An accepted phase has its counts in range.
-pub accepted-counts : (N : ℕ) (p : Phase) (e : Bool) → acceptedPhase N p e ≡ true → counts p ≡ true
+pub accepted-counts : (k : Chip) (p : Phase) (e : Bool) → acceptedPhase k p e ≡ true → counts p ≡ true
 unfolding acceptedPhase
-accepted-counts N Idle e h = refl
-accepted-counts N (Listening n v) e h = both (not e) (fewBits n v) h .1
-accepted-counts N (Taking c n v) e h =
-    both (isWrite (decode N c)) (fewBits n v) (both (not e) (isWrite (decode N c) && fewBits n v) h .1) .1
-accepted-counts N (Sending y n) e h = both (not e) (ltb n 9) h .1
-accepted-counts N Ignoring e h = refl
+accepted-counts k Idle e h = refl
+accepted-counts k (Listening bs n v) e h =
+    both (moreFollows k bs) (fewBits n v) (both (not e) (moreFollows k bs && fewBits n v) h .1) .1
+accepted-counts k (Sending y n) e h = both (not e) (ltb n 9) h .1
+accepted-counts k Ignoring e h = refl

@@ -8,15 +8,14 @@ use denote.Enum.Declared.{tagOf}
 use Rattle.clock_spec.proofs.Phase.{the-type}
 use Rattle.clock_spec.specs.Phase.{shownLevel}
 use Rattle.clock_spec.specs.declared.Phase.{Phase}
-use Rattle.clock_spec.specs.declared.Phase.the-variants.{Idle, Listening, Taking, Sending, Ignoring}
+use Rattle.clock_spec.specs.declared.Phase.the-variants.{Idle, Listening, Sending, Ignoring}
 
 abbrev not-sending : List ℕ
-not-sending = 0 ∷ 1 ∷ 2 ∷ 4 ∷ []
+not-sending = 0 ∷ 1 ∷ 3 ∷ []
 
 pub undriven : (p : Phase) → OneOf not-sending (tagOf the-type p) → true ≡ shownLevel p
 unfolding shownLevel
 undriven Idle h = refl
-undriven (Listening n v) h = refl
-undriven (Taking k n v) h = refl
-undriven (Sending y n) h = absurd (miss not-sending 3 tt h)
+undriven (Listening bs n v) h = refl
+undriven (Sending y n) h = absurd (miss not-sending 2 tt h)
 undriven Ignoring h = refl

@@ -6,7 +6,7 @@ use Prim.Native.Nat.{ℕ, _+_, _%_, _^_}
 use lib.Dec.{leb}
 use Rattle.clock_spec.specs.declared.Target.{Target}
 use Rattle.clock_spec.specs.declared.Command.{Command}
-use Rattle.clock_spec.specs.declared.Command.the-variants.{Write, Read, Illegal}
+use Rattle.clock_spec.specs.declared.Command.the-variants.{Write, Read, Extended, Illegal}
 
 -- What an item does to the chip beside the wires: nothing, a second tick (SE), or a power cut with its seconds off (PW).
 pub data Event : Type 0 where
@@ -41,6 +41,7 @@ pub record Written : Type 0 where
 abbrev pub writeBy : Command → ℕ → Option Written
 writeBy (Write t) b = some (record { to = t; byte = b })
 writeBy (Read t) b = none
+writeBy (Extended z a) b = none
 writeBy Illegal b = none
 
 -- Bit 7 of a byte.

@@ -1,12 +1,15 @@
--- The clock chip's store, and what reads, writes and events do to it, by document 01, "The clock's wires".
-use mathlib.Core.Bool.{Bool, cond}
+-- The clock chip's store, and what reads, writes and events do to it, by document 01, "The clock's wires", and W-206.
+use mathlib.Core.Bool.{Bool, false, cond}
 use mathlib.Core.List.{List}
 use mathlib.Core.Option.{Option, none, some}
 use Prim.Native.Nat.{ℕ, _/_, _%_, _^_}
-use lib.ListN.{getD, set}
+use lib.ListN.{getD, set, drop, replicate}
 use Rattle.clock_spec.specs.Writable.{writable}
 use Rattle.clock_spec.specs.declared.Target.{Target}
 use Rattle.clock_spec.specs.declared.Target.the-variants.{Seconds, Test, Protect, Cell}
+use Rattle.clock_spec.specs.declared.Chip.{Chip}
+use Rattle.clock_spec.specs.Command.{cellsOf}
+use Rattle.levels.specs.Levels.{allBelow}
 use Rattle.octets.specs.Octets.{replace}
 use Rattle.clock_spec.specs.Shared.{Event, stops, elapse, Written, bit7}
 use Rattle.clock_spec.specs.declared.Store.{Store}
@@ -14,16 +17,26 @@ use Rattle.clock_spec.specs.declared.Store.{Store}
 -- ---- the state, field by field
 
 abbrev pub withCells : Store → List ℕ → Store
-withCells s x = record { cells = x; seconds = s .seconds; protect = s .protect; test = s .test }
+withCells s x = record { chip = s .chip; cells = x; seconds = s .seconds; protect = s .protect; test = s .test }
 
 abbrev pub withSeconds : Store → ℕ → Store
-withSeconds s x = record { cells = s .cells; seconds = x; protect = s .protect; test = s .test }
+withSeconds s x = record { chip = s .chip; cells = s .cells; seconds = x; protect = s .protect; test = s .test }
 
 abbrev pub withProtect : Store → Bool → Store
-withProtect s x = record { cells = s .cells; seconds = s .seconds; protect = x; test = s .test }
+withProtect s x = record { chip = s .chip; cells = s .cells; seconds = s .seconds; protect = x; test = s .test }
 
 abbrev pub withTest : Store → ℕ → Store
-withTest s x = record { cells = s .cells; seconds = s .seconds; protect = s .protect; test = x }
+withTest s x = record { chip = s .chip; cells = s .cells; seconds = s .seconds; protect = s .protect; test = x }
+
+-- ---- fresh, and accepted
+
+-- "All 256 cells are empty when the machine is fresh, each holding 0"; seconds, protect and test are 0 too.
+abbrev pub freshStore : Chip → Store
+freshStore k = record { chip = k; cells = replicate 256 0; seconds = 0; protect = false; test = 0 }
+
+-- "Room not in use holds 0": the cells past those that the chip has.
+unfoldable pub unusedClear : Store → Bool
+unusedClear s = allBelow 1 (drop (cellsOf (s .chip)) (s .cells))
 
 -- ---- reads and writes
 

@@ -3,16 +3,18 @@ use mathlib.Core.Path.{_≡_, refl}
 use mathlib.Core.List.{List, [], _∷_, _++_}
 use Prim.Native.Nat.{ℕ, zero, suc, _+_, _-_, _*_, _/_, _%_, _^_}
 use lib.ListN.{getD}
-use Rattle.levels.specs.Levels.{allLevels}
+use Rattle.levels.specs.Levels.{allBelow}
 use Rattle.octets.specs.Octets.{le16Of, le32Of}
 use Rattle.item_spec.specs.Record.{frameOf}
 use Rattle.via.specs.Via.{freshVia, ticks, acceptedVia}
 use Rattle.via.specs.Writes.{viaWritten, portsWritten}
-use Rattle.clock_spec.specs.Command.{named, decode}
+use Rattle.clock_spec.specs.Patterns.{meant, secondMeant}
 use Rattle.octets.specs.Octets.{replace}
-use Rattle.clock_spec.specs.Store.{fetch, put, act}
-use Rattle.clock_spec.specs.Phase.{between, shownLevel, acceptedPhase}
+use Rattle.clock_spec.specs.Store.{unusedClear, fetch, put, act}
+use Rattle.clock_spec.specs.Phase.{between, hear, shownLevel, acceptedPhase}
 use Rattle.clock.specs.Step.{next, acts, stepWires}
+use Rattle.clock_spec.specs.declared.Chip.{Chip}
+use Rattle.clock_spec.specs.declared.Chip.the-variants.{First, Later}
 use Rattle.clock_spec.specs.declared.Target.the-variants.{Cell}
 use Rattle.disk_lines.specs.Lines.{linesOff}
 use Rattle.disk_spec.specs.Sense.{acceptedDrive}
@@ -76,14 +78,21 @@ cutShort = down ++ bits 8 0x41 ++ bits 4 0xA ++ off5 ++ down ++ bits 4 0xA ++ up
 abbrev plenty : ℕ
 plenty = 1600
 
-abbrev ran : List ℕ → ℕ → Machine
-ran l room = runOf freshMachine l room .machine
+abbrev ran : Chip → List ℕ → ℕ → Machine
+ran k l room = runOf (freshMachine k) l room .machine
 
-abbrev told : List ℕ → ℕ → History
-told l room = historyOfPieces freshMachine (answeredPieces l room)
+abbrev told : Chip → List ℕ → ℕ → History
+told k l room = historyOfPieces (freshMachine k) (answeredPieces l room)
+
+abbrev Cell-is : Chip → ℕ → List ℕ → ℕ → ℕ → Type 0
+Cell-is k i l room b = (getD (ran k l room .clock .store .cells) i 0 ≡ b) × (last (freshStart k) (Cell i) 0 (told k l room) ≡ b)
 
 abbrev Cell-0-is : List ℕ → ℕ → ℕ → Type 0
-Cell-0-is l room b = (getD (ran l room .clock .store .cells) 0 0 ≡ b) × (last 20 (freshStart 20) (Cell 0) 0 (told l room) ≡ b)
+Cell-0-is l room b = Cell-is First 0 l room b
+
+-- Two command bytes, and the high n bits of a byte to them.
+abbrev long : ℕ → ℕ → ℕ → ℕ → List ℕ
+long n c d b = down ++ bits 8 c ++ bits 8 d ++ bits n (b / 2 ^ (8 - n)) ++ up
 
 -- Every edge is made by the direction register. The sixteenth rise of `send` is its 48th record.
 pub record RunExamples : Type 0 where
@@ -93,14 +102,17 @@ pub record RunExamples : Type 0 where
   pub clearedAgain : Cell-0-is (send 0x35 0x80 ++ send 0x35 0x7F ++ send 0x41 0xAA) plenty 0xAA
   pub halfSent : Cell-0-is (send 0x41 0xAA ++ part 4 0x41 0x55) plenty 0xAA
   pub powerCut : Cell-0-is cutShort plenty 0
-  pub powerCutSeconds : (ran cutShort plenty .clock .store .seconds ≡ 5) × (secondsAt 20 (freshStart 20) (told cutShort plenty) ≡ 5)
+  pub powerCutSeconds : (ran First cutShort plenty .clock .store .seconds ≡ 5) × (secondsAt (freshStart First) (told First cutShort plenty) ≡ 5)
   pub roomForTheRise : Cell-0-is (send 0x41 0xAA) (8 * 48) 0xAA
   pub noRoomForIt : Cell-0-is (send 0x41 0xAA) (8 * 48 - 1) 0
+  -- W-206: at the 24th rise and not at the 23rd.
+  pub rise24 : Cell-is Later 0xFF (long 8 0x3F 0x7C 0xAA) plenty 0xAA
+  pub rise23 : Cell-is Later 0xFF (long 7 0x3F 0x7C 0xAA) plenty 0
 
 pub runExamples : RunExamples
 unfolding runOf runPieces onPiece onto piecesFrom cut turnOf frameOf le16Of le32Of decodedOf isKind writeRecord powerRecord foundOf placeFrom
-    stepOf itemWait eventOf actedOf refusesOf acceptedOf acceptedDrives acceptedDrive acceptedStrobe allLevels linesOff acceptedVia freshVia ticks viaWritten portsWritten wiresOf
-    acceptedPhase shownLevel stepWires between next acts act put decode named fetch replace
+    stepOf itemWait eventOf actedOf refusesOf acceptedOf acceptedDrives acceptedDrive acceptedStrobe allBelow linesOff acceptedVia freshVia ticks viaWritten portsWritten wiresOf
+    acceptedPhase shownLevel stepWires between next acts hear act put meant secondMeant unusedClear fetch replace
     answeredAfter stateAfter historyOf wiresAt rises endingAt protectAt endingClear last secondsAt
 runExamples = record {
   write = (refl, refl);
@@ -112,4 +124,6 @@ runExamples = record {
   powerCutSeconds = (refl, refl);
   roomForTheRise = (refl, refl);
   noRoomForIt = (refl, refl);
+  rise24 = (refl, refl);
+  rise23 = (refl, refl);
 }

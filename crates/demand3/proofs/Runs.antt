@@ -1,12 +1,12 @@
 -- The machine drives its clock as the history's entries do; so demand 3 holds of every run, from every accepted machine and from the fresh one.
-use mathlib.Core.Path.{_≡_, refl, sym, ap, _∙_}
-use mathlib.Core.Bool.{Bool, true, false, cond}
+use mathlib.Core.Path.{_≡_, refl, sym, ap, subst, _∙_}
+use mathlib.Core.Bool.{Bool, true, false, cond, _&&_}
 use mathlib.Core.List.{List, [], _∷_}
 use Prim.Native.Nat.{ℕ, _-_, _^_, _<_}
 use native.Mathlib.Omega.{arith}
 use lib.Dec.{ltb, eqb}
 use lib.ListN.{length, getD}
-use Rattle.levels.specs.Levels.{allLevels}
+use Rattle.levels.specs.Levels.{allBelow}
 use Rattle.via.specs.declared.Ports.{Ports}
 use Rattle.via.specs.Via.{freshVia, acceptedVia}
 use Rattle.disk_lines.specs.Lines.{linesOff}
@@ -15,6 +15,8 @@ use Rattle.clock_spec.specs.Store.{withEvent}
 use Rattle.clock_spec.specs.Phase.{shownLevel, acceptedPhase}
 use Rattle.clock.specs.Step.{withStore, stepWires, stepClock}
 use Rattle.clock.proofs.Line.{settled-step}
+use Rattle.clock_spec.proofs.Places.{fresh-unused}
+use Rattle.clock_spec.specs.declared.Chip.{Chip}
 use Rattle.clock_spec.specs.declared.Wires.{Wires}
 use Rattle.clock.specs.declared.Clock.{Clock}
 use Rattle.disk_spec.specs.Sense.{acceptedDrive}
@@ -27,7 +29,7 @@ use Rattle.item_spec.specs.declared.Decoded.the-variants.{Done, Refused}
 use Rattle.item_spec.specs.Kinds.{decodedOf}
 use Rattle.machine_spec.specs.declared.Machine.{Machine}
 use Rattle.machine_spec.specs.Pins.{pin, wiresOf}
-use Rattle.machine_spec.specs.Machine.{cellCount, wires, acceptedOf, freshMachine}
+use Rattle.machine_spec.specs.Machine.{wires, acceptedOf, freshMachine}
 use Rattle.machine_spec.specs.Accesses.{viaRead, iwmRead}
 use Rattle.machine_spec.specs.Action.{eventOf, actedOf}
 use Rattle.machine_spec.specs.Stages.{itemWait, afterWait, refusesOf}
@@ -38,9 +40,9 @@ use Rattle.run_spec.specs.Turn.{refusedTurn, doneTurn, turnBy, turnOf}
 use Rattle.run_spec.specs.Outcome.{Piece, whole, broken, pieces, halt, onto, onPiece, runPieces, runOf}
 use Rattle.history.specs.History.{wiresAt}
 use Rattle.history.specs.Start.{Accepted, freshStart}
-use Rattle.history.specs.Demand3.{clockAfter}
+use Rattle.history.specs.Demand3.{clockAfter, StoreIs}
 use Rattle.history.specs.Items.{stateAfter, FollowsEntries}
-use Rattle.demand3.specs.Runs.{afterPiece, eventBy, eventAt, traceOf, answeredAfter, answeredPieces, startOfRun, Run3}
+use Rattle.demand3.specs.Runs.{afterPiece, eventBy, eventAt, traceOf, answeredAfter, historyOfPieces, answeredPieces, startOfRun, Run3}
 use Rattle.history.proofs.Keeps.{step-still}
 use Rattle.history.proofs.Driven.{machine3}
 
@@ -63,47 +65,47 @@ acted-clock m (Disk w d i l b) = refl
 
 -- The step by the wires with the data line as it was shown before is the step by the wires as they are after.
 settled-wires : (p : Ports) (c : Clock) (w : Wires)
-    → stepWires cellCount c w (wiresOf p (shownLevel (c .phase))) ≡ stepWires cellCount c w (wiresOf p (shownLevel (stepWires cellCount c w (wiresOf p (shownLevel (c .phase))) .phase)))
+    → stepWires c w (wiresOf p (shownLevel (c .phase))) ≡ stepWires c w (wiresOf p (shownLevel (stepWires c w (wiresOf p (shownLevel (c .phase))) .phase)))
 unfolding wiresOf
-settled-wires p c w = sym (settled-step cellCount c w (wiresOf p true) (pin (p .outb) (p .dirb) 1))
+settled-wires p c w = sym (settled-step c w (wiresOf p true) (pin (p .outb) (p .dirb) 1))
 
 -- An item done is the clock's step by the wires after it.
-done-is : (m : Machine) (i : Item) → stepOf m i .machine .clock ≡ stepClock cellCount (eventOf i) (m .clock) (wires m) (wires (stepOf m i .machine))
+done-is : (m : Machine) (i : Item) → stepOf m i .machine .clock ≡ stepClock (eventOf i) (m .clock) (wires m) (wires (stepOf m i .machine))
 unfolding stepOf
 done-is m i =
     let a : Machine = actedOf (afterWait (itemWait i) m) i .machine in
     settled-wires (a .via .ports) (a .clock) (wires m)
-    ∙ ap (λ (c : Clock). stepWires cellCount c (wires m) (wires (stepOf m i .machine))) (acted-clock (afterWait (itemWait i) m) i)
+    ∙ ap (λ (c : Clock). stepWires c (wires m) (wires (stepOf m i .machine))) (acted-clock (afterWait (itemWait i) m) i)
 
 -- A DI done leaves the whole clock as it is.
-pub disk-still : (m : Machine) (w d i l b : ℕ) → Accepted cellCount (m .clock) (wires m) → stepOf m (Disk w d i l b) .machine .clock ≡ m .clock
+pub disk-still : (m : Machine) (w d i l b : ℕ) → Accepted (m .clock) (wires m) → stepOf m (Disk w d i l b) .machine .clock ≡ m .clock
 unfolding stepOf itemWait actedOf
 disk-still m w d i l b ok =
-    ap (stepWires cellCount (m .clock) (wires m)) (disk-wires m w d i l b) ∙ step-still cellCount (m .clock) (wires m) ok
+    ap (stepWires (m .clock) (wires m)) (disk-wires m w d i l b) ∙ step-still (m .clock) (wires m) ok
 
 -- A refused one leaves all as it is.
-refused-is : (m : Machine) → Accepted cellCount (m .clock) (wires m) → m .clock ≡ stepClock cellCount quiet (m .clock) (wires m) (wires m)
-refused-is m ok = sym (step-still cellCount (m .clock) (wires m) ok)
+refused-is : (m : Machine) → Accepted (m .clock) (wires m) → m .clock ≡ stepClock quiet (m .clock) (wires m) (wires m)
+refused-is m ok = sym (step-still (m .clock) (wires m) ok)
 
-turn-is : (m : Machine) (d : Decoded) → Accepted cellCount (m .clock) (wires m)
-    → turnBy m d .machine .clock ≡ stepClock cellCount (eventBy m d) (m .clock) (wires m) (wires (turnBy m d .machine))
+turn-is : (m : Machine) (d : Decoded) → Accepted (m .clock) (wires m)
+    → turnBy m d .machine .clock ≡ stepClock (eventBy m d) (m .clock) (wires m) (wires (turnBy m d .machine))
 turn-is m (Refused n) ok = refused-is m ok
 turn-is m (Done x) ok = go (eqb (refusesOf m x) 0)
   where
     turn : Bool → Machine
     turn t = cond t (doneTurn (stepOf m x)) (refusedTurn m (refusesOf m x)) .machine
 
-    go : (t : Bool) → turn t .clock ≡ stepClock cellCount (cond t (eventOf x) quiet) (m .clock) (wires m) (wires (turn t))
+    go : (t : Bool) → turn t .clock ≡ stepClock (cond t (eventOf x) quiet) (m .clock) (wires m) (wires (turn t))
     go true = done-is m x
     go false = refused-is m ok
 
-met-is : (p : Piece) (m : Machine) → Accepted cellCount (m .clock) (wires m)
-    → afterPiece p m .clock ≡ stepClock cellCount (eventAt p m) (m .clock) (wires m) (wires (afterPiece p m))
+met-is : (p : Piece) (m : Machine) → Accepted (m .clock) (wires m)
+    → afterPiece p m .clock ≡ stepClock (eventAt p m) (m .clock) (wires m) (wires (afterPiece p m))
 unfolding turnOf
 met-is (whole s) m ok = turn-is m (decodedOf s) ok
 met-is broken m ok = refused-is m ok
 
-pub drives : FollowsEntries cellCount (λ (m : Machine). m .clock) wires afterPiece traceOf
+pub drives : FollowsEntries (λ (m : Machine). m .clock) wires afterPiece traceOf
 unfolding clockAfter wiresAt
 drives = record { clock-is = met-is; wires-are = λ p m ok. refl }
 
@@ -138,31 +140,29 @@ ran-is m a list room = ap (λ (t : Bool). cond t (runPieces m (pieces list) room
 
 -- ---- demand 3
 
-pub accepted-clock : (m : Machine) → acceptedOf m ≡ true → length (m .clock .store .cells) ≡ cellCount → m .clock .store .seconds < 2 ^ 32
-    → Accepted cellCount (m .clock) (wires m)
-accepted-clock m a l u = record { phase = parts m a .phase; cells = l; seconds = u }
+pub accepted-clock : (m : Machine) → acceptedOf m ≡ true → length (m .clock .store .cells) ≡ 256 → m .clock .store .seconds < 2 ^ 32
+    → Accepted (m .clock) (wires m)
+accepted-clock m a l u = record { phase = parts m a .phase; cells = l; unused = parts m a .unused; seconds = u }
 
-pub run3 : (m : Machine) → acceptedOf m ≡ true → Accepted cellCount (m .clock) (wires m) → (list : List ℕ) (room : ℕ) → Run3 m list room (runOf m list room .machine)
+pub run3 : (m : Machine) → acceptedOf m ≡ true → Accepted (m .clock) (wires m) → (list : List ℕ) (room : ℕ) → Run3 m list room (runOf m list room .machine)
 run3 m a ok list room =
     let is : List Piece = answeredPieces list room in
     let r = ran-is m a list room in
-    let d = machine3 cellCount (λ (m : Machine). m .clock) wires afterPiece traceOf drives m ok in
+    let d = machine3 (λ (m : Machine). m .clock) wires afterPiece traceOf drives m ok in
     record {
-      cells = λ i l. ap (λ (x : Machine). getD (x .clock .store .cells) i 0) r ∙ d is .cells i l;
-      seconds = ap (λ (x : Machine). x .clock .store .seconds) r ∙ d is .seconds;
-      protect = ap (λ (x : Machine). x .clock .store .protect) r ∙ d is .protect;
-      test = ap (λ (x : Machine). x .clock .store .test) r ∙ d is .test;
+      reached = r;
+      store = subst (λ (x : Machine). StoreIs (startOfRun m) (historyOfPieces m is) (x .clock .store)) (sym r) (d is .store);
       underProtect = λ is js ls q p k. d is .underProtect js p k;
     }
 
 -- The fresh machine, and what its history starts from: cells, seconds, protect and test 0, wires 1, no stretch open.
-pub start-fresh : startOfRun freshMachine ≡ freshStart cellCount
+pub start-fresh : (k : Chip) → startOfRun (freshMachine k) ≡ freshStart k
 unfolding freshVia wiresOf shownLevel
-start-fresh = refl
+start-fresh k = refl
 
-pub fresh-ok : acceptedOf freshMachine ≡ true
-unfolding acceptedOf freshVia linesOff acceptedVia allLevels acceptedPhase wiresOf shownLevel acceptedDrive acceptedStrobe acceptedDrives
-fresh-ok = refl
+pub fresh-ok : (k : Chip) → acceptedOf (freshMachine k) ≡ true
+unfolding acceptedOf freshVia linesOff acceptedVia allBelow acceptedPhase wiresOf shownLevel acceptedDrive acceptedStrobe acceptedDrives
+fresh-ok k = ap (λ (u : Bool). u && true) (fresh-unused k)
 
-pub run3-fresh : (list : List ℕ) (room : ℕ) → Run3 freshMachine list room (runOf freshMachine list room .machine)
-run3-fresh list room = run3 freshMachine fresh-ok (accepted-clock freshMachine fresh-ok refl (omega arith)) list room
+pub run3-fresh : (k : Chip) (list : List ℕ) (room : ℕ) → Run3 (freshMachine k) list room (runOf (freshMachine k) list room .machine)
+run3-fresh k list room = run3 (freshMachine k) (fresh-ok k) (accepted-clock (freshMachine k) (fresh-ok k) refl (omega arith)) list room

@@ -1,23 +1,23 @@
 -- Demand 3 of a run over a list of bytes: "every list of bytes, every answer room".
 use mathlib.Core.Path.{_≡_}
-use mathlib.Core.Bool.{true, cond}
+use mathlib.Core.Bool.{cond}
 use mathlib.Core.List.{List, [], _∷_, _++_}
-use Prim.Native.Nat.{ℕ, _+_, _-_, _<_}
+use Prim.Native.Nat.{ℕ, _-_}
 use lib.Dec.{ltb, eqb}
-use lib.ListN.{getD}
-use Rattle.clock_spec.specs.Shared.{Event, quiet, wrap}
+use Rattle.clock_spec.specs.Shared.{Event, quiet}
 use Rattle.clock.specs.declared.Clock.{Clock}
 use Rattle.item_spec.specs.declared.Decoded.{Decoded}
 use Rattle.item_spec.specs.declared.Decoded.the-variants.{Done, Refused}
 use Rattle.item_spec.specs.Kinds.{decodedOf}
 use Rattle.machine_spec.specs.declared.Machine.{Machine}
-use Rattle.machine_spec.specs.Machine.{cellCount, wires}
+use Rattle.machine_spec.specs.Machine.{wires}
 use Rattle.machine_spec.specs.Action.{eventOf}
 use Rattle.machine_spec.specs.Stages.{refusesOf}
 use Rattle.run_spec.specs.Turn.{turnOf}
 use Rattle.run_spec.specs.Outcome.{Piece, whole, broken, pieces}
-use Rattle.history.specs.History.{Start, Entry, History, cellAt, testAt, protectAt, secondsAt, gainSince, Kept}
+use Rattle.history.specs.History.{Start, Entry, History}
 use Rattle.history.specs.Start.{startOf}
+use Rattle.history.specs.Demand3.{StoreIs, UnderProtect}
 use Rattle.history.specs.Items.{stateAfter, historyOf, entriesSince}
 
 -- The state after one piece of the list: a record, done or refused; bytes that are no record, refused with 1, which leave it as it is.
@@ -63,12 +63,9 @@ startOfRun m = startOf (m .clock) (wires m)
 
 -- Demand 3 of a run of the list from the machine m, with so much room, that hands back the machine r.
 pub record Run3 (m : Machine) (list : List ℕ) (room : ℕ) (r : Machine) : Type 0 where
-  pub cells : (i : ℕ) → i < cellCount → getD (r .clock .store .cells) i 0 ≡ cellAt cellCount (startOfRun m) i (historyOfPieces m (answeredPieces list room))
-  pub seconds : r .clock .store .seconds ≡ secondsAt cellCount (startOfRun m) (historyOfPieces m (answeredPieces list room))
-  pub protect : r .clock .store .protect ≡ protectAt cellCount (startOfRun m) (historyOfPieces m (answeredPieces list room))
-  pub test : r .clock .store .test ≡ testAt cellCount (startOfRun m) (historyOfPieces m (answeredPieces list room))
+  -- What is handed back is the state after the pieces answered.
+  pub reached : r ≡ stateAfter afterPiece m (answeredPieces list room)
+  pub store : StoreIs (startOfRun m) (historyOfPieces m (answeredPieces list room)) (r .clock .store)
   -- "From the start or an item", after the items is, "up to any later item", after js too; ls are those after it.
-  pub underProtect : (is js ls : List Piece) → ls ++ (js ++ is) ≡ answeredPieces list room → clockAfterPieces m is .store .protect ≡ true
-      → Kept cellCount (startOfRun m) (historyOfPieces m is) (entriesOfPieces m is js)
-      → (clockAfterPieces m (js ++ is) .store .cells ≡ clockAfterPieces m is .store .cells)
-      × (clockAfterPieces m (js ++ is) .store .seconds ≡ wrap (clockAfterPieces m is .store .seconds + gainSince cellCount (startOfRun m) (historyOfPieces m is) (entriesOfPieces m is js)))
+  pub underProtect : (is js ls : List Piece) → ls ++ (js ++ is) ≡ answeredPieces list room
+      → UnderProtect (startOfRun m) (historyOfPieces m is) (entriesOfPieces m is js) (clockAfterPieces m is .store) (clockAfterPieces m (js ++ is) .store)

@@ -7,7 +7,6 @@ use native.Mathlib.Omega.{arith}
 use lib.ListN.{length, take, drop, length-append, length-drop}
 use lib.Seq.{take-at, drop-at}
 use lib.Dec.{ltb}
-use borrow.Author.Tests.{ne-eqb}
 use Rattle.levels.proofs.Laws.{no}
 use Rattle.machine_spec.specs.declared.Machine.{Machine}
 use Rattle.machine_spec.specs.Machine.{acceptedOf}
@@ -15,6 +14,7 @@ use Rattle.run_spec.specs.Turn.{turnOf}
 use Rattle.run_spec.specs.Outcome.{Piece, whole, broken, pieces, Out, halt, onto, onPiece, runPieces, runOf, over}
 use Rattle.run_spec.proofs.Users.{accepted-kept, answers-fit}
 use Rattle.image_spec.specs.Image.{imageLength, imageOf, machineOf, validImage, Typed}
+use Rattle.image_spec.specs.Layout.{chipOf}
 use Rattle.image_spec.proofs.Round.{valid-is, image-typed, saved-valid, restore-saved}
 use Rattle.demand3.specs.Runs.{Run3}
 use Rattle.demand3.proofs.Runs.{run3, accepted-clock}
@@ -40,7 +40,7 @@ has-valid i m h = sym (ap validImage (h .image)) ∙ saved-valid m (h .typed) (h
 
 -- "Save then restore must give the same state."
 pub has-state : (i : List ℕ) (m : Machine) → Has i m → machineOf i ≡ m
-has-state i m h = sym (ap machineOf (h .image)) ∙ restore-saved m (h .typed)
+has-state i m h = sym (ap machineOf (h .image)) ∙ restore-saved m (h .typed) (h .accepted)
 
 pub no-state : (i : List ℕ) → NoState i → validImage i ≡ false
 no-state i h = go (validImage i) refl
@@ -69,9 +69,12 @@ pub gets-seven : (i l d : List ℕ) → NoState i → Seven i l d
 gets-seven i l d h = seven i l d (no-state i h)
 
 -- "An image of an older length then gets refusal 7": any length but that of the layout.
-pub other-length : (i l d : List ℕ) → (length i ≡ imageLength → ⊥) → Seven i l d
-unfolding validImage
-other-length i l d n = seven i l d (simp (ne-eqb (length i) imageLength n))
+pub other-length : (i l d : List ℕ) → (length i ≡ imageLength (chipOf i) → ⊥) → Seven i l d
+other-length i l d n = seven i l d (go (validImage i) refl)
+  where
+    go : (t : Bool) → validImage i ≡ t → validImage i ≡ false
+    go true e = absurd (n (valid-is i e .long))
+    go false e = e
 
 -- ---- every other image
 

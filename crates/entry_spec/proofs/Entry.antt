@@ -38,15 +38,16 @@ module _ (i l d : List ℕ) where
 
   -- Every other call is the run from the image's state, and leaves the image of the state reached.
   pub ran : validImage i ≡ true → (m : Machine) → m ≡ machineOf i → (r : Ran) → r ≡ ranOf (runOf m l (length d)) → (d′ : List ℕ) → d′ ≡ over (runOf m l (length d)) d
-      → (i′ : List ℕ) → i′ ≡ imageOf (r .machine) → machineOf i′ ≡ r .machine → (acceptedOf (r .machine) ≡ true → validImage i′ ≡ true) → Post (r .stop) (r .consumed) (r .written) i′ d′
+      → (i′ : List ℕ) → i′ ≡ imageOf (r .machine) → (acceptedOf (r .machine) ≡ true → machineOf i′ ≡ r .machine) → (acceptedOf (r .machine) ≡ true → validImage i′ ≡ true) → Post (r .stop) (r .consumed) (r .written) i′ d′
   unfolding callAnswers
   ran e m em r er d′ ed i′ ei er′ ev =
       let n : ℕ = length d in
       let a : acceptedOf (runOf m l n .machine) ≡ true = accepted-kept m l n (ap acceptedOf em ∙ valid-is i e .accepted) in
-      let v : validImage i′ ≡ true = ev (ap (λ (x : Ran). acceptedOf (x .machine)) er ∙ a) in
+      let o : acceptedOf (r .machine) ≡ true = ap (λ (x : Ran). acceptedOf (x .machine)) er ∙ a in
+      let v : validImage i′ ≡ true = ev o in
       let q : runOf m l n ≡ callOf i l n = ap (λ (x : Machine). runOf x l n) em ∙ sym (is-run i l n e) in
       let k : r ≡ ranOf (callOf i l n) = er ∙ ap ranOf q in
-      let g : machineOf i′ ≡ callOf i l n .machine = er′ ∙ ap (λ (x : Ran). x .machine) k in
+      let g : machineOf i′ ≡ callOf i l n .machine = er′ o ∙ ap (λ (x : Ran). x .machine) k in
       let h : Run3 (machineOf i) l n (machineOf i′) = subst⁻¹ (λ (x : Machine). Run3 (machineOf i) l n x) g (call3 i e l n) in (
         ap (λ (x : Ran). x .stop) k,
         (

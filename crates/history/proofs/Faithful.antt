@@ -4,20 +4,22 @@ use mathlib.Core.Path.{_≡_, refl, sym, ap, ap₂, _∙_}
 use mathlib.Core.Bool.{Bool, true, false, cond, not, _&&_, false≢true}
 use mathlib.Core.List.{List, [], _∷_, _++_, append-nil}
 use mathlib.Core.Option.{Option, none, some}
-use Prim.Native.Nat.{ℕ, _+_, _-_}
+use Prim.Native.Nat.{ℕ, _+_, _-_, _≤_}
 use native.Mathlib.Omega.{arith}
 use lib.Dec.{leb}
 use lib.ListN.{length, take, drop, length-append}
 use lib.Seq.{drop-at, drop-drop}
 use borrow.Author.Tests.{eq-eqb, le-leb}
-use Rattle.clock_spec.specs.Command.{decode, num}
+use Rattle.clock_spec.specs.Command.{num}
+use Rattle.clock_spec.specs.Patterns.{meant, extend}
 use Rattle.clock_spec.specs.Shared.{Written, writeBy, bit7}
+use Rattle.clock_spec.specs.declared.Chip.{Chip}
 use Rattle.clock_spec.specs.declared.Target.{Target}
 use Rattle.clock_spec.specs.declared.Target.the-variants.{Seconds, Test, Protect, Cell}
 use Rattle.clock_spec.specs.declared.Wires.{Wires}
 use Rattle.history.specs.History.{Start, Entry, History, push, complete, protectBy, sameTarget, byteTo, wiresAt, rises, endingAt, protectAt, endingClear, last}
 use Rattle.history.specs.Start.{freshStart}
-use Rattle.history.proofs.Bits.{is-16}
+use Rattle.history.proofs.Bits.{is-16, is-24}
 
 -- ---- the stretch
 
@@ -32,7 +34,7 @@ abbrev pub ahead : List Bool → Option (List Bool) → Option (List Bool)
 ahead bs none = none
 ahead bs (some cs) = some (bs ++ cs)
 
-module _ (N : ℕ) (S : Start) where
+module _ (S : Start) where
   -- The longest series of entries in a row with enable 0 that ends with the newest entry; none where enable is 1 there.
   unfoldable pub stretch : History → List Wires
   stretch [] = cond (S .wires .enable) [] (S .wires ∷ [])
@@ -71,27 +73,27 @@ low x true ws o r q f = absurd (false≢true (sym f))
 low x false ws o r q f = q
 
 -- The rises of the newest entry's stretch are the bits in the list of its entries, after those begun at the start.
-pub rises-are : (N : ℕ) (S : Start) (e : Entry) (h : History) → rises N S (e ∷ h) ≡ ahead (bitsIn (stretch N S (e ∷ h))) (opened N S (e ∷ h))
+pub rises-are : (S : Start) (e : Entry) (h : History) → rises S (e ∷ h) ≡ ahead (bitsIn (stretch S (e ∷ h))) (opened S (e ∷ h))
 unfolding rises wiresAt stretch opened
-rises-are N S e [] = one-more (S .wires) (e .wires) (S .wires .enable) (e .wires .enable) [] (S .begun) (S .begun) (λ f. none-ahead (S .begun))
-rises-are N S e′ (e ∷ h) =
-    one-more (e .wires) (e′ .wires) (e .wires .enable) (e′ .wires .enable) (stretch N S h) (opened N S h) (rises N S (e ∷ h))
-    (low (e .wires) (e .wires .enable) (stretch N S h) (opened N S h) (rises N S (e ∷ h)) (rises-are N S e h))
+rises-are S e [] = one-more (S .wires) (e .wires) (S .wires .enable) (e .wires .enable) [] (S .begun) (S .begun) (λ f. none-ahead (S .begun))
+rises-are S e′ (e ∷ h) =
+    one-more (e .wires) (e′ .wires) (e .wires .enable) (e′ .wires .enable) (stretch S h) (opened S h) (rises S (e ∷ h))
+    (low (e .wires) (e .wires .enable) (stretch S h) (opened S h) (rises S (e ∷ h)) (rises-are S e h))
 
 -- From the fresh machine nothing is begun.
-fresh-opened : (N : ℕ) (h : History) → opened N (freshStart N) h ≡ some []
+fresh-opened : (k : Chip) (h : History) → opened (freshStart k) h ≡ some []
 unfolding opened
-fresh-opened N [] = refl
-fresh-opened N (e ∷ h) = ap (cond (e .wires .enable) (some [])) (fresh-opened N h) ∙ either-way (e .wires .enable)
+fresh-opened k [] = refl
+fresh-opened k (e ∷ h) = ap (cond (e .wires .enable) (some [])) (fresh-opened k h) ∙ either-way (e .wires .enable)
   where
     either-way : (a : Bool) → _≡_ {A = Option (List Bool)} (cond a (some []) (some [])) (some [])
     either-way true = refl
     either-way false = refl
 
-pub rises-fresh : (N : ℕ) (e : Entry) (h : History) → rises N (freshStart N) (e ∷ h) ≡ some (bitsIn (stretch N (freshStart N) (e ∷ h)))
-rises-fresh N e h =
-    let bs : List Bool = bitsIn (stretch N (freshStart N) (e ∷ h)) in
-    rises-are N (freshStart N) e h ∙ ap (ahead bs) (fresh-opened N (e ∷ h)) ∙ ap some (append-nil bs)
+pub rises-fresh : (k : Chip) (e : Entry) (h : History) → rises (freshStart k) (e ∷ h) ≡ some (bitsIn (stretch (freshStart k) (e ∷ h)))
+rises-fresh k e h =
+    let bs : List Bool = bitsIn (stretch (freshStart k) (e ∷ h)) in
+    rises-are (freshStart k) e h ∙ ap (ahead bs) (fresh-opened k (e ∷ h)) ∙ ap some (append-nil bs)
 
 -- ---- the complete write
 
@@ -99,22 +101,39 @@ rises-fresh N e h =
 abbrev pub first : ℕ → List Bool → List Bool
 first n bs = drop (length bs - n) bs
 
--- What a whole stretch holds: by its first eight bits a write of bits 9 to 16, where it has at least sixteen rises.
-abbrev pub held : ℕ → List Bool → Option Written
-held N bs = cond (leb 16 (length bs)) (writeBy (decode N (num (first 8 bs))) (num (take 8 (first 16 bs)))) none
+-- The first bits are the same however the stretch goes on.
+first-of : (n : ℕ) (more bs : List Bool) → n ≤ length bs → first n (more ++ bs) ≡ first n bs
+first-of n more bs h =
+    let i : length (more ++ bs) - n ≡ length more + (length bs - n) = omega (arith, length-append more bs) in
+    ap (λ (j : ℕ). drop j (more ++ bs)) i ∙ sym (drop-drop (length bs - n) (length more) (more ++ bs))
+    ∙ ap (drop (length bs - n)) (drop-at more bs (length more) refl)
 
--- It is the write that is complete at the sixteenth rise, however the stretch goes on.
-pub held-is : (N : ℕ) (more bs : List Bool) → length bs ≡ 16 → held N (more ++ bs) ≡ complete N bs
-held-is N more bs h =
-    let l : length (more ++ bs) ≡ length more + length bs = length-append more bs in
-    let k : length (more ++ bs) - 8 ≡ (length (more ++ bs) - 16) + 8 = omega arith in
-    let a : first 16 (more ++ bs) ≡ bs = drop-at more bs (length (more ++ bs) - 16) (omega arith) in
-    let b : first 8 (more ++ bs) ≡ drop 8 bs =
-    ap (λ (n : ℕ). drop n (more ++ bs)) k ∙ sym (drop-drop 8 (length (more ++ bs) - 16) (more ++ bs)) ∙ ap (drop 8) a in
-    ap (λ (t : Bool). cond t (writeBy (decode N (num (first 8 (more ++ bs)))) (num (take 8 (first 16 (more ++ bs))))) none)
-    (le-leb 16 (length (more ++ bs)) (omega arith))
-    ∙ ap₂ (λ (x y : List Bool). writeBy (decode N (num x)) (num (take 8 y))) b a
-    ∙ sym (is-16 N bs h)
+first-is : (n m : ℕ) (more bs : List Bool) → length bs ≡ m + n → first n (more ++ bs) ≡ drop m bs
+first-is n m more bs h = let e : length bs - n ≡ m = omega arith in first-of n more bs (omega arith) ∙ ap (λ (j : ℕ). drop j bs) e
+
+-- What a whole stretch holds: by its first eight bits a write of bits 9 to 16, where it has at least sixteen rises.
+abbrev pub held : Chip → List Bool → Option Written
+held k bs = cond (leb 16 (length bs)) (writeBy (meant k (num (first 8 bs))) (num (take 8 (first 16 bs)))) none
+
+-- W-206: by its first sixteen bits a write of bits 17 to 24, where it has at least 24 rises.
+abbrev pub heldLong : Chip → List Bool → Option Written
+heldLong k bs = cond (leb 24 (length bs)) (writeBy (extend (meant k (num (first 8 bs))) (num (take 8 (first 16 bs)))) (num (take 8 (first 24 bs)))) none
+
+-- It is the write that is complete at the sixteenth rise, or at the 24th, however the stretch goes on.
+pub held-is : (k : Chip) (more bs : List Bool) → length bs ≡ 16 → held k (more ++ bs) ≡ complete k bs
+held-is k more bs h =
+    ap (λ (t : Bool). cond t (writeBy (meant k (num (first 8 (more ++ bs)))) (num (take 8 (first 16 (more ++ bs))))) none)
+    (le-leb 16 (length (more ++ bs)) (omega (arith, length-append more bs)))
+    ∙ ap₂ (λ (x y : List Bool). writeBy (meant k (num x)) (num (take 8 y))) (first-is 8 8 more bs h) (first-is 16 0 more bs h)
+    ∙ sym (is-16 k bs h)
+
+pub held-long-is : (k : Chip) (more bs : List Bool) → length bs ≡ 24 → heldLong k (more ++ bs) ≡ complete k bs
+held-long-is k more bs h =
+    ap (λ (t : Bool). cond t (writeBy (extend (meant k (num (first 8 (more ++ bs)))) (num (take 8 (first 16 (more ++ bs))))) (num (take 8 (first 24 (more ++ bs))))) none)
+    (le-leb 24 (length (more ++ bs)) (omega (arith, length-append more bs)))
+    ∙ ap₂ (λ (x y : List Bool). writeBy (extend (meant k (num x)) (num (take 8 y))) (num (take 8 (first 24 (more ++ bs))))) (first-is 8 16 more bs h) (first-is 16 8 more bs h)
+    ∙ ap (λ (y : List Bool). writeBy (extend (meant k (num (drop 16 bs))) (num (take 8 (drop 8 bs)))) (num (take 8 y))) (first-is 24 0 more bs h)
+    ∙ sym (is-24 k bs h)
 
 -- ---- the last write
 
@@ -133,25 +152,25 @@ same-self Test = refl
 same-self Protect = refl
 same-self (Cell i) = eq-eqb i i refl
 
-module _ (N : ℕ) (S : Start) where
+module _ (S : Start) where
   abbrev pub NoneTo : Target → History → List Entry → Type 0
   NoneTo t h [] = Unit {0}
-  NoneTo t h (e ∷ es) = (goesTo t (endingClear N S (e ∷ (es ++ h))) ≡ false) × NoneTo t h es
+  NoneTo t h (e ∷ es) = (goesTo t (endingClear S (e ∷ (es ++ h))) ≡ false) × NoneTo t h es
 
-  last-since : (t : Target) (d : ℕ) (h : History) (es : List Entry) → NoneTo t h es → last N S t d (es ++ h) ≡ last N S t d h
+  last-since : (t : Target) (d : ℕ) (h : History) (es : List Entry) → NoneTo t h es → last S t d (es ++ h) ≡ last S t d h
   unfolding last
   last-since t d h [] q = refl
-  last-since t d h (e ∷ es) (q, k) = not-to t (endingClear N S (e ∷ (es ++ h))) (last N S t d (es ++ h)) q ∙ last-since t d h es k
+  last-since t d h (e ∷ es) (q, k) = not-to t (endingClear S (e ∷ (es ++ h))) (last S t d (es ++ h)) q ∙ last-since t d h es k
 
   -- A write of b to t that ended at an entry with protect clear, and none such since: b is the byte of the last.
   pub last-is : (t : Target) (d b : ℕ) (e : Entry) (h : History) (es : List Entry)
-      → endingClear N S (e ∷ h) ≡ some (record { to = t; byte = b }) → NoneTo t (e ∷ h) es → last N S t d (es ++ (e ∷ h)) ≡ b
+      → endingClear S (e ∷ h) ≡ some (record { to = t; byte = b }) → NoneTo t (e ∷ h) es → last S t d (es ++ (e ∷ h)) ≡ b
   unfolding last
   last-is t d b e h es q k =
-      last-since t d (e ∷ h) es k ∙ ap (λ (o : Option Written). byteTo t o (last N S t d h)) q ∙ ap (λ (x : Bool). cond x b (last N S t d h)) (same-self t)
+      last-since t d (e ∷ h) es k ∙ ap (λ (o : Option Written). byteTo t o (last S t d h)) q ∙ ap (λ (x : Bool). cond x b (last S t d h)) (same-self t)
 
   -- None at all: what it was at the start.
-  pub last-never : (t : Target) (d : ℕ) (es : List Entry) → NoneTo t [] es → last N S t d (es ++ []) ≡ d
+  pub last-never : (t : Target) (d : ℕ) (es : List Entry) → NoneTo t [] es → last S t d (es ++ []) ≡ d
   unfolding last
   last-never t d es k = last-since t d [] es k
 
@@ -167,20 +186,20 @@ not-protect (some w) p q = go (w .to) q
     go Protect q = absurd (false≢true (sym q))
     go (Cell i) q = refl
 
-module _ (N : ℕ) (S : Start) where
+module _ (S : Start) where
   -- No complete write to protect ends in the entries es after h, whatever protect was.
   abbrev pub NoProtect : History → List Entry → Type 0
   NoProtect h [] = Unit {0}
-  NoProtect h (e ∷ es) = (goesTo Protect (endingAt N S (e ∷ (es ++ h))) ≡ false) × NoProtect h es
+  NoProtect h (e ∷ es) = (goesTo Protect (endingAt S (e ∷ (es ++ h))) ≡ false) × NoProtect h es
 
   -- None at all: what it was at the start, or at h.
-  pub protect-since : (h : History) (es : List Entry) → NoProtect h es → protectAt N S (es ++ h) ≡ protectAt N S h
+  pub protect-since : (h : History) (es : List Entry) → NoProtect h es → protectAt S (es ++ h) ≡ protectAt S h
   unfolding protectAt
   protect-since h [] q = refl
-  protect-since h (e ∷ es) (q, k) = not-protect (endingAt N S (e ∷ (es ++ h))) (protectAt N S (es ++ h)) q ∙ protect-since h es k
+  protect-since h (e ∷ es) (q, k) = not-protect (endingAt S (e ∷ (es ++ h))) (protectAt S (es ++ h)) q ∙ protect-since h es k
 
   -- A write of b to protect that ended at an entry, and none since: bit 7 of b.
   pub protect-is-last : (b : ℕ) (e : Entry) (h : History) (es : List Entry)
-      → endingAt N S (e ∷ h) ≡ some (record { to = Protect; byte = b }) → NoProtect (e ∷ h) es → protectAt N S (es ++ (e ∷ h)) ≡ bit7 b
+      → endingAt S (e ∷ h) ≡ some (record { to = Protect; byte = b }) → NoProtect (e ∷ h) es → protectAt S (es ++ (e ∷ h)) ≡ bit7 b
   unfolding protectAt
-  protect-is-last b e h es q k = protect-since (e ∷ h) es k ∙ ap (λ (o : Option Written). protectBy o (protectAt N S h)) q
+  protect-is-last b e h es q k = protect-since (e ∷ h) es k ∙ ap (λ (o : Option Written). protectBy o (protectAt S h)) q

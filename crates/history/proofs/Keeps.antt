@@ -13,22 +13,22 @@ use Rattle.clock.proofs.Keep.{keeps-step, still}
 use Rattle.history.specs.History.{Start, History, wiresAt}
 use Rattle.history.specs.Start.{startOf, Accepted}
 use Rattle.history.specs.Demand3.{clockAfter}
-use Rattle.history.proofs.Holds.{cells-are, small}
+use Rattle.history.proofs.Holds.{cells-are, unused-are, small}
 
 -- An accepted state stays one, after every history.
-pub accepted-after : (N : ℕ) (c : Clock) (w : Wires) → Accepted N c w → (h : History) → Accepted N (clockAfter N c w h) (wiresAt N (startOf c w) h)
+pub accepted-after : (c : Clock) (w : Wires) → Accepted c w → (h : History) → Accepted (clockAfter c w h) (wiresAt (startOf c w) h)
 unfolding clockAfter wiresAt
-accepted-after N c w ok h = record { phase = go h; cells = cells-are N c w ok h; seconds = small N c w ok h }
+accepted-after c w ok h = record { phase = go h; cells = cells-are c w ok h; unused = unused-are c w ok h; seconds = small c w ok h }
   where
     S : Start
     S = startOf c w
 
-    go : (h : History) → acceptedPhase N (clockAfter N c w h .phase) (wiresAt N S h .enable) ≡ true
+    go : (h : History) → acceptedPhase (clockAfter c w h .store .chip) (clockAfter c w h .phase) (wiresAt S h .enable) ≡ true
     go [] = ok .phase
     go (e ∷ h) =
-        let c′ : Clock = clockAfter N c w h in
-        keeps-step N (withStore c′ (withEvent (e .event) (c′ .store))) (wiresAt N S h) (e .wires) (go h)
+        let c′ : Clock = clockAfter c w h in
+        keeps-step (withStore c′ (withEvent (e .event) (c′ .store))) (wiresAt S h) (e .wires) (go h)
 
 -- A refused record.
-pub step-still : (N : ℕ) (c : Clock) (w : Wires) → Accepted N c w → stepClock N quiet c w w ≡ c
-step-still N c w ok = still N c w (ok .phase)
+pub step-still : (c : Clock) (w : Wires) → Accepted c w → stepClock quiet c w w ≡ c
+step-still c w ok = still c w (ok .phase)

@@ -7,52 +7,68 @@ use native.Mathlib.Omega.{arith}
 use native.Mathlib.Nat.{mod-lt}
 use lib.Dec.{eqb}
 use lib.ListN.{length, take, drop}
-use Rattle.clock_spec.specs.Command.{decode, num, TargetInRange, Legal}
+use Rattle.clock_spec.specs.Command.{num, TargetInRange, Legal}
+use Rattle.clock_spec.specs.Patterns.{meant, extend}
 use Rattle.clock_spec.specs.Shared.{stops, Written, writeBy, wrap}
+use Rattle.clock_spec.specs.declared.Chip.{Chip}
 use Rattle.clock_spec.specs.declared.Target.{Target}
 use Rattle.clock_spec.specs.declared.Target.the-variants.{Seconds, Test, Protect, Cell}
 use Rattle.clock_spec.specs.declared.Command.{Command}
-use Rattle.clock_spec.specs.declared.Command.the-variants.{Write, Read, Illegal}
+use Rattle.clock_spec.specs.declared.Command.the-variants.{Write, Read, Extended, Illegal}
 use Rattle.history.specs.History.{Start, History, isRise, complete, completeIn, gainUnless, testAt, withReplaced, wiresAt, rises, endingAt, protectAt, endingClear, secondsAt}
 use Rattle.octets.proofs.Laws.{replace-small}
-use Rattle.clock_spec.proofs.CommandRange.{cond-case, decode-legal}
+use Rattle.clock_spec.proofs.CommandRange.{cond-case, Ranged, meant-legal, extend-legal}
 use Rattle.history.proofs.Bits.{num-bound}
 
-abbrev Fine : ℕ → Option Written → Type 0
-Fine N none = Unit {0}
-Fine N (some w) = TargetInRange N (w .to) × (w .byte < 256)
+abbrev Fine : Chip → Option Written → Type 0
+Fine k none = Unit {0}
+Fine k (some w) = TargetInRange k (w .to) × (w .byte < 256)
 
-write-fine : (N : ℕ) (c : Command) (b : ℕ) → Legal N c → b < 256 → Fine N (writeBy c b)
-write-fine N (Write t) b l h = (l, h)
-write-fine N (Read t) b l h = tt
-write-fine N Illegal b l h = tt
+write-fine : (k : Chip) (c : Command) (b : ℕ) → Legal k c → b < 256 → Fine k (writeBy c b)
+write-fine k (Write t) b l h = (l, h)
+write-fine k (Read t) b l h = tt
+write-fine k (Extended z a) b l h = tt
+write-fine k Illegal b l h = tt
 
-complete-fine : (N : ℕ) (o : Option (List Bool)) → Fine N (completeIn N o)
-complete-fine N none = tt
-complete-fine N (some bs) =
-    cond-case (Fine N) (eqb (length bs) 16)
-    (λ e. write-fine N (decode N (num (drop 8 bs))) (num (take 8 bs)) (decode-legal N (num (drop 8 bs))) (num-bound 8 bs))
+complete-fine : (k : Chip) (o : Option (List Bool)) → Fine k (completeIn k o)
+complete-fine k none = tt
+complete-fine k (some bs) =
+    cond-case (Fine k) (eqb (length bs) 16)
+    (λ e. write-fine k (meant k (num (drop 8 bs))) (num (take 8 bs)) (meant-legal k (num (drop 8 bs))) (num-bound 8 bs))
+    λ n16.
+    cond-case (Fine k) (eqb (length bs) 24)
+    (λ e. write-fine k (extend (meant k (num (drop 16 bs))) (num (take 8 (drop 8 bs)))) (num (take 8 bs))
+    (extend-legal k (meant k (num (drop 16 bs))) (num (take 8 (drop 8 bs))) (meant-legal k (num (drop 16 bs)))) (num-bound 8 bs))
     (λ e. tt)
 
-ended-fine : (N : ℕ) (S : Start) (h : History) → Fine N (endingAt N S h)
+ended-fine : (S : Start) (h : History) → Fine (S .chip) (endingAt S h)
 unfolding endingAt
-ended-fine N S [] = tt
-ended-fine N S (e ∷ h) = cond-case (Fine N) (isRise (wiresAt N S h) (e .wires)) (λ q. complete-fine N (rises N S (e ∷ h))) (λ q. tt)
+ended-fine S [] = tt
+ended-fine S (e ∷ h) =
+    cond-case (Fine (S .chip)) (isRise (wiresAt S h) (e .wires)) (λ q. complete-fine (S .chip) (rises S (e ∷ h))) (λ q. tt)
 
-replaced-small : (N : ℕ) (o : Option Written) (s : ℕ) → Fine N o → s < 2 ^ 32 → withReplaced o s < 2 ^ 32
-replaced-small N none s f l = l
-replaced-small N (some w) s f l = go (w .to) (f .0)
+replaced-small : (k : Chip) (o : Option Written) (s : ℕ) → Fine k o → s < 2 ^ 32 → withReplaced o s < 2 ^ 32
+replaced-small k none s f l = l
+replaced-small k (some w) s f l = go (w .to) (f .0)
   where
-    go : (t : Target) → TargetInRange N t → withReplaced (some (record { to = t; byte = w .byte })) s < 2 ^ 32
-    go (Seconds k) r = replace-small k (w .byte) s r (f .1) l
+    go : (t : Target) → TargetInRange k t → withReplaced (some (record { to = t; byte = w .byte })) s < 2 ^ 32
+    go (Seconds n) r = replace-small n (w .byte) s r (f .1) l
     go Test r = l
     go Protect r = l
     go (Cell i) r = l
 
-pub seconds-small : (N : ℕ) (S : Start) (h : History) → S .seconds < 2 ^ 32 → secondsAt N S h < 2 ^ 32
+pub seconds-small : (S : Start) (h : History) → S .seconds < 2 ^ 32 → secondsAt S h < 2 ^ 32
 unfolding secondsAt endingClear
-seconds-small N S [] l = l
-seconds-small N S (e ∷ h) l =
-    replaced-small N (endingClear N S (e ∷ h)) (wrap (secondsAt N S h + gainUnless (stops (testAt N S h)) (e .event)))
-    (cond-case (Fine N) (protectAt N S h) (λ q. tt) (λ q. ended-fine N S (e ∷ h)))
-    (mod-lt (secondsAt N S h + gainUnless (stops (testAt N S h)) (e .event)) (omega arith))
+seconds-small S [] l = l
+seconds-small S (e ∷ h) l =
+    replaced-small (S .chip) (endingClear S (e ∷ h)) (wrap (secondsAt S h + gainUnless (stops (testAt S h)) (e .event)))
+    (cond-case (Fine (S .chip)) (protectAt S h) (λ q. tt) (λ q. ended-fine S (e ∷ h)))
+    (mod-lt (secondsAt S h + gainUnless (stops (testAt S h)) (e .event)) (omega arith))
+
+-- A write that ends is in the chip's range.
+pub ended-ranged : (S : Start) (h : History) → Ranged (S .chip) (endingAt S h)
+ended-ranged S h = go (endingAt S h) (ended-fine S h)
+  where
+    go : (o : Option Written) → Fine (S .chip) o → Ranged (S .chip) o
+    go none f = tt
+    go (some w) f = f .0

@@ -1,5 +1,5 @@
--- The history of the clock's wires, by document 01, "What demand 3 reads": "a definition of its own", from the wire levels and the events
--- alone and not from the chip's step. N is the number of cells; S is what the machine starts from. Every list has the newest first.
+-- The history of the clock's wires, by document 01, "What demand 3 reads", and W-206: "a definition of its own", from the wire levels and the events
+-- alone and not from the chip's step. S is what the machine starts from. Every list has the newest first.
 use mathlib.Core.Path.{_≡_}
 use mathlib.Core.Bool.{Bool, true, false, cond, not, _&&_}
 use mathlib.Core.List.{List, [], _∷_, _++_}
@@ -7,9 +7,11 @@ use mathlib.Core.Option.{Option, none, some}
 use Prim.Native.Nat.{ℕ, _+_}
 use lib.Dec.{eqb}
 use lib.ListN.{length, take, drop, getD}
-use Rattle.clock_spec.specs.Command.{decode, num}
+use Rattle.clock_spec.specs.Command.{num}
+use Rattle.clock_spec.specs.Patterns.{meant, extend}
 use Rattle.octets.specs.Octets.{replace}
 use Rattle.clock_spec.specs.Shared.{Event, quiet, second, off, stops, wrap, Written, writeBy, bit7}
+use Rattle.clock_spec.specs.declared.Chip.{Chip}
 use Rattle.clock_spec.specs.declared.Target.{Target}
 use Rattle.clock_spec.specs.declared.Target.the-variants.{Seconds, Test, Protect, Cell}
 use Rattle.clock_spec.specs.declared.Wires.{Wires}
@@ -20,6 +22,7 @@ use Rattle.clock_spec.specs.declared.Wires.{Wires}
 pub record Start : Type 0 where
   pub wires : Wires
   pub begun : Option (List Bool)
+  pub chip : Chip
   pub cells : List ℕ
   pub seconds : ℕ
   pub protect : Bool
@@ -49,12 +52,15 @@ push b (some bs) = some (b ∷ bs)
 
 -- "Where the first eight bits of a stretch, high-order first, are a legal write command and it has at least sixteen rises, it holds a
 -- complete write, of bits 9 to 16 to what the command names, ending at the sixteenth": bs are the bits up to a rise, and it is the sixteenth.
-abbrev pub complete : ℕ → List Bool → Option Written
-complete N bs = cond (eqb (length bs) 16) (writeBy (decode N (num (drop 8 bs))) (num (take 8 bs))) none
+-- W-206: where the first sixteen are an extended write command, the write "is complete for demand 3, at the 24th rise and not before, its byte being bits 17 to 24".
+abbrev pub complete : Chip → List Bool → Option Written
+complete k bs =
+    cond (eqb (length bs) 16) (writeBy (meant k (num (drop 8 bs))) (num (take 8 bs)))
+    (cond (eqb (length bs) 24) (writeBy (extend (meant k (num (drop 16 bs))) (num (take 8 (drop 8 bs)))) (num (take 8 bs))) none)
 
-abbrev pub completeIn : ℕ → Option (List Bool) → Option Written
-completeIn N none = none
-completeIn N (some bs) = complete N bs
+abbrev pub completeIn : Chip → Option (List Bool) → Option Written
+completeIn k none = none
+completeIn k (some bs) = complete k bs
 
 -- "Bit 7 as 1 sets protect, as 0 clears it": protect after a write, p before it.
 abbrev pub protectBy : Option Written → Bool → Bool
@@ -104,7 +110,7 @@ withReplaced (some w) s = elim (w .to) [ Seconds k ↦ replace k (w .byte) s | T
 abbrev pub gainUnless : Bool → Event → ℕ
 gainUnless stopped e = cond stopped 0 (gain e)
 
-module _ (N : ℕ) (S : Start) where
+module _ (S : Start) where
   -- The wires at the newest entry.
   unfoldable pub wiresAt : History → Wires
   wiresAt [] = S .wires
@@ -121,7 +127,7 @@ module _ (N : ℕ) (S : Start) where
   -- The complete write that ends at the newest entry, if one does.
   unfoldable pub endingAt : History → Option Written
   endingAt [] = none
-  endingAt (e ∷ h) = cond (isRise (wiresAt h) (e .wires)) (completeIn N (rises (e ∷ h))) none
+  endingAt (e ∷ h) = cond (isRise (wiresAt h) (e .wires)) (completeIn (S .chip) (rises (e ∷ h))) none
 
   -- "Protect before an entry is bit 7 of the last complete write to protect that ended earlier, or 0", or what it was at the start:
   -- before the entry e of e ∷ h it is protectAt h.

@@ -1,16 +1,12 @@
 -- Demand 3 of a machine that holds the chip: items carried out one after the other, "each other the state that the one before left", each with
 -- its entries, the newest first; an item of document 01 has one.
 use mathlib.Core.Path.{_≡_}
-use mathlib.Core.Bool.{true}
 use mathlib.Core.List.{List, [], _∷_, _++_}
-use Prim.Native.Nat.{ℕ, _+_, _<_}
-use lib.ListN.{getD}
-use Rattle.clock_spec.specs.Shared.{wrap}
 use Rattle.clock_spec.specs.declared.Wires.{Wires}
 use Rattle.clock.specs.declared.Clock.{Clock}
-use Rattle.history.specs.History.{Start, Entry, History, wiresAt, cellAt, testAt, protectAt, secondsAt, gainSince, Kept}
+use Rattle.history.specs.History.{Start, Entry, History, wiresAt}
 use Rattle.history.specs.Start.{startOf, Accepted}
-use Rattle.history.specs.Demand3.{clockAfter}
+use Rattle.history.specs.Demand3.{clockAfter, StoreIs, UnderProtect}
 
 -- The state after some items met, the newest first.
 unfoldable pub stateAfter : {M I : Type 0} (step : I → M → M) → M → List I → M
@@ -30,11 +26,11 @@ module _ {M I : Type 0} (step : I → M → M) (trace : I → M → List Entry) 
 
 -- What is asked of a machine: where the chip and its wires are accepted, an item acts on the chip as its entries do and leaves the wires of the
 -- newest of them.
-pub record FollowsEntries {M I : Type 0} (N : ℕ) (clock : M → Clock) (wires : M → Wires) (step : I → M → M) (trace : I → M → List Entry) : Type 0 where
-  pub clock-is : (i : I) (m : M) → Accepted N (clock m) (wires m) → clock (step i m) ≡ clockAfter N (clock m) (wires m) (trace i m)
-  pub wires-are : (i : I) (m : M) → Accepted N (clock m) (wires m) → wires (step i m) ≡ wiresAt N (startOf (clock m) (wires m)) (trace i m)
+pub record FollowsEntries {M I : Type 0} (clock : M → Clock) (wires : M → Wires) (step : I → M → M) (trace : I → M → List Entry) : Type 0 where
+  pub clock-is : (i : I) (m : M) → Accepted (clock m) (wires m) → clock (step i m) ≡ clockAfter (clock m) (wires m) (trace i m)
+  pub wires-are : (i : I) (m : M) → Accepted (clock m) (wires m) → wires (step i m) ≡ wiresAt (startOf (clock m) (wires m)) (trace i m)
 
-module _ {M I : Type 0} (N : ℕ) (clock : M → Clock) (wires : M → Wires) (step : I → M → M) (trace : I → M → List Entry) where
+module _ {M I : Type 0} (clock : M → Clock) (wires : M → Wires) (step : I → M → M) (trace : I → M → List Entry) where
   abbrev pub start : M → Start
   start m = startOf (clock m) (wires m)
 
@@ -43,10 +39,5 @@ module _ {M I : Type 0} (N : ℕ) (clock : M → Clock) (wires : M → Wires) (s
 
   -- Demand 3 of the machine m after the items is, by their history from what m starts with; under protect, up to any items js later.
   pub record Machine3 (m : M) (is : List I) : Type 0 where
-    pub cells : (i : ℕ) → i < N → getD (after m is .store .cells) i 0 ≡ cellAt N (start m) i (historyOf step trace m is)
-    pub seconds : after m is .store .seconds ≡ secondsAt N (start m) (historyOf step trace m is)
-    pub protect : after m is .store .protect ≡ protectAt N (start m) (historyOf step trace m is)
-    pub test : after m is .store .test ≡ testAt N (start m) (historyOf step trace m is)
-    pub underProtect : (js : List I) → after m is .store .protect ≡ true → Kept N (start m) (historyOf step trace m is) (entriesSince step trace m is js)
-        → (after m (js ++ is) .store .cells ≡ after m is .store .cells)
-        × (after m (js ++ is) .store .seconds ≡ wrap (after m is .store .seconds + gainSince N (start m) (historyOf step trace m is) (entriesSince step trace m is js)))
+    pub store : StoreIs (start m) (historyOf step trace m is) (after m is .store)
+    pub underProtect : (js : List I) → UnderProtect (start m) (historyOf step trace m is) (entriesSince step trace m is js) (after m is .store) (after m (js ++ is) .store)

@@ -6,10 +6,14 @@ use mathlib.Core.Option.{Option, none, some}
 use Prim.Native.Nat.{ℕ, zero, suc, _/_, _%_, _^_, _<_}
 use lib.Dec.{eqb}
 use lib.ListN.{length}
+use Rattle.clock_spec.specs.Store.{unusedClear}
 use Rattle.clock_spec.specs.Phase.{acceptedPhase}
 use Rattle.clock.specs.Step.{freshClock}
+use Rattle.clock_spec.specs.declared.Chip.{Chip}
+use Rattle.clock_spec.specs.declared.Bytes.{Bytes}
+use Rattle.clock_spec.specs.declared.Bytes.the-variants.{Nothing, One, Two}
 use Rattle.clock_spec.specs.declared.Phase.{Phase}
-use Rattle.clock_spec.specs.declared.Phase.the-variants.{Idle, Listening, Taking, Sending, Ignoring}
+use Rattle.clock_spec.specs.declared.Phase.the-variants.{Idle, Listening, Sending, Ignoring}
 use Rattle.clock_spec.specs.declared.Wires.{Wires}
 use Rattle.clock.specs.declared.Clock.{Clock}
 use Rattle.history.specs.History.{Start}
@@ -19,11 +23,16 @@ abbrev pub bitsNewestFirst : ℕ → ℕ → List Bool
 bitsNewestFirst zero v = []
 bitsNewestFirst (suc n) v = eqb (v % 2) 1 ∷ bitsNewestFirst n (v / 2)
 
+-- The bits of whole bytes.
+abbrev pub bitsOfBytes : Bytes → List Bool
+bitsOfBytes Nothing = []
+bitsOfBytes (One c) = bitsNewestFirst 8 c
+bitsOfBytes (Two c d) = bitsNewestFirst 8 d ++ bitsNewestFirst 8 c
+
 -- "A stretch open in the image begins with the rises and bits already taken, and holds no complete write where the chip sends or ignores."
 abbrev pub begunBy : Phase → Option (List Bool)
 begunBy Idle = some []
-begunBy (Listening n v) = some (bitsNewestFirst n v)
-begunBy (Taking c n v) = some (bitsNewestFirst n v ++ bitsNewestFirst 8 c)
+begunBy (Listening bs n v) = some (bitsNewestFirst n v ++ bitsOfBytes bs)
 begunBy (Sending y n) = none
 begunBy Ignoring = none
 
@@ -32,6 +41,7 @@ abbrev pub startOf : Clock → Wires → Start
 startOf c w = record {
   wires = w;
   begun = begunBy (c .phase);
+  chip = c .store .chip;
   cells = c .store .cells;
   seconds = c .store .seconds;
   protect = c .store .protect;
@@ -39,14 +49,15 @@ startOf c w = record {
 }
 
 -- What an accepted state says of the chip and its wires.
-pub record Accepted (N : ℕ) (c : Clock) (w : Wires) : Type 0 where
-  pub phase : acceptedPhase N (c .phase) (w .enable) ≡ true
-  pub cells : length (c .store .cells) ≡ N
+pub record Accepted (c : Clock) (w : Wires) : Type 0 where
+  pub phase : acceptedPhase (c .store .chip) (c .phase) (w .enable) ≡ true
+  pub cells : length (c .store .cells) ≡ 256
+  pub unused : unusedClear (c .store) ≡ true
   pub seconds : c .store .seconds < 2 ^ 32
 
 -- The fresh machine: "undriven lines are 1".
 abbrev pub undriven : Wires
 undriven = record { enable = true; dataclock = true; dataline = true }
 
-abbrev pub freshStart : ℕ → Start
-freshStart N = startOf (freshClock N) undriven
+abbrev pub freshStart : Chip → Start
+freshStart k = startOf (freshClock k) undriven

@@ -1,8 +1,9 @@
 // The drives in an image: the bytes of each drive and of the strobe, written in their places and read back.
 ghost use mathlib.Core.Path.{_≡_};
+ghost use Prim.Native.Nat.{_≤_};
 ghost use lib.ListN.{length};
 ghost use Rattle.octets.specs.Octets.{putAt};
-ghost use Rattle.image_spec.specs.Layout.{imageLength, internalAt, externalAt, strobeAt, driveLength, strobeLength, part};
+ghost use Rattle.image_spec.specs.Layout.{tailAt, internalAt, externalAt, strobeAt, driveLength, strobeLength, part};
 ghost use Rattle.image_spec.specs.DriveLayout.{driveLayout, driveBytes, driveFields, driveOf, strobeLayout, strobeBytes, strobeFields, strobeOf, drivesOf, DrivesTyped};
 use disk_spec::Drive;
 use disk_spec::Drives;
@@ -10,9 +11,9 @@ use disk_spec::Strobe;
 use image_layout::DRIVE_LENGTH;
 use image_layout::EXTERNAL;
 use image_layout::INTERNAL;
-use image_layout::LENGTH;
 use image_layout::STROBE;
 use image_layout::STROBE_LENGTH;
+use image_layout::TAIL;
 
 fn drive_bytes(d: Drive) -> [u8; DRIVE_LENGTH]
     ensures { λ r. ⌜ r ≡ driveLayout d ⌝ }
@@ -71,7 +72,7 @@ fn strobe_of(b: [u8; STROBE_LENGTH]) -> Strobe
 }
 
 pub fn put_drives(image: &mut [u8], d: Drives)
-    requires { ⌜ length (now image) ≡ imageLength ⌝ }
+    requires { ⌜ tailAt ≤ length (now image) ⌝ }
     ensures { λ _. ⌜ now (image .exit) ≡ putAt (putAt (putAt (now (image .entry)) internalAt (driveBytes (d .internal))) externalAt (driveBytes (d .external))) strobeAt (strobeBytes (d .strobe)) ⌝ }
     ensures { λ _. ⌜ DrivesTyped d ⌝ }
 {
@@ -102,12 +103,12 @@ fn strobe(s: &[u8]) -> Strobe
 }
 
 pub fn drives(image: &[u8]) -> Drives
-    requires { ⌜ length (now image) ≡ imageLength ⌝ }
+    requires { ⌜ tailAt ≤ length (now image) ⌝ }
     ensures { λ r. ⌜ r ≡ drivesOf (part internalAt driveLength (now (image .entry))) (part externalAt driveLength (now (image .entry))) (part strobeAt strobeLength (now (image .entry))) ⌝ }
 {
     Drives {
         internal: drive(&image[INTERNAL..EXTERNAL]),
         external: drive(&image[EXTERNAL..STROBE]),
-        strobe: strobe(&image[STROBE..LENGTH]),
+        strobe: strobe(&image[STROBE..TAIL]),
     }
 }

@@ -1,10 +1,15 @@
 // The layout of a state's image: how long each part is and where it stands; the head, and the parts that are levels, put there and taken out.
 ghost use mathlib.Core.Path.{_≡_};
+ghost use Prim.Native.Nat.{_≤_};
 ghost use lib.ListN.{length};
 ghost use Rattle.octets.specs.Octets.{putAt};
-ghost use Rattle.image_spec.specs.Layout.{linesLength, inputsLength, senseLength, linesAt, inputsAt, senseAt, imageLength, part, headBytes, sameBytes};
+ghost use Rattle.image_spec.specs.Layout.{linesLength, inputsLength, senseLength, linesAt, inputsAt, senseAt, tailAt, tailLength, imageLength, part, kindBytes, headBytes, chipOf, sameBytes};
+use clock_spec::Chip;
 
-const KIND: [u8; 2] = *b"ST";
+// The kinds of images: the first chip's, and the later one's.
+const ST: [u8; 2] = *b"ST";
+
+const SX: [u8; 2] = *b"SX";
 
 // The length of each part.
 pub const HEAD_LENGTH: usize = 4;
@@ -15,7 +20,8 @@ pub const PHASE_LENGTH: usize = 4;
 
 pub const REGISTERS_LENGTH: usize = 6;
 
-pub const CELLS_LENGTH: usize = 20;
+// The cells that every chip has.
+pub const CELLS_LENGTH: usize = clock_command::FIRST_CELLS;
 
 pub const LINES_LENGTH: usize = 8;
 
@@ -48,17 +54,60 @@ pub const EXTERNAL: usize = INTERNAL + DRIVE_LENGTH;
 
 pub const STROBE: usize = EXTERNAL + DRIVE_LENGTH;
 
-pub const LENGTH: usize = STROBE + STROBE_LENGTH;
+// What the later chip's images have after what all have: its other cells and a second command byte.
+pub const TAIL: usize = STROBE + STROBE_LENGTH;
 
-// What a record's length counts: all after it.
-const AFTER: usize = LENGTH - 2;
+pub const MORE_CELLS: usize = clock_command::ALL_CELLS - clock_command::FIRST_CELLS;
+
+pub const TAIL_LENGTH: usize = MORE_CELLS + 1;
+
+// The length of the longest image.
+pub const LENGTH: usize = TAIL + TAIL_LENGTH;
+
+pub fn tail_length(chip: Chip) -> usize
+    ensures { λ r. ⌜ r ≡ tailLength chip ⌝ }
+{
+    match chip {
+        Chip::First => 0,
+        Chip::Later => TAIL_LENGTH,
+    }
+}
+
+// The length of an image by its chip.
+pub fn image_length(chip: Chip) -> usize
+    ensures { λ r. ⌜ r ≡ imageLength chip ⌝ }
+{
+    TAIL + tail_length(chip)
+}
+
+fn kind(chip: Chip) -> [u8; 2]
+    ensures { λ r. ⌜ r ≡ kindBytes chip ⌝ }
+{
+    match chip {
+        Chip::First => ST,
+        Chip::Later => SX,
+    }
+}
+
+// The chip by an image's kind.
+pub fn chip_of(image: &[u8]) -> Chip
+    requires { ⌜ tailAt ≤ length (now image) ⌝ }
+    ensures { λ r. ⌜ r ≡ chipOf (now (image .entry)) ⌝ }
+{
+    if image[3] == SX[1] {
+        return Chip::Later;
+    }
+    Chip::First
+}
 
 // The length of what follows it, and the kind.
-pub fn put_head(image: &mut [u8])
-    requires { ⌜ length (now image) ≡ imageLength ⌝ }
-    ensures { λ _. ⌜ now (image .exit) ≡ putAt (now (image .entry)) 0 headBytes ⌝ }
+pub fn put_head(image: &mut [u8], chip: Chip)
+    requires { ⌜ tailAt ≤ length (now image) ⌝ }
+    ensures { λ _. ⌜ now (image .exit) ≡ putAt (now (image .entry)) 0 (headBytes chip) ⌝ }
 {
-    let head = [(AFTER % 256) as u8, (AFTER / 256) as u8, KIND[0], KIND[1]];
+    let n = image_length(chip) - 2;
+    let k = kind(chip);
+    let head = [(n % 256) as u8, (n / 256 % 256) as u8, k[0], k[1]];
     octets::copy(image, 0, &head);
 }
 
@@ -69,7 +118,7 @@ pub fn put_levels(
     inputs: [u8; INPUTS_LENGTH],
     sense: [u8; SENSE_LENGTH],
 )
-    requires { ⌜ length (now image) ≡ imageLength ⌝ }
+    requires { ⌜ tailAt ≤ length (now image) ⌝ }
     ensures { λ _. ⌜ now (image .exit) ≡ putAt (putAt (putAt (now (image .entry)) linesAt lines) inputsAt inputs) senseAt sense ⌝ }
 {
     octets::copy(image, LINES, &lines);
@@ -78,7 +127,7 @@ pub fn put_levels(
 }
 
 pub fn lines(image: &[u8]) -> [u8; LINES_LENGTH]
-    requires { ⌜ length (now image) ≡ imageLength ⌝ }
+    requires { ⌜ tailAt ≤ length (now image) ⌝ }
     ensures { λ r. ⌜ r ≡ part linesAt linesLength (now (image .entry)) ⌝ }
 {
     let mut own = [0; LINES_LENGTH];
@@ -87,7 +136,7 @@ pub fn lines(image: &[u8]) -> [u8; LINES_LENGTH]
 }
 
 pub fn inputs(image: &[u8]) -> [u8; INPUTS_LENGTH]
-    requires { ⌜ length (now image) ≡ imageLength ⌝ }
+    requires { ⌜ tailAt ≤ length (now image) ⌝ }
     ensures { λ r. ⌜ r ≡ part inputsAt inputsLength (now (image .entry)) ⌝ }
 {
     let mut own = [0; INPUTS_LENGTH];
@@ -96,7 +145,7 @@ pub fn inputs(image: &[u8]) -> [u8; INPUTS_LENGTH]
 }
 
 pub fn sense(image: &[u8]) -> [u8; SENSE_LENGTH]
-    requires { ⌜ length (now image) ≡ imageLength ⌝ }
+    requires { ⌜ tailAt ≤ length (now image) ⌝ }
     ensures { λ r. ⌜ r ≡ part senseAt senseLength (now (image .entry)) ⌝ }
 {
     let mut own = [0; SENSE_LENGTH];

@@ -1,43 +1,155 @@
 -- The clock's parts: as long as the layout says, and read back what was written.
-use Prim.Native.Nat.{ℕ}
-use mathlib.Core.Path.{_≡_, refl}
-use mathlib.Core.List.{List}
-use lib.ListN.{length}
+use Prim.Native.Nat.{ℕ, _+_, _≤_, _<_}
+use mathlib.Core.Path.{_≡_, refl, sym, ap, ap₂, subst, _∙_}
+use mathlib.Core.Bool.{Bool, true, false, _&&_, not, false≢true}
+use mathlib.Core.List.{List, [], _∷_, _++_}
+use native.Mathlib.Omega.{arith}
+use native.Mathlib.Nat.{le-of-eq}
+use lib.Dec.{ltb}
+use lib.ListN.{length, getD, take, drop, replicate, length-append, length-drop, length-replicate, take-append-drop}
+use lib.Seq.{take-all, take-at, getD-at, length-take-le}
+use borrow.Author.Tests.{ltb-true}
+use Rattle.levels.specs.Levels.{allBelow}
+use Rattle.levels.proofs.Laws.{both}
+use Rattle.octets.specs.Octets.{putAt}
+use Rattle.octets.proofs.Laws.{put-length}
+use Rattle.clock_spec.specs.Command.{cellsOf, Legal}
+use Rattle.clock_spec.specs.Patterns.{meant}
+use Rattle.clock_spec.specs.Phase.{bySecond, hear, isMore, fewBits, moreFollows, acceptedPhase}
+use Rattle.clock_spec.specs.Store.{unusedClear}
+use Rattle.clock_spec.proofs.CommandRange.{meant-legal}
+use Rattle.clock_spec.specs.declared.Chip.{Chip}
+use Rattle.clock_spec.specs.declared.Chip.the-variants.{First, Later}
+use Rattle.clock_spec.specs.declared.Command.{Command}
+use Rattle.clock_spec.specs.declared.Command.the-variants.{Write, Read, Extended, Illegal}
+use Rattle.clock_spec.specs.declared.Bytes.{Bytes}
+use Rattle.clock_spec.specs.declared.Bytes.the-variants.{Nothing, One, Two}
 use Rattle.clock_spec.specs.declared.Phase.{Phase}
-use Rattle.clock_spec.specs.declared.Phase.the-variants.{Idle, Listening, Taking, Sending, Ignoring}
+use Rattle.clock_spec.specs.declared.Phase.the-variants.{Idle, Listening, Sending, Ignoring}
 use Rattle.clock_spec.specs.declared.Store.{Store}
 use Rattle.clock.specs.declared.Clock.{Clock}
-use Rattle.image_spec.specs.Layout.{phaseLength, registersLength, cellsLength}
+use Rattle.image_spec.specs.Layout.{phaseLength, registersLength, cellsLength, moreCells, tailLength}
 use Rattle.image_spec.proofs.Numbers.{flag-back, back32, width32}
-use Rattle.image_spec.specs.ClockLayout.{phaseBytes, phaseBy, phaseOf, registerBytes, storeOf, clockOf, StoreTyped}
+use Rattle.image_spec.proofs.Parts.{whole}
+use Rattle.image_spec.specs.ClockLayout.{phaseBytes, secondByte, phaseBy, phaseOf, tailRoom, tailBytes, tailOf, registerBytes, storeOf, cellsRead, clockOf, StoreTyped}
 
 pub phase-long : (p : Phase) → length (phaseBytes p) ≡ phaseLength
 unfolding phaseBytes
 phase-long Idle = refl
-phase-long (Listening n v) = refl
-phase-long (Taking c n v) = refl
+phase-long (Listening Nothing n v) = refl
+phase-long (Listening (One c) n v) = refl
+phase-long (Listening (Two c d) n v) = refl
 phase-long (Sending y n) = refl
 phase-long Ignoring = refl
 
-pub phase-back : (p : Phase) → phaseOf (phaseBytes p) ≡ p
-unfolding phaseBy phaseBytes
+phase-back : (p : Phase) → phaseOf (phaseBytes p) (secondByte p) ≡ p
+unfolding phaseBy phaseBytes secondByte
 phase-back Idle = refl
-phase-back (Listening n v) = refl
-phase-back (Taking c n v) = refl
+phase-back (Listening Nothing n v) = refl
+phase-back (Listening (One c) n v) = refl
+phase-back (Listening (Two c d) n v) = refl
 phase-back (Sending y n) = refl
 phase-back Ignoring = refl
+
+-- ---- the first chip has no second command byte
+
+abbrev isFirst : Chip → Bool
+isFirst First = true
+isFirst Later = false
+
+none-follows : (c : Command) (d : ℕ) → Legal First c → isMore (bySecond c d) ≡ true → ⊥
+none-follows (Write t) d l h = false≢true h
+none-follows (Read t) d l h = false≢true h
+none-follows (Extended z a) d l h = false≢true (sym (ap isFirst (l .0)))
+none-follows Illegal d l h = false≢true h
+
+no-second : (p : Phase) (e : Bool) → acceptedPhase First p e ≡ true → secondByte p ≡ 0
+unfolding acceptedPhase secondByte moreFollows hear
+no-second Idle e h = refl
+no-second (Listening Nothing n v) e h = refl
+no-second (Listening (One c) n v) e h = refl
+no-second (Listening (Two c d) n v) e h =
+    let f : moreFollows First (Two c d) ≡ true = both (moreFollows First (Two c d)) (fewBits n v) (both (not e) (moreFollows First (Two c d) && fewBits n v) h .1) .0 in
+    absurd (none-follows (meant First c) d (meant-legal First c) (both (ltb c 256 && ltb d 256) (isMore (hear First (One c) d)) f .1))
+no-second (Sending y n) e h = refl
+no-second Ignoring e h = refl
+
+-- ---- the tail
+
+pub tail-long : (k : Chip) (p : Phase) (cells : List ℕ) → length cells ≡ 256 → length (tailBytes k p cells) ≡ tailLength k
+unfolding tailBytes
+tail-long First p cells l = refl
+tail-long Later p cells l =
+    let n : length (tailRoom p cells) ≡ 237 = omega (arith, length-append (drop cellsLength cells) (secondByte p ∷ []), length-drop cellsLength cells) in
+    ap length (take-all 237 (tailRoom p cells) (le-of-eq n)) ∙ n
+
+zeros : (l : List ℕ) → allBelow 1 l ≡ true → l ≡ replicate (length l) 0
+unfolding allBelow
+zeros [] h = refl
+zeros (x ∷ l) h =
+    let p = both (ltb x 1) (allBelow 1 l) h in
+    let z : x ≡ 0 = omega (arith, ltb-true x 1 (p .0)) in
+    ap₂ (λ (y : ℕ) (r : List ℕ). y ∷ r) z (zeros l (p .1))
+
+-- What is read of the tail that was written.
+pub record TailBack (k : Chip) (p : Phase) (cells : List ℕ) : Type 0 where
+  pub more : take moreCells (tailOf (tailBytes k p cells)) ≡ drop (cellsOf First) cells
+  pub second : getD (tailOf (tailBytes k p cells)) moreCells 0 ≡ secondByte p
+
+tail-back : (k : Chip) (p : Phase) (e : Bool) (cells : List ℕ) → length cells ≡ 256 → allBelow 1 (drop (cellsOf k) cells) ≡ true → acceptedPhase k p e ≡ true
+    → TailBack k p cells
+unfolding tailBytes tailOf
+tail-back First p e cells l u a =
+    let n : length (drop cellsLength cells) ≡ 236 = omega (arith, length-drop cellsLength cells) in
+    record {
+      more = sym (zeros (drop cellsLength cells) u ∙ ap (λ (j : ℕ). replicate j 0) n);
+      second = sym (no-second p e a);
+    }
+tail-back Later p e cells l u a =
+    let n : length (drop cellsLength cells) ≡ 236 = omega (arith, length-drop cellsLength cells) in
+    let m : length (tailRoom p cells) ≡ 237 = omega (arith, length-append (drop cellsLength cells) (secondByte p ∷ [])) in
+    let t : take 237 (tailRoom p cells) ≡ tailRoom p cells = take-all 237 (tailRoom p cells) (le-of-eq m) in
+    let w : putAt (replicate 237 0) 0 (take 237 (tailRoom p cells)) ≡ tailRoom p cells =
+    ap (putAt (replicate 237 0) 0) t ∙ whole (replicate 237 0) (tailRoom p cells) (length-replicate {A = ℕ} 237 0 ∙ sym m) in
+    record {
+      more = ap (take 236) w ∙ take-at (drop cellsLength cells) (secondByte p ∷ []) 236 n;
+      second = ap (λ (x : List ℕ). getD x 236 0) w ∙ getD-at (drop cellsLength cells) (secondByte p) [] 0 236 n;
+    }
+
+-- ---- the whole
 
 pub registers-long : (s : Store) → length (registerBytes s) ≡ registersLength
 unfolding registerBytes
 registers-long s = refl
 
-pub store-back : (s : Store) → StoreTyped s → storeOf (registerBytes s) (s .cells) ≡ s
+store-back : (s : Store) → StoreTyped s → storeOf (s .chip) (registerBytes s) (s .cells) ≡ s
 unfolding registerBytes storeOf
 store-back s t = simp (back32 (s .seconds) (t .0), flag-back)
 
-pub clock-back : (c : Clock) → StoreTyped (c .store) → clockOf (phaseBytes (c .phase)) (registerBytes (c .store)) (c .store .cells) ≡ c
-clock-back c t = simp (phase-back (c .phase), store-back (c .store) t)
+pub clock-back : (c : Clock) (e : Bool) → StoreTyped (c .store) → acceptedPhase (c .store .chip) (c .phase) e ≡ true → unusedClear (c .store) ≡ true
+    → clockOf (c .store .chip) (phaseBytes (c .phase)) (registerBytes (c .store)) (take cellsLength (c .store .cells)) (tailBytes (c .store .chip) (c .phase) (c .store .cells)) ≡ c
+unfolding unusedClear clockOf
+clock-back c e t a u =
+    let b = tail-back (c .store .chip) (c .phase) e (c .store .cells) (t .1) u a in
+    let cells : cellsRead (take cellsLength (c .store .cells)) (tailBytes (c .store .chip) (c .phase) (c .store .cells)) ≡ c .store .cells =
+    ap (λ (x : List ℕ). take cellsLength (c .store .cells) ++ x) (b .more) ∙ take-append-drop cellsLength (c .store .cells) in
+    ap₂ (λ (p : Phase) (s : Store). record { phase = p; store = s })
+    (ap (phaseOf (phaseBytes (c .phase))) (b .second) ∙ phase-back (c .phase))
+    (ap (storeOf (c .store .chip) (registerBytes (c .store))) cells ∙ store-back (c .store) t)
 
-pub store-typed : (b cells : List ℕ) → length cells ≡ cellsLength → StoreTyped (storeOf b cells)
+pub store-typed : (k : Chip) (b cells : List ℕ) → length cells ≡ 256 → StoreTyped (storeOf k b cells)
 unfolding storeOf
-store-typed b cells e = (width32 b 2, e)
+store-typed k b cells e = (width32 b 2, e)
+
+pub tail-most : (k : Chip) → tailLength k ≤ moreCells + 1
+tail-most First = omega arith
+tail-most Later = omega arith
+
+-- Cells are read as many as the struct has.
+pub read-long : (k : Chip) (first t : List ℕ) → length first ≡ cellsLength → length t ≡ tailLength k → length (cellsRead first t) ≡ 256
+unfolding tailOf
+read-long k first t l h =
+    let r : List ℕ = replicate 237 0 in
+    let n : length r ≡ 237 = length-replicate {A = ℕ} 237 0 in
+    let q : length (putAt r 0 t) ≡ 237 = put-length r 0 t (omega (arith, tail-most k)) ∙ n in
+    omega (arith, length-append first (take 236 (putAt r 0 t)), length-take-le 236 (putAt r 0 t) (omega arith))

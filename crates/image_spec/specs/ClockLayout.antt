@@ -1,35 +1,67 @@
 -- The clock's parts of an image: the half-made command, the registers and the cells; their layout, and how they are read.
-use Prim.Native.Nat.{ℕ, _<_}
+use Prim.Native.Nat.{ℕ, _+_, _<_}
 use mathlib.Core.Path.{_≡_}
 use mathlib.Core.Bool.{cond}
 use mathlib.Core.List.{List, [], _∷_, _++_}
-use lib.ListN.{length, getD}
+use lib.ListN.{length, getD, take, drop, replicate}
 use lib.Dec.{eqb}
+use Rattle.octets.specs.Octets.{putAt}
+use Rattle.clock_spec.specs.Command.{cellsOf}
+use Rattle.clock_spec.specs.declared.Chip.{Chip}
+use Rattle.clock_spec.specs.declared.Chip.the-variants.{First}
+use Rattle.clock_spec.specs.declared.Bytes.{Bytes}
+use Rattle.clock_spec.specs.declared.Bytes.the-variants.{Nothing, One, Two}
 use Rattle.clock_spec.specs.declared.Phase.{Phase}
-use Rattle.clock_spec.specs.declared.Phase.the-variants.{Idle, Listening, Taking, Sending, Ignoring}
+use Rattle.clock_spec.specs.declared.Phase.the-variants.{Idle, Listening, Sending, Ignoring}
 use Rattle.clock_spec.specs.declared.Store.{Store}
 use Rattle.clock.specs.declared.Clock.{Clock}
-use Rattle.image_spec.specs.Layout.{cellsLength, bytes32, flagByte, number32, flagAt}
+use Rattle.image_spec.specs.Layout.{moreCells, tailLength, bytes32, flagByte, number32, flagAt}
 
--- The half-made command: which phase, the write command, bits taken or falls, their value or the byte sent. "Room not in use holds 0."
+-- The half-made command: which phase, the first command byte, bits taken or falls, their value or the byte sent. "Room not in use holds 0."
 unfoldable pub phaseBytes : Phase → List ℕ
 phaseBytes Idle = 0 ∷ 0 ∷ 0 ∷ 0 ∷ []
-phaseBytes (Listening n v) = 1 ∷ 0 ∷ n ∷ v ∷ []
-phaseBytes (Taking c n v) = 2 ∷ c ∷ n ∷ v ∷ []
+phaseBytes (Listening Nothing n v) = 1 ∷ 0 ∷ n ∷ v ∷ []
+phaseBytes (Listening (One c) n v) = 2 ∷ c ∷ n ∷ v ∷ []
+phaseBytes (Listening (Two c d) n v) = 5 ∷ c ∷ n ∷ v ∷ []
 phaseBytes (Sending y n) = 3 ∷ 0 ∷ n ∷ y ∷ []
 phaseBytes Ignoring = 4 ∷ 0 ∷ 0 ∷ 0 ∷ []
 
--- By the phase's number, the command, the count and the value.
-unfoldable pub phaseBy : ℕ → ℕ → ℕ → ℕ → Phase
-phaseBy k c n v =
-    cond (eqb k 0) Idle
-    (cond (eqb k 1) (Listening n v)
-    (cond (eqb k 2) (Taking c n v)
-    (cond (eqb k 3) (Sending v n)
-    Ignoring)))
+-- Its second command byte.
+abbrev pub secondIn : Bytes → ℕ
+secondIn Nothing = 0
+secondIn (One c) = 0
+secondIn (Two c d) = d
 
-abbrev pub phaseOf : List ℕ → Phase
-phaseOf b = phaseBy (getD b 0 0) (getD b 1 0) (getD b 2 0) (getD b 3 0)
+unfoldable pub secondByte : Phase → ℕ
+secondByte Idle = 0
+secondByte (Listening bs n v) = secondIn bs
+secondByte (Sending y n) = 0
+secondByte Ignoring = 0
+
+-- By the phase's number, the command bytes, the count and the value.
+unfoldable pub phaseBy : ℕ → ℕ → ℕ → ℕ → ℕ → Phase
+phaseBy k c d n v =
+    cond (eqb k 0) Idle
+    (cond (eqb k 1) (Listening Nothing n v)
+    (cond (eqb k 2) (Listening (One c) n v)
+    (cond (eqb k 3) (Sending v n)
+    (cond (eqb k 5) (Listening (Two c d) n v)
+    Ignoring))))
+
+abbrev pub phaseOf : List ℕ → ℕ → Phase
+phaseOf b d = phaseBy (getD b 0 0) (getD b 1 0) d (getD b 2 0) (getD b 3 0)
+
+-- W-206: what an image of kind SX has more: the cells that the first chip does not have, and the second command byte.
+abbrev pub tailRoom : Phase → List ℕ → List ℕ
+tailRoom p cells = drop (cellsOf First) cells ++ (secondByte p ∷ [])
+
+-- So much of it as the kind has.
+unfoldable pub tailBytes : Chip → Phase → List ℕ → List ℕ
+tailBytes k p cells = take (tailLength k) (tailRoom p cells)
+
+-- The same as it is read: what an image does not have is 0.
+unfoldable pub tailOf : List ℕ → List ℕ
+tailOf t = putAt (replicate (moreCells + 1) 0) 0 t
 
 -- Protect, test and seconds.
 abbrev pub registerLayout : Store → List ℕ
@@ -40,9 +72,10 @@ unfoldable pub registerBytes : Store → List ℕ
 registerBytes s = registerLayout s
 
 -- The registers as they are read, and the cells as they stand.
-abbrev pub storeFields : List ℕ → List ℕ → Store
-storeFields b cells =
+abbrev pub storeFields : Chip → List ℕ → List ℕ → Store
+storeFields k b cells =
     record {
+      chip = k;
       cells = cells;
       seconds = number32 b 2;
       protect = flagAt b 0;
@@ -50,13 +83,17 @@ storeFields b cells =
     }
 
 -- The same, opened only where a proof asks for it.
-unfoldable pub storeOf : List ℕ → List ℕ → Store
-storeOf b cells = storeFields b cells
+unfoldable pub storeOf : Chip → List ℕ → List ℕ → Store
+storeOf k b cells = storeFields k b cells
 
--- The clock of its three parts.
-abbrev pub clockOf : List ℕ → List ℕ → List ℕ → Clock
-clockOf p b cells = record { phase = phaseOf p; store = storeOf b cells }
+-- The cells that every chip has, and the others.
+abbrev pub cellsRead : List ℕ → List ℕ → List ℕ
+cellsRead first t = first ++ take moreCells (tailOf t)
+
+-- The clock of its parts.
+unfoldable pub clockOf : Chip → List ℕ → List ℕ → List ℕ → List ℕ → Clock
+clockOf k p b first t = record { phase = phaseOf p (getD (tailOf t) moreCells 0); store = storeOf k b (cellsRead first t) }
 
 -- What the struct's type says of its numbers and cells.
 abbrev pub StoreTyped : Store → Type 0
-StoreTyped s = (s .seconds < 4294967296) × (length (s .cells) ≡ cellsLength)
+StoreTyped s = (s .seconds < 4294967296) × (length (s .cells) ≡ 256)

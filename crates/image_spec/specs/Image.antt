@@ -1,15 +1,16 @@
--- The image of a state: request W-201, "one record of kind ST, its layout written in docs/, one image for each accepted state".
+-- The image of a state: request W-201, "one record of kind ST, its layout written in docs/, one image for each accepted state"; W-206: of kind SX for
+-- the later chip.
 use Prim.Native.Nat.{ℕ, _<_}
 use mathlib.Core.Path.{_≡_}
 use mathlib.Core.Bool.{Bool, false, cond, _&&_}
 use mathlib.Core.List.{List, _++_}
-use lib.ListN.{length}
-use lib.Dec.{eqb}
+use lib.ListN.{length, take}
+use lib.Dec.{eqb, ltb}
 use Rattle.image_spec.specs.Layout.{viaLength, phaseLength, registersLength, cellsLength, linesLength, inputsLength, senseLength, driveLength, strobeLength}
-use Rattle.image_spec.specs.Layout.{viaAt, phaseAt, registersAt, cellsAt, linesAt, inputsAt, senseAt, internalAt, externalAt, strobeAt, part, headBytes, sameBytes}
+use Rattle.image_spec.specs.Layout.{viaAt, phaseAt, registersAt, cellsAt, linesAt, inputsAt, senseAt, internalAt, externalAt, strobeAt, tailAt, tailLength, part, headBytes, chipOf, sameBytes}
 pub use Rattle.image_spec.specs.Layout.{imageLength}
 use Rattle.image_spec.specs.ViaLayout.{viaBytes, viaOf, ViaTyped}
-use Rattle.image_spec.specs.ClockLayout.{phaseBytes, registerBytes, clockOf}
+use Rattle.image_spec.specs.ClockLayout.{phaseBytes, registerBytes, tailBytes, clockOf}
 use Rattle.image_spec.specs.DriveLayout.{driveBytes, strobeBytes, drivesOf, DrivesTyped}
 use Rattle.disk_lines.specs.Lines.{lineLevels, linesOf}
 use Rattle.machine_spec.specs.declared.Machine.{Machine}
@@ -18,40 +19,42 @@ use Rattle.machine_spec.specs.Machine.{acceptedOf}
 -- The parts in their order.
 unfoldable pub imageOf : Machine → List ℕ
 imageOf m =
-    headBytes
+    headBytes (m .clock .store .chip)
     ++ viaBytes (m .via)
     ++ phaseBytes (m .clock .phase)
     ++ registerBytes (m .clock .store)
-    ++ m .clock .store .cells
+    ++ take cellsLength (m .clock .store .cells)
     ++ lineLevels (m .disk)
     ++ m .inputs
     ++ m .sense
     ++ driveBytes (m .drives .internal)
     ++ driveBytes (m .drives .external)
     ++ strobeBytes (m .drives .strobe)
+    ++ tailBytes (m .clock .store .chip) (m .clock .phase) (m .clock .store .cells)
 
 -- The state of an image.
 unfoldable pub machineOf : List ℕ → Machine
 machineOf s =
     record {
       via = viaOf (part viaAt viaLength s);
-      clock = clockOf (part phaseAt phaseLength s) (part registersAt registersLength s) (part cellsAt cellsLength s);
+      clock = clockOf (chipOf s) (part phaseAt phaseLength s) (part registersAt registersLength s) (part cellsAt cellsLength s) (part tailAt (tailLength (chipOf s)) s);
       disk = linesOf (part linesAt linesLength s);
       inputs = part inputsAt inputsLength s;
       sense = part senseAt senseLength s;
       drives = drivesOf (part internalAt driveLength s) (part externalAt driveLength s) (part strobeAt strobeLength s);
     }
 
--- "An image that no accepted state has gets refusal 7": the right length, the very bytes of the state that it stands for, and that state accepted.
+-- "An image that no accepted state has gets refusal 7": the length of its kind, the very bytes of the state that it stands for, and that state accepted.
 unfoldable pub validImage : List ℕ → Bool
 validImage s =
-    cond (eqb (length s) imageLength) (sameBytes (imageOf (machineOf s)) s && acceptedOf (machineOf s)) false
+    cond (ltb (length s) tailAt) false
+    (cond (eqb (length s) (imageLength (chipOf s))) (sameBytes (imageOf (machineOf s)) s && acceptedOf (machineOf s)) false)
 
 -- What the struct's type says of a machine's arrays and numbers, so far as an image rests on it.
 pub record Typed (m : Machine) : Type 0 where
   pub via : ViaTyped (m .via)
   pub seconds : m .clock .store .seconds < 4294967296
-  pub cells : length (m .clock .store .cells) ≡ cellsLength
+  pub cells : length (m .clock .store .cells) ≡ 256
   pub lines : m .disk .lines < 256
   pub inputs : length (m .inputs) ≡ inputsLength
   pub sense : length (m .sense) ≡ senseLength

@@ -1,10 +1,13 @@
--- The layout of a state's image: request W-201, "one record of kind ST, its layout written in docs/".
+-- The layout of a state's image: request W-201, "one record of kind ST, its layout written in docs/"; W-206: or of kind SX.
 use Prim.Native.Nat.{ℕ, _+_, _-_, _*_, _/_, _%_}
-use mathlib.Core.Bool.{Bool, true, false, _&&_}
+use mathlib.Core.Bool.{Bool, true, false, cond, _&&_}
 use mathlib.Core.List.{List, [], _∷_, _++_}
 use lib.ListN.{getD, take, drop}
 use lib.Dec.{eqb}
 use mir.Val.{boolByte}
+use Rattle.clock_spec.specs.Command.{cellsOf}
+use Rattle.clock_spec.specs.declared.Chip.{Chip}
+use Rattle.clock_spec.specs.declared.Chip.the-variants.{First, Later}
 
 -- ---- the length of each part
 
@@ -22,8 +25,9 @@ phaseLength = 4
 abbrev pub registersLength : ℕ
 registersLength = 6
 
+-- the cells that every chip has
 abbrev pub cellsLength : ℕ
-cellsLength = 20
+cellsLength = cellsOf First
 
 abbrev pub linesLength : ℕ
 linesLength = 8
@@ -72,8 +76,19 @@ externalAt = internalAt + driveLength
 abbrev pub strobeAt : ℕ
 strobeAt = externalAt + driveLength
 
-abbrev pub imageLength : ℕ
-imageLength = strobeAt + strobeLength
+-- W-206: after what both kinds have, an image of kind SX has the later chip's other cells and a second command byte.
+abbrev pub tailAt : ℕ
+tailAt = strobeAt + strobeLength
+
+abbrev pub moreCells : ℕ
+moreCells = cellsOf Later - cellsOf First
+
+abbrev pub tailLength : Chip → ℕ
+tailLength First = 0
+tailLength Later = moreCells + 1
+
+abbrev pub imageLength : Chip → ℕ
+imageLength k = tailAt + tailLength k
 
 -- The n bytes from `at` on.
 abbrev pub part : ℕ → ℕ → List ℕ → List ℕ
@@ -107,9 +122,22 @@ flagAt s i = eqb (getD s i 0) 1
 
 -- ---- the head
 
--- "A record is a length (2 bytes, counting what follows it), a kind (2 bytes), a body." S is 83, T 84.
-unfoldable pub headBytes : List ℕ
-headBytes = bytes16 (imageLength - 2) ++ (83 ∷ 84 ∷ [])
+-- "Its images are of kind SX, those with 20 cells of kind ST": the kind's second letter, T 84 or X 88.
+abbrev pub kindLetter : Chip → ℕ
+kindLetter First = 84
+kindLetter Later = 88
+
+-- S is 83.
+abbrev pub kindBytes : Chip → List ℕ
+kindBytes k = 83 ∷ kindLetter k ∷ []
+
+-- "A record is a length (2 bytes, counting what follows it), a kind (2 bytes), a body."
+unfoldable pub headBytes : Chip → List ℕ
+headBytes k = bytes16 (imageLength k - 2) ++ kindBytes k
+
+-- The chip by an image's kind.
+abbrev pub chipOf : List ℕ → Chip
+chipOf s = cond (eqb (getD s 3 0) (kindLetter Later)) Later First
 
 -- ---- the same bytes
 

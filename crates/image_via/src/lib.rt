@@ -1,8 +1,9 @@
 // The VIA in an image: its bytes, written in their place and read back.
 ghost use mathlib.Core.Path.{_≡_};
+ghost use Prim.Native.Nat.{_≤_};
 ghost use lib.ListN.{length};
 ghost use Rattle.octets.specs.Octets.{putAt};
-ghost use Rattle.image_spec.specs.Layout.{imageLength, viaAt, viaLength, part};
+ghost use Rattle.image_spec.specs.Layout.{tailAt, viaAt, viaLength, part};
 ghost use Rattle.image_spec.specs.ViaLayout.{viaLayout, viaBytes, viaFields, viaOf, ViaTyped};
 use image_layout::PHASE;
 use image_layout::VIA;
@@ -70,7 +71,7 @@ fn via_of(b: [u8; VIA_LENGTH]) -> Via
 }
 
 pub fn put_via(image: &mut [u8], v: Via)
-    requires { ⌜ length (now image) ≡ imageLength ⌝ }
+    requires { ⌜ tailAt ≤ length (now image) ⌝ }
     ensures { λ _. ⌜ now (image .exit) ≡ putAt (now (image .entry)) viaAt (viaBytes v) ⌝ }
     ensures { λ _. ⌜ ViaTyped v ⌝ }
 {
@@ -79,7 +80,7 @@ pub fn put_via(image: &mut [u8], v: Via)
 }
 
 pub fn via(image: &[u8]) -> Via
-    requires { ⌜ length (now image) ≡ imageLength ⌝ }
+    requires { ⌜ tailAt ≤ length (now image) ⌝ }
     ensures { λ r. ⌜ r ≡ viaOf (part viaAt viaLength (now (image .entry))) ⌝ }
 {
     let mut b = [0; VIA_LENGTH];

@@ -4,7 +4,11 @@ use mathlib.Core.Bool.{Bool, true, _&&_}
 use mathlib.Core.List.{List, [], _∷_}
 use lib.Dec.{ltb}
 
+-- Every number of the list is below n.
+unfoldable pub allBelow : ℕ → List ℕ → Bool
+allBelow n [] = true
+allBelow n (x ∷ xs) = ltb x n && allBelow n xs
+
 -- Every number of the list is a level, 0 or 1.
-unfoldable pub allLevels : List ℕ → Bool
-allLevels [] = true
-allLevels (x ∷ xs) = ltb x 2 && allLevels xs
+abbrev pub allLevels : List ℕ → Bool
+allLevels s = allBelow 2 s

@@ -1,14 +1,15 @@
 // The fresh machine, and whether a state is accepted.
 ghost use mathlib.Core.Path.{_≡_};
 ghost use Rattle.machine_spec.specs.Machine.{acceptedOf, freshMachine};
+use clock_spec::Chip;
 use machine_spec::Machine;
 
-pub fn fresh() -> Machine
-    ensures { λ r. ⌜ r ≡ freshMachine ⌝ }
+pub fn fresh(chip: Chip) -> Machine
+    ensures { λ r. ⌜ r ≡ freshMachine chip ⌝ }
 {
     Machine {
         via: via::fresh(),
-        clock: clock::fresh(),
+        clock: clock::fresh(chip),
         disk: disk_lines::off(),
         inputs: [1, 1, 1, 1, 1, 0, 0],
         sense: [1; 32],
@@ -24,11 +25,14 @@ pub fn accepted(m: Machine) -> bool
     let sense = m.sense;
     let c = m.clock;
     let p = c.phase;
+    let t = c.store;
+    let chip = t.chip;
     let w = machine_pins::wires(m);
     let b = levels::all_levels(&inputs);
     let s = levels::all_levels(&sense);
     let v = via_flags::accepted(m.via);
-    let k = clock_phase::accepted_phase(p, w.enable);
+    let k = clock_phase::accepted_phase(chip, p, w.enable);
+    let u = clock_store::unused_clear(t);
     let g = disk_drives::accepted(m.drives, machine_pins::watched(m));
-    b & s & v & k & g
+    b & s & v & (k & u) & g
 }

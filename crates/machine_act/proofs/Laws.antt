@@ -8,22 +8,21 @@ use Rattle.via.specs.Writes.{portsWritten}
 use Rattle.machine_spec.specs.Pins.{wiresOf}
 use Rattle.clock_spec.specs.declared.Phase.{Phase}
 use Rattle.clock_spec.specs.declared.Wires.{Wires}
-use Rattle.clock_spec.specs.Phase.{acceptedPhase}
 use Rattle.clock.specs.declared.Clock.{Clock}
 use Rattle.clock.specs.Step.{stepWires}
 use Rattle.clock.proofs.Keep.{still}
 use Rattle.item_spec.specs.declared.Item.{Item}
 use Rattle.machine_spec.specs.declared.Machine.{Machine}
-use Rattle.machine_spec.specs.Machine.{withClock, wires, cellCount}
+use Rattle.machine_spec.specs.Machine.{withClock, wires}
 use Rattle.machine_spec.specs.Action.{actedOf}
-use Rattle.machine_spec.proofs.Action.{acted-phase}
+use Rattle.machine_spec.proofs.Action.{acted-accepted}
 use Rattle.machine_act.specs.Parts.{clockedOf, PhaseAccepted}
 
 pub quietly : (x : Machine) (i : Item) (y : Machine) → PhaseAccepted x → y ≡ actedOf x i .machine → wires (actedOf x i .machine) ≡ wires x → y ≡ clockedOf x i
 quietly x i y h e p =
     let z = actedOf x i .machine in
-    e ∙ sym (ap (λ (w : Wires). withClock z (stepWires cellCount (z .clock) (wires x) w)) p
-    ∙ ap (λ (c : Clock). withClock z c) (still cellCount (z .clock) (wires x) (ap (λ (f : Phase). acceptedPhase cellCount f (wires x .enable)) (acted-phase x i) ∙ h)))
+    e ∙ sym (ap (λ (w : Wires). withClock z (stepWires (z .clock) (wires x) w)) p
+    ∙ ap (λ (c : Clock). withClock z c) (still (z .clock) (wires x) (acted-accepted x i (wires x .enable) ∙ h)))
 
 -- A register other than port B's output and direction moves no wire of the clock.
 pub other-register : (r v : ℕ) (p : Ports) (line : Bool) → eqb r 0 ≡ false → eqb r 2 ≡ false → wiresOf (portsWritten r v p) line ≡ wiresOf p line

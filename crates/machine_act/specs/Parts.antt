@@ -14,7 +14,7 @@ use Rattle.clock_parts.specs.Parts.{wholeClock}
 use Rattle.disk_spec.specs.declared.Drives.{Drives}
 use Rattle.item_spec.specs.declared.Item.{Item}
 use Rattle.machine_spec.specs.declared.Machine.{Machine}
-use Rattle.machine_spec.specs.Machine.{withVia, withInputs, withDisk, wires, cellCount}
+use Rattle.machine_spec.specs.Machine.{withVia, withInputs, withDisk, wires}
 use Rattle.machine_spec.specs.Stages.{afterWires}
 use Rattle.machine_spec.specs.Action.{actedOf}
 use Rattle.machine_act.specs.declared.Acted.{Acted}
@@ -29,7 +29,7 @@ wholeMachine m k cells d sense = record { via = m .via; clock = wholeClock k cel
 
 -- The clock's phase goes with its wires, as in every accepted state.
 abbrev pub PhaseAccepted : Machine → Type 0
-PhaseAccepted m = acceptedPhase cellCount (m .clock .phase) (wires m .enable) ≡ true
+PhaseAccepted m = acceptedPhase (m .clock .store .chip) (m .clock .phase) (wires m .enable) ≡ true
 
 -- ---- a change
 

@@ -17,7 +17,7 @@ ghost use Rattle.via.specs.Writes.{portsWritten, viaWritten};
 ghost use Rattle.machine_spec.specs.Pins.{wiresOf, selOf};
 ghost use Rattle.machine_spec.specs.Wiring.{inputsOf};
 ghost use Rattle.machine_spec.specs.declared.Machine.{Machine};
-ghost use Rattle.machine_spec.specs.Machine.{withVia, Levels, cellCount};
+ghost use Rattle.machine_spec.specs.Machine.{withVia, Levels};
 ghost use Rattle.machine_spec.specs.Stages.{itemWait};
 ghost use Rattle.machine_spec.specs.Action.{actedOf};
 ghost use Rattle.machine_act.specs.Parts.{wholeMachine, machineChange, senseChange, machineAfter, clockedOf, ChangeInRange, PhaseAccepted};
@@ -56,7 +56,7 @@ pub struct Acted {
 }
 
 // The machine put together: m, with its clock, its drives and its sense registers taken from beside it.
-pub fn whole_machine(m: Machine, k: Core, cells: [u8; 20], d: Drives, sense: [u8; 32]) -> Machine
+pub fn whole_machine(m: Machine, k: Core, cells: [u8; 256], d: Drives, sense: [u8; 32]) -> Machine
     ensures { λ r. ⌜ r ≡ wholeMachine m k cells d sense ⌝ }
 {
     let v = m.via;
@@ -117,9 +117,9 @@ fn iwm_value(d: DiskLines, drives: Drives, location: u8, ports: Ports, sense: &[
 }
 
 // The clock's look at its wires, where a VIA register is written: port B's output and its direction alone move them.
-fn clocked(k: Core, ports: Ports, register: u8, value: u8, cells: &mut [u8; 20]) -> Core
-    requires { ⌜ acceptedPhase cellCount (k .phase) (wiresOf ports (shownLevel (k .phase)) .enable) ≡ true ⌝ }
-    ensures { λ r. ⌜ wholeClock r (now (cells .exit)) ≡ stepWires cellCount (wholeClock k (now (cells .entry))) (wiresOf ports (shownLevel (k .phase))) (wiresOf (portsWritten register value ports) (shownLevel (k .phase))) ⌝ }
+fn clocked(k: Core, ports: Ports, register: u8, value: u8, cells: &mut [u8; 256]) -> Core
+    requires { ⌜ acceptedPhase (k .chip) (k .phase) (wiresOf ports (shownLevel (k .phase)) .enable) ≡ true ⌝ }
+    ensures { λ r. ⌜ wholeClock r (now (cells .exit)) ≡ stepWires (wholeClock k (now (cells .entry))) (wiresOf ports (shownLevel (k .phase))) (wiresOf (portsWritten register value ports) (shownLevel (k .phase))) ⌝ }
 {
     let mut next = ports;
     match register {
@@ -162,7 +162,7 @@ pub fn act(
     d: Drives,
     item: Item,
     sense: &[u8; 32],
-    cells: &mut [u8; 20],
+    cells: &mut [u8; 256],
 ) -> Acted
     requires { ⌜ ItemInRange item ⌝ }
     requires { ⌜ Levels (wholeMachine m k (now cells) d (now sense)) ⌝ }

@@ -23,7 +23,7 @@ use Rattle.item_spec.specs.declared.Item.{Item}
 use Rattle.item_spec.specs.declared.Item.the-variants.{ReadVia, ReadIwm, WriteVia, WriteIwm, Blank, Second, Line, Sense, Reset, Power, Disk}
 use Rattle.item_spec.proofs.Item.{the-type}
 use Rattle.machine_spec.specs.declared.Machine.{Machine}
-use Rattle.machine_spec.specs.Machine.{withClock, withDrives, cellCount, wires, strobeLevels}
+use Rattle.machine_spec.specs.Machine.{withClock, withDrives, wires, strobeLevels}
 use Rattle.machine_spec.specs.Stages.{afterWait, afterWires, afterStrobe, refusesOf}
 
 -- A wait moves no line.
@@ -35,11 +35,11 @@ waited-watched n m = ap (λ (p : Ports). watchedOf (m .disk) (selOf p)) (ticks-p
 
 -- Where every line is as before, the clock and the strobe change nothing.
 pub unmoved : (m : Machine) (w : Wires) (v : Watched) → wires m ≡ w → strobeLevels m ≡ v
-    → acceptedPhase cellCount (m .clock .phase) (w .enable) ≡ true → acceptedDrives v (m .drives) ≡ true
+    → acceptedPhase (m .clock .store .chip) (m .clock .phase) (w .enable) ≡ true → acceptedDrives v (m .drives) ≡ true
     → afterStrobe v (afterWires w m) ≡ m
 unmoved m w v p q h k =
-    ap₂ (λ (x : Wires) (y : Watched). withDrives (withClock m (stepWires cellCount (m .clock) w x)) (drivesAfter v y (m .drives))) p q
-    ∙ ap₂ (λ (c : Clock) (d : Drives). withDrives (withClock m c) d) (still cellCount (m .clock) w h) (drives-untouched v (m .drives) k)
+    ap₂ (λ (x : Wires) (y : Watched). withDrives (withClock m (stepWires (m .clock) w x)) (drivesAfter v y (m .drives))) p q
+    ∙ ap₂ (λ (c : Clock) (d : Drives). withDrives (withClock m c) d) (still (m .clock) w h) (drives-untouched v (m .drives) k)
 
 -- No state refuses an item of another kind than DI.
 abbrev unrefused-kinds : List ℕ

@@ -9,7 +9,6 @@ use denote.Enum.Declared.{tagOf}
 use Rattle.via.specs.declared.Via.{Via}
 use Rattle.via.specs.Via.{raisedOf, asking, levelOf}
 use Rattle.via.specs.Registers.{registerRead}
-use Rattle.clock_spec.specs.declared.Phase.{Phase}
 use Rattle.clock_spec.specs.declared.Wires.{Wires}
 use Rattle.clock.specs.declared.Clock.{Clock}
 use Rattle.clock_spec.specs.Phase.{acceptedPhase}
@@ -18,12 +17,12 @@ use Rattle.item_spec.specs.declared.Item.{Item}
 use Rattle.item_spec.specs.declared.Item.the-variants.{ReadVia, ReadIwm, WriteVia, WriteIwm, Blank, Second, Line, Sense, Reset, Power, Disk}
 use Rattle.item_spec.proofs.Item.{the-type}
 use Rattle.machine_spec.specs.declared.Machine.{Machine}
-use Rattle.machine_spec.specs.Machine.{cellCount, wires, strobeLevels, acceptedOf}
+use Rattle.machine_spec.specs.Machine.{wires, strobeLevels, acceptedOf}
 use Rattle.machine_spec.proofs.MachineLaws.{parts}
 use Rattle.machine_spec.specs.declared.Did.{Did}
 use Rattle.machine_spec.specs.Accesses.{viaRead}
 use Rattle.machine_spec.specs.Action.{actedOf}
-use Rattle.machine_spec.proofs.Action.{acted-phase}
+use Rattle.machine_spec.proofs.Action.{acted-accepted}
 use Rattle.machine_spec.proofs.ActionKeeps.{act-keeps-drives}
 use Rattle.machine_spec.specs.Stages.{itemWait, afterWait}
 use Rattle.machine_spec.proofs.Stages.{waited-wires, waited-watched, unmoved}
@@ -31,11 +30,11 @@ use Rattle.machine_spec.specs.Step.{stepOf}
 
 -- The clock meets the wires after an action in a phase that goes with the wires before the item.
 pub met : (m m₁ : Machine) (i : Item) (d : Did) (w : Wires) → d ≡ actedOf m₁ i → m₁ .clock ≡ m .clock → w ≡ wires m → acceptedOf m ≡ true
-    → acceptedPhase cellCount (d .machine .clock .phase) (w .enable) ≡ true
+    → acceptedPhase (d .machine .clock .store .chip) (d .machine .clock .phase) (w .enable) ≡ true
 met m m₁ i d w p q e a =
-    ap₂ (λ (f : Phase) (x : Bool). acceptedPhase cellCount f x)
-    (ap (λ (x : Did). x .machine .clock .phase) p ∙ acted-phase m₁ i ∙ ap (λ (c : Clock). c .phase) q)
-    (ap (λ (x : Wires). x .enable) e)
+    ap (λ (x : Did). acceptedPhase (x .machine .clock .store .chip) (x .machine .clock .phase) (w .enable)) p
+    ∙ acted-accepted m₁ i (w .enable)
+    ∙ ap₂ (λ (c : Clock) (x : Wires). acceptedPhase (c .store .chip) (c .phase) (x .enable)) q e
     ∙ parts m a .phase
 
 -- An action that moves no line, whatever the machine.

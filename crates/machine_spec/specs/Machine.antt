@@ -7,8 +7,10 @@ use lib.ListN.{replicate}
 use Rattle.levels.specs.Levels.{allLevels}
 use Rattle.via.specs.declared.Via.{Via}
 use Rattle.via.specs.Via.{freshVia, acceptedVia}
+use Rattle.clock_spec.specs.declared.Chip.{Chip}
 use Rattle.clock_spec.specs.declared.Wires.{Wires}
 use Rattle.clock.specs.declared.Clock.{Clock}
+use Rattle.clock_spec.specs.Store.{unusedClear}
 use Rattle.clock_spec.specs.Phase.{shownLevel, acceptedPhase}
 use Rattle.clock.specs.Step.{freshClock}
 use Rattle.machine_spec.specs.Pins.{wiresOf, selOf}
@@ -47,18 +49,14 @@ withDrives m x = record { via = m .via; clock = m .clock; disk = m .disk; inputs
 abbrev pub noValue : Machine → Did
 noValue m = record { machine = m; value = 0 }
 
--- ---- the chip's size and the fresh machine
-
--- "The clock chip with its 20 cells."
-abbrev pub cellCount : ℕ
-cellCount = 20
+-- ---- the fresh machine
 
 -- "Fresh: all zero, timers disarmed, no load due, IN lines and sense levels 1, chip idle, protect clear." W-205: IN lines 5 and 6 "both 0 when fresh".
-abbrev pub freshMachine : Machine
-freshMachine =
+abbrev pub freshMachine : Chip → Machine
+freshMachine k =
     record {
       via = freshVia;
-      clock = freshClock cellCount;
+      clock = freshClock k;
       disk = linesOff;
       inputs = 1 ∷ 1 ∷ 1 ∷ 1 ∷ 1 ∷ 0 ∷ 0 ∷ [];
       sense = replicate 32 1;
@@ -81,9 +79,9 @@ abbrev pub Levels : Machine → Type 0
 Levels m = (allLevels (m .inputs) ≡ true) × (allLevels (m .sense) ≡ true)
 
 -- "Every line level is 0 or 1, the chip is idle exactly while enable is 1, .. room not in use holds 0"; W-203: both drives and the strobe
--- within their ranges.
+-- within their ranges; W-206: the cells that the chip does not have hold 0.
 unfoldable pub acceptedOf : Machine → Bool
 acceptedOf m =
     (((allLevels (m .inputs) && allLevels (m .sense)) && acceptedVia (m .via))
-    && acceptedPhase cellCount (m .clock .phase) (wires m .enable))
+    && (acceptedPhase (m .clock .store .chip) (m .clock .phase) (wires m .enable) && unusedClear (m .clock .store)))
     && acceptedDrives (strobeLevels m) (m .drives)

@@ -11,7 +11,7 @@ use Rattle.disk_spec.specs.Drives.{drivesTicks, placeRefused, drivesAfter}
 use Rattle.item_spec.specs.declared.Item.{Item}
 use Rattle.item_spec.specs.declared.Item.the-variants.{ReadVia, ReadIwm, WriteVia, WriteIwm, Blank, Second, Line, Sense, Reset, Power, Disk}
 use Rattle.machine_spec.specs.declared.Machine.{Machine}
-use Rattle.machine_spec.specs.Machine.{withVia, withClock, withDrives, cellCount, wires, strobeLevels}
+use Rattle.machine_spec.specs.Machine.{withVia, withClock, withDrives, wires, strobeLevels}
 
 -- A refusal that looks at the state, as it stands before the wait; 0 where there is none. Document 01's numbers look at the bytes alone.
 -- W-203: "Inserting where a disk is, or removing where none is, gets refusal 8".
@@ -52,7 +52,7 @@ afterWait n m = withDrives (withVia m (ticks n (m .via))) (drivesTicks n (m .dri
 
 -- "Compare the levels of enable, data-clock and data before and after each item."
 abbrev pub afterWires : Wires → Machine → Machine
-afterWires w m = withClock m (stepWires cellCount (m .clock) w (wires m))
+afterWires w m = withClock m (stepWires (m .clock) w (wires m))
 
 -- W-203: the drives see the levels before the item and after it; "a write acts when LSTRB drops".
 abbrev pub afterStrobe : Watched → Machine → Machine

@@ -14,7 +14,7 @@ use Rattle.item_spec.specs.declared.Answer.{Answer}
 use Rattle.item_spec.specs.declared.Item.{Item}
 use Rattle.machine_spec.specs.declared.Machine.{Machine}
 use Rattle.machine_spec.specs.declared.Did.{Did}
-use Rattle.machine_spec.specs.Machine.{withVia, withDisk, wires, strobeLevels, Levels, cellCount, acceptedOf}
+use Rattle.machine_spec.specs.Machine.{withVia, withDisk, wires, strobeLevels, Levels, acceptedOf}
 use Rattle.machine_spec.specs.Stages.{itemWait, afterWait, afterWires, afterStrobe}
 use Rattle.machine_spec.specs.Action.{actedOf}
 use Rattle.machine_spec.specs.Step.{stepOf, answerOf}
@@ -39,7 +39,7 @@ module _ (m : Machine) (k : Core) (cells : List ℕ) (d : Drives) (sense : List 
       let x = wholeMachine m k cells d sense in
       let p = parts x a in
       subst (λ (y : Machine). Levels (wholeMachine y k cells d₁ sense) × PhaseAccepted (wholeMachine y k cells d₁ sense)) (sym e₁)
-      (p .levels, ap (λ (w : Wires). acceptedPhase cellCount (k .phase) (w .enable)) (waited-wires (itemWait i) x) ∙ p .phase)
+      (p .levels, ap (λ (w : Wires). acceptedPhase (k .chip) (k .phase) (w .enable)) (waited-wires (itemWait i) x) ∙ p .phase)
 
   module _ (f₁ : d₁ ≡ drivesTicks (itemWait i) d) (a : Acted) (cells₂ : List ℕ)
       (acts : machineAfter a m₁ cells₂ sense ≡ clockedOf (wholeMachine m₁ k cells d₁ sense) i) where

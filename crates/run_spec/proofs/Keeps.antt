@@ -12,7 +12,7 @@ use Rattle.machine_spec.specs.declared.Machine.{Machine}
 use Rattle.machine_spec.specs.Machine.{acceptedOf}
 use Rattle.machine_spec.specs.Stages.{refusesOf}
 use Rattle.machine_spec.specs.Step.{stepOf}
-use Rattle.machine_spec.proofs.Keeps.{step-keeps}
+use Rattle.machine_spec.proofs.Keeps.{step-keeps, size-kept}
 use Rattle.run_spec.specs.Turn.{doneTurn, refusedTurn, turnBy, turnOf}
 
 pub turn-keeps : (m : Machine) (s : List ℕ) → acceptedOf m ≡ true → acceptedOf (turnOf m s .machine) ≡ true
@@ -26,3 +26,16 @@ turn-keeps m s e = go (decodedOf s) refl
         judge : (t : Bool) → acceptedOf ((cond t (doneTurn (stepOf m x)) (refusedTurn m (refusesOf m x))) .machine) ≡ true
         judge true = step-keeps m x (decoded-range s x p) e
         judge false = e
+
+-- W-206: no record changes which clock chip it is.
+pub turn-size : (m : Machine) (s : List ℕ) → turnOf m s .machine .clock .store .chip ≡ m .clock .store .chip
+unfolding turnOf
+turn-size m s = go (decodedOf s)
+  where
+    go : (d : Decoded) → turnBy m d .machine .clock .store .chip ≡ m .clock .store .chip
+    go (Refused n) = refl
+    go (Done x) = judge (eqb (refusesOf m x) 0)
+      where
+        judge : (t : Bool) → (cond t (doneTurn (stepOf m x)) (refusedTurn m (refusesOf m x))) .machine .clock .store .chip ≡ m .clock .store .chip
+        judge true = size-kept m x
+        judge false = refl

@@ -1,6 +1,6 @@
 -- What users of a run may rely on, besides its contract.
 use Prim.Native.Nat.{ℕ, _+_, _-_, _≤_, _<_}
-use mathlib.Core.Path.{_≡_, refl, ap}
+use mathlib.Core.Path.{_≡_, refl, ap, _∙_}
 use mathlib.Core.Bool.{Bool, true, false, cond}
 use mathlib.Core.List.{List, [], _∷_, _++_}
 use native.Mathlib.Omega.{arith}
@@ -12,7 +12,7 @@ use Rattle.item_spec.proofs.RecordLaws.{answer-long}
 use Rattle.machine_spec.specs.declared.Machine.{Machine}
 use Rattle.machine_spec.specs.Machine.{acceptedOf}
 use Rattle.run_spec.specs.Turn.{turnOf}
-use Rattle.run_spec.proofs.Keeps.{turn-keeps}
+use Rattle.run_spec.proofs.Keeps.{turn-keeps, turn-size}
 use Rattle.run_spec.specs.Outcome.{Piece, whole, broken, pieces, Out, halt, onto, onPiece, runPieces, runOf, ranOf}
 
 -- Item after item: where there is room for its answer, a whole record is answered from the state before it, and the run goes on from the state after it.
@@ -93,3 +93,12 @@ run-keeps P k (whole s ∷ ps) m room h = go (run-keeps P k ps (turnOf m s .mach
 pub accepted-kept : (m : Machine) (s : List ℕ) (room : ℕ) → acceptedOf m ≡ true → acceptedOf (runOf m s room .machine) ≡ true
 unfolding runOf
 accepted-kept m s room e = simp e (run-keeps (λ (n : Machine). acceptedOf n ≡ true) turn-keeps (pieces s) m room e)
+
+-- W-206: "a machine is made with 20 or 256 cells, chosen at the start": the machine handed back has the chip of the one given.
+pub size-kept : (m : Machine) (l : List ℕ) (room : ℕ) → runOf m l room .machine .clock .store .chip ≡ m .clock .store .chip
+unfolding runOf
+size-kept m l room = go (acceptedOf m)
+  where
+    go : (t : Bool) → (cond t (runPieces m (pieces l) room) (halt m 7)) .machine .clock .store .chip ≡ m .clock .store .chip
+    go true = run-keeps (λ (n : Machine). n .clock .store .chip ≡ m .clock .store .chip) (λ n s h. turn-size n s ∙ h) (pieces l) m room refl
+    go false = refl

@@ -1,12 +1,12 @@
 -- Samples S1 to S10 and the short runs of the drives hold, by computation.
 use mathlib.Core.Path.{refl}
-use Rattle.levels.specs.Levels.{allLevels}
+use Rattle.levels.specs.Levels.{allBelow}
 use Rattle.via.specs.Via.{freshVia, portLevel, latchOf, tickOf, ticks, raisedOf, resetOf, asking, levelOf, acceptedVia}
 use Rattle.via.specs.Writes.{viaWritten}
 use Rattle.via.specs.Registers.{registerRead}
-use Rattle.clock_spec.specs.Command.{named, decode}
-use Rattle.clock_spec.specs.Store.{fetch, put, act}
-use Rattle.clock_spec.specs.Phase.{between, shownLevel, acceptedPhase}
+use Rattle.clock_spec.specs.Patterns.{meant, secondMeant}
+use Rattle.clock_spec.specs.Store.{unusedClear, fetch, put, act}
+use Rattle.clock_spec.specs.Phase.{between, hear, shownLevel, acceptedPhase}
 use Rattle.clock.specs.Step.{next, acts, stepWires}
 use Rattle.disk_lines.specs.Lines.{linesOff, withLevel, afterAccess, senseAt, readLine}
 use Rattle.disk_spec.specs.Sense as sense
@@ -39,7 +39,7 @@ use Rattle.samples.specs.Samples.{Samples, values}
 use Rattle.samples.specs.Drives.{DriveSamples}
 
 pub samples : Samples
-unfolding allLevels freshVia portLevel latchOf tickOf ticks raisedOf asking levelOf acceptedVia viaWritten registerRead named decode between fetch next acts put act
+unfolding allBelow freshVia portLevel latchOf tickOf ticks raisedOf asking levelOf acceptedVia viaWritten registerRead meant secondMeant hear unusedClear between fetch next acts put act
     stepWires shownLevel acceptedPhase linesOff wiresOf selOf inputsOf interruptLevel le16Of le32Of frameOf answerBytes noOf isKind placeFrom foundOf writeRecord plainRecord
     decodedOf items.readRecord acceptedOf acceptedDrives acceptedDrive acceptedStrobe itemWait viaRead actedOf stepOf refusesOf answerOf cut piecesFrom turnOf onto onPiece runPieces runOf sent values
 samples =
@@ -56,10 +56,19 @@ samples =
       S9-B5 = refl;
       S9-B1 = refl;
       S10 = refl;
+      W206-rise24 = refl;
+      W206-rise23 = refl;
+      W206-cell0 = refl;
+      W206-cell0-short = refl;
+      W206-read = refl;
+      W206-other-form = refl;
+      W206-first-chip = refl;
+      W206-cell16 = refl;
+      W206-cell16-first = refl;
     }
 
 pub driveSamples : DriveSamples
-unfolding allLevels freshVia tickOf ticks resetOf asking levelOf acceptedVia viaWritten between stepWires next acts act shownLevel acceptedPhase linesOff withLevel afterAccess
+unfolding allBelow freshVia tickOf ticks resetOf asking levelOf acceptedVia viaWritten unusedClear between stepWires next acts act shownLevel acceptedPhase linesOff withLevel afterAccess
     senseAt readLine wiresOf selOf watchedOf le16Of le32Of frameOf answerBytes noOf isKind placeFrom foundOf writeRecord plainRecord powerRecord diskRecord decodedOf items.readRecord ranged.isRetired ranged.senseRecord
     registerWritten neighbour tickDrive driveTicks isDriveSense sense.driveSense senseShown acceptedDrive tickStrobe strobeTicks heldStill unspoilt strobeAfter registerOf
     longEnough strobeWrites acceptedStrobe drivesTicks drivesDiskMoved placeRefused drivesPowered drivesAfter drivesShown acceptedDrives

@@ -1,14 +1,14 @@
 -- The sense of two drives, computed.
 use mathlib.Core.Path.{refl}
-use Rattle.levels.specs.Levels.{allLevels}
+use Rattle.levels.specs.Levels.{allBelow}
 use Rattle.octets.specs.Octets.{le16Of, le32Of, replace}
 use Rattle.via_bits.specs.Bytes.{portAFlags, enabledBy}
 use Rattle.via.specs.Via.{freshVia, portLevel, latchOf, tickOf, ticks, raisedOf, asking, levelOf, resetOf, acceptedVia}
 use Rattle.via.specs.Writes.{portsWritten, timer1Written, timer2Written, flagsWritten, viaWritten}
 use Rattle.via.specs.Registers.{flagsByte, valueRead, flagsRead, registerRead}
-use Rattle.clock_spec.specs.Command.{named, decode}
-use Rattle.clock_spec.specs.Store.{fetch, put, act}
-use Rattle.clock_spec.specs.Phase.{between, shownLevel, acceptedPhase}
+use Rattle.clock_spec.specs.Patterns.{meant, secondMeant}
+use Rattle.clock_spec.specs.Store.{unusedClear, fetch, put, act}
+use Rattle.clock_spec.specs.Phase.{between, hear, shownLevel, acceptedPhase}
 use Rattle.clock.specs.Step.{next, acts, stepWires}
 use Rattle.disk_lines.specs.Lines.{linesOff, afterAccess, withLevel, lineLevels, linesOf, senseAt, readLine}
 use Rattle.disk_spec.specs.Watched.{watchedOf, heldStill, unspoilt, registerOf}
@@ -28,8 +28,8 @@ use Rattle.machine_spec.specs.Wiring.{inputsOf, interruptLevel}
 use Rattle.samples.specs.Senses.{SenseSamples}
 
 pub senseSamples : SenseSamples
-unfolding allLevels le16Of le32Of replace portAFlags enabledBy freshVia portLevel latchOf tickOf ticks raisedOf asking levelOf resetOf acceptedVia
-    portsWritten timer1Written timer2Written flagsWritten viaWritten flagsByte valueRead flagsRead registerRead named decode fetch put act between
+unfolding allBelow le16Of le32Of replace portAFlags enabledBy freshVia portLevel latchOf tickOf ticks raisedOf asking levelOf resetOf acceptedVia
+    portsWritten timer1Written timer2Written flagsWritten viaWritten flagsByte valueRead flagsRead registerRead meant secondMeant hear unusedClear fetch put act between
     shownLevel acceptedPhase next acts stepWires linesOff afterAccess withLevel lineLevels linesOf senseAt readLine watchedOf heldStill unspoilt registerOf neighbour
     tickDrive driveTicks registerWritten isDriveSense driveSense senseShown acceptedDrive tickStrobe strobeTicks strobeAfter longEnough strobeWrites
     acceptedStrobe drivesTicks drivesDiskMoved placeRefused drivesPowered drivesAfter drivesShown acceptedDrives frameOf answerBytes noOf acceptedOf

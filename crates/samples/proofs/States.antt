@@ -1,14 +1,14 @@
 -- Whole states, computed.
 use mathlib.Core.Path.{refl}
-use Rattle.levels.specs.Levels.{allLevels}
+use Rattle.levels.specs.Levels.{allBelow}
 use Rattle.octets.specs.Octets.{le16Of, le32Of, replace}
 use Rattle.via_bits.specs.Bytes.{portAFlags, enabledBy}
 use Rattle.via.specs.Via.{freshVia, portLevel, latchOf, tickOf, ticks, raisedOf, asking, levelOf, resetOf, acceptedVia}
 use Rattle.via.specs.Writes.{portsWritten, timer1Written, timer2Written, flagsWritten, viaWritten}
 use Rattle.via.specs.Registers.{flagsByte, valueRead, flagsRead, registerRead}
-use Rattle.clock_spec.specs.Command.{named, decode}
-use Rattle.clock_spec.specs.Store.{fetch, put, act}
-use Rattle.clock_spec.specs.Phase.{between, shownLevel, acceptedPhase}
+use Rattle.clock_spec.specs.Patterns.{meant, secondMeant}
+use Rattle.clock_spec.specs.Store.{unusedClear, fetch, put, act}
+use Rattle.clock_spec.specs.Phase.{between, hear, shownLevel, moreFollows, acceptedPhase}
 use Rattle.clock.specs.Step.{next, acts, stepWires}
 use Rattle.disk_lines.specs.Lines.{linesOff, afterAccess, withLevel, lineLevels, linesOf, senseAt, readLine}
 use Rattle.disk_spec.specs.Watched.{watchedOf, heldStill, unspoilt, registerOf}
@@ -27,7 +27,7 @@ use Rattle.machine_spec.specs.Pins.{wiresOf, selOf}
 use Rattle.machine_spec.specs.Wiring.{inputsOf, interruptLevel}
 use Rattle.image_spec.specs.Layout.{headBytes}
 use Rattle.image_spec.specs.ViaLayout.{viaBytes}
-use Rattle.image_spec.specs.ClockLayout.{phaseBytes, registerBytes}
+use Rattle.image_spec.specs.ClockLayout.{phaseBytes, secondByte, tailBytes, registerBytes}
 use Rattle.image_spec.specs.DriveLayout.{driveBytes, strobeBytes}
 use Rattle.image_spec.specs.Image.{imageOf}
 use Rattle.run_spec.specs.Turn.{turnOf}
@@ -35,12 +35,12 @@ use Rattle.run_spec.specs.Outcome.{cut, piecesFrom, onto, onPiece, runPieces, r
 use Rattle.samples.specs.States.{StateSamples, withCellBytes}
 
 pub stateSamples : StateSamples
-unfolding allLevels le16Of le32Of replace portAFlags enabledBy freshVia portLevel latchOf tickOf ticks raisedOf asking levelOf resetOf acceptedVia
-    portsWritten timer1Written timer2Written flagsWritten viaWritten flagsByte valueRead flagsRead registerRead named decode fetch put act between
-    shownLevel acceptedPhase next acts stepWires linesOff afterAccess withLevel lineLevels linesOf senseAt readLine watchedOf heldStill unspoilt registerOf neighbour
+unfolding allBelow le16Of le32Of replace portAFlags enabledBy freshVia portLevel latchOf tickOf ticks raisedOf asking levelOf resetOf acceptedVia
+    portsWritten timer1Written timer2Written flagsWritten viaWritten flagsByte valueRead flagsRead registerRead meant secondMeant hear unusedClear fetch put act between
+    shownLevel moreFollows acceptedPhase next acts stepWires linesOff afterAccess withLevel lineLevels linesOf senseAt readLine watchedOf heldStill unspoilt registerOf neighbour
     tickDrive driveTicks registerWritten isDriveSense driveSense senseShown acceptedDrive tickStrobe strobeTicks strobeAfter longEnough strobeWrites
     acceptedStrobe drivesTicks drivesDiskMoved placeRefused drivesPowered drivesAfter drivesShown acceptedDrives frameOf answerBytes noOf acceptedOf
-    viaRead iwmRead eventOf actedOf refusesOf itemWait stepOf answerOf wiresOf selOf inputsOf interruptLevel headBytes viaBytes phaseBytes registerBytes
+    viaRead iwmRead eventOf actedOf refusesOf itemWait stepOf answerOf wiresOf selOf inputsOf interruptLevel headBytes viaBytes phaseBytes secondByte tailBytes registerBytes
     driveBytes strobeBytes imageOf turnOf cut piecesFrom onto onPiece runPieces runOf withCellBytes
 stateSamples =
     record {

@@ -8,10 +8,12 @@ use Rattle.clock_spec.specs.declared.Target.the-variants.{Cell}
 use Rattle.clock_spec.specs.declared.Store.{Store}
 use Rattle.clock_spec.specs.Store.{put, withSeconds, withProtect, withTest}
 use Rattle.clock_spec.specs.declared.Phase.{Phase}
-use Rattle.clock_spec.specs.declared.Phase.the-variants.{Listening, Taking, Sending, Ignoring}
+use Rattle.clock_spec.specs.declared.Phase.the-variants.{Listening, Sending, Ignoring}
 use Rattle.clock.specs.Step.{withStore}
 use Rattle.item_spec.specs.declared.Item.{Item}
 use Rattle.item_spec.specs.declared.Item.the-variants.{ReadVia, WriteVia, Second, Power}
+use Rattle.clock_spec.specs.declared.Chip.the-variants.{First}
+use Rattle.clock_spec.specs.declared.Bytes.the-variants.{Nothing, One}
 use Rattle.machine_spec.specs.declared.Machine.{Machine}
 use Rattle.machine_spec.specs.Machine.{freshMachine, withClock}
 use Rattle.samples.specs.Registers.{one}
@@ -19,14 +21,14 @@ use Rattle.samples.specs.Steps.{afterItem, valueOf, afterItems, each, po
 
 -- The fresh machine with another store.
 abbrev pub machineWith : Store → Machine
-machineWith s = withClock freshMachine (withStore (freshMachine .clock) s)
+machineWith s = withClock (freshMachine First) (withStore ((freshMachine First) .clock) s)
 
 abbrev pub seconds : Machine → ℕ
 seconds m = m .clock .store .seconds
 
 -- Seconds $1C4AB236, cell 5 $6E, cell 18 $34: no byte is the same backwards.
 abbrev pub clockMachine : Machine
-clockMachine = machineWith (put (Cell 18) 0x34 (put (Cell 5) 0x6e (withSeconds (freshMachine .clock .store) 0x1c4ab236)))
+clockMachine = machineWith (put (Cell 18) 0x34 (put (Cell 5) 0x6e (withSeconds (freshMachine First .clock .store) 0x1c4ab236)))
 
 -- The same under protect.
 abbrev pub clockProtected : Machine
@@ -70,7 +72,7 @@ phase m = m .clock .phase
 
 -- The seconds after an item under each test byte.
 abbrev pub secondsByTest : Item → List ℕ
-secondsByTest i = each (λ t. seconds (afterItem (machineWith (withTest (withSeconds (freshMachine .clock .store) 4294967295) t)) i)) (0x00 ∷ 0x80 ∷ 0x40 ∷ 0xc0 ∷ 0x20 ∷ 0x3f ∷ [])
+secondsByTest i = each (λ t. seconds (afterItem (machineWith (withTest (withSeconds (freshMachine First .clock .store) 4294967295) t)) i)) (0x00 ∷ 0x80 ∷ 0x40 ∷ 0xc0 ∷ 0x20 ∷ 0x3f ∷ [])
 
 pub record ClockSamples : Type 0 where
   -- "The next eight falls show its bits 7 to 0; the line is undriven before the first and from the ninth": seconds bytes 0 to 3, cell 5, cell 18.
@@ -84,8 +86,8 @@ pub record ClockSamples : Type 0 where
   pub eighthFall : phase (afterFalls 8 (afterReadCommand 0xd5)) ≡ Sending 0x6e 8
   pub ninthFall : phase (afterFalls 9 (afterReadCommand 0xd5)) ≡ Ignoring
   -- Command bits 1, 1, 0, and data bits 1, 0, 1, 1, 0: the first is the highest.
-  pub command : phase (afterItems (afterSelect clockMachine) (bitItems 3 3 6)) ≡ Listening 3 6
-  pub half : phase (afterItems (afterCommand 0x41 clockMachine) (bitItems 5 5 0x16)) ≡ Taking 0x41 5 0x16
+  pub command : phase (afterItems (afterSelect clockMachine) (bitItems 3 3 6)) ≡ Listening Nothing 3 6
+  pub half : phase (afterItems (afterCommand 0x41 clockMachine) (bitItems 5 5 0x16)) ≡ Listening (One 0x41) 5 0x16
   -- $E9 written to each seconds byte.
   pub written : each (λ c. seconds (afterWrite c 0xe9 clockMachine)) (0x01 ∷ 0x05 ∷ 0x09 ∷ 0x0d ∷ []) ≡ 0x1c4ab2e9 ∷ 0x1c4ae936 ∷ 0x1ce9b236 ∷ 0xe94ab236 ∷ []
   -- Of the byte written to protect only bit 7 is kept; test holds its byte. Under protect only protect can be written.

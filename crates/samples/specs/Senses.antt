@@ -8,6 +8,7 @@ use Rattle.disk_spec.specs.Drive.{freshDrive, withDirection, withMotor, withSte
 use Rattle.disk_spec.specs.Drives.{freshDrives, withDriveAt}
 use Rattle.item_spec.specs.declared.Item.{Item}
 use Rattle.item_spec.specs.declared.Item.the-variants.{ReadIwm, Sense}
+use Rattle.clock_spec.specs.declared.Chip.the-variants.{First}
 use Rattle.machine_spec.specs.declared.Machine.{Machine}
 use Rattle.machine_spec.specs.Machine.{freshMachine, withDrives}
 use Rattle.samples.specs.Registers.{sixteen}
@@ -43,7 +44,7 @@ senseItems =
 
 -- Both drives, the levels stored, and Q6 on.
 abbrev pub twoDrives : Machine
-twoDrives = afterItems (withDrives freshMachine (withDriveAt true (withDriveAt false freshDrives inner) outer)) (senseItems ++ (accessItem 13 ∷ []))
+twoDrives = afterItems (withDrives (freshMachine First) (withDriveAt true (withDriveAt false freshDrives inner) outer)) (senseItems ++ (accessItem 13 ∷ []))
 
 -- ENABLE on.
 abbrev pub twoDrivesOn : Machine

@@ -11,13 +11,15 @@ use Rattle.clock_spec.specs.declared.Target.the-variants.{Cell}
 use Rattle.clock_spec.specs.declared.Store.{Store}
 use Rattle.clock_spec.specs.Store.{put, withSeconds, withProtect, withTest}
 use Rattle.clock_spec.specs.declared.Phase.{Phase}
-use Rattle.clock_spec.specs.declared.Phase.the-variants.{Idle, Listening, Taking, Sending, Ignoring}
+use Rattle.clock_spec.specs.declared.Phase.the-variants.{Idle, Listening, Sending, Ignoring}
 use Rattle.clock.specs.Step.{withStore, withPhase}
 use Rattle.disk_spec.specs.declared.Drive.{Drive}
 use Rattle.disk_spec.specs.Drive.{freshDrive, withDirection, withMotor, withStep, withTrack, withDiskState}
 use Rattle.disk_spec.specs.declared.Drives.{Drives}
 use Rattle.disk_spec.specs.Drives.{freshDrives, withDriveAt, withStrobe}
 use Rattle.item_spec.specs.declared.Item.the-variants.{Reset, Power}
+use Rattle.clock_spec.specs.declared.Chip.the-variants.{First}
+use Rattle.clock_spec.specs.declared.Bytes.the-variants.{Nothing, One}
 use Rattle.machine_spec.specs.declared.Machine.{Machine}
 use Rattle.machine_spec.specs.Machine.{freshMachine, withVia, withClock, withInputs, withSense, withDrives, acceptedOf}
 use Rattle.run_spec.specs.Outcome.{halt, runOf}
@@ -32,7 +34,7 @@ withCellBytes zero s = s
 withCellBytes (suc n) s = put (Cell n) (0xd0 + n) (withCellBytes n s)
 
 abbrev pub busyStore : Store
-busyStore = withCellBytes 20 (withTest (withProtect (withSeconds (freshMachine .clock .store) 0x1c4ab236) true) 0x2b)
+busyStore = withCellBytes 20 (withTest (withProtect (withSeconds (freshMachine First .clock .store) 0x1c4ab236) true) 0x2b)
 
 -- Internal: track 17, direction 0, a disk, not locked, double-sided, motor off, $1234 VIA ticks left of a step towards 0. External: track 42, direction 1, a locked
 -- disk, single-sided, motor on, no step. LSTRB on for $54321 VIA ticks.
@@ -50,11 +52,11 @@ busyClock p m = withClock m (withPhase (withStore (m .clock) busyStore) p)
 -- CA0, LSTRB, ENABLE and Q6 on; three data bits 1, 0, 1 of a write to cell 0 taken.
 abbrev pub busy : Machine
 busy =
-    busyClock (Taking 0x41 3 5) (
+    busyClock (Listening (One 0x41) 3 5) (
     withDrives
     (withSense
     (withInputs
-    (withVia (afterItems freshMachine (accessItem 1 ∷ accessItem 7 ∷ accessItem 9 ∷ accessItem 13 ∷ [])) mixed)
+    (withVia (afterItems (freshMachine First) (accessItem 1 ∷ accessItem 7 ∷ accessItem 9 ∷ accessItem 13 ∷ [])) mixed)
     (0 ∷ 1 ∷ 0 ∷ 1 ∷ 0 ∷ 1 ∷ 0 ∷ []))
     (1 ∷ 0 ∷ 0 ∷ 1 ∷ 0 ∷ 1 ∷ 1 ∷ 0 ∷ 1 ∷ 1 ∷ 1 ∷ 0 ∷ 0 ∷ 0 ∷ 1 ∷ 0 ∷ 0 ∷ 1 ∷ 1 ∷ 0 ∷ 1 ∷ 0 ∷ 0 ∷ 1 ∷ 0 ∷ 0 ∷ 0 ∷ 1 ∷ 1 ∷ 1 ∷ 0 ∷ 1 ∷ []))
     busyDrives
@@ -62,13 +64,13 @@ busy =
 
 -- The four bytes of a half-made command, and the nine of the internal drive, in an image.
 abbrev pub phaseImage : Phase → List ℕ
-phaseImage p = take 4 (drop 23 (imageOf (withClock freshMachine (withPhase (freshMachine .clock) p))))
+phaseImage p = take 4 (drop 23 (imageOf (withClock (freshMachine First) (withPhase ((freshMachine First) .clock) p))))
 
 abbrev pub driveImage : Drive → List ℕ
-driveImage d = take 9 (drop 100 (imageOf (withDrives freshMachine (withDriveAt false freshDrives d))))
+driveImage d = take 9 (drop 100 (imageOf (withDrives (freshMachine First) (withDriveAt false freshDrives d))))
 
 abbrev pub linesImage : ℕ → List ℕ
-linesImage k = take 8 (drop 53 (imageOf (afterItem freshMachine (accessItem k))))
+linesImage k = take 8 (drop 53 (imageOf (afterItem (freshMachine First) (accessItem k))))
 
 -- Whether the busy state is accepted with this phase, with these flags and enables.
 abbrev pub acceptedWith : Phase → Bool
@@ -95,7 +97,7 @@ pub record StateSamples : Type 0 where
       ++ (0x11 ∷ 0 ∷ 1 ∷ 0 ∷ 1 ∷ 0 ∷ 0x34 ∷ 0x12 ∷ 1 ∷ [])
       ++ (0x2a ∷ 1 ∷ 1 ∷ 1 ∷ 0 ∷ 1 ∷ 0 ∷ 0 ∷ 0 ∷ [])
       ++ (0x21 ∷ 0x43 ∷ 0x05 ∷ 0 ∷ 1 ∷ [])
-  pub fresh : imageOf freshMachine
+  pub fresh : imageOf (freshMachine First)
       ≡ (0x79 ∷ 0 ∷ 0x53 ∷ 0x54 ∷ [])
       ++ (0 ∷ 0 ∷ 0 ∷ 0 ∷ 0 ∷ 0 ∷ 0 ∷ 0 ∷ 0 ∷ 0 ∷ 0 ∷ 0 ∷ 0 ∷ 0 ∷ 0 ∷ 0 ∷ 0 ∷ 0 ∷ 0 ∷ [])
       ++ (0 ∷ 0 ∷ 0 ∷ 0 ∷ [])
@@ -137,7 +139,7 @@ pub record StateSamples : Type 0 where
       ++ (0x2a ∷ 1 ∷ 1 ∷ 1 ∷ 0 ∷ 0 ∷ 0 ∷ 0 ∷ 0 ∷ [])
       ++ (0 ∷ 0 ∷ 0 ∷ 0 ∷ 0 ∷ [])
   -- Idle, listening, taking, sending, ignoring.
-  pub phases : each phaseImage (Idle ∷ Listening 3 6 ∷ Taking 0x41 5 0x16 ∷ Sending 0x6e 8 ∷ Ignoring ∷ [])
+  pub phases : each phaseImage (Idle ∷ Listening Nothing 3 6 ∷ Listening (One 0x41) 5 0x16 ∷ Sending 0x6e 8 ∷ Ignoring ∷ [])
       ≡ (0 ∷ 0 ∷ 0 ∷ 0 ∷ []) ∷ (1 ∷ 0 ∷ 3 ∷ 6 ∷ []) ∷ (2 ∷ 0x41 ∷ 5 ∷ 0x16 ∷ []) ∷ (3 ∷ 0 ∷ 8 ∷ 0x6e ∷ []) ∷ (4 ∷ 0 ∷ 0 ∷ 0 ∷ []) ∷ []
   -- Direction, disk, locked, double-sided, motor alone; then a step.
   pub drives : each driveImage
@@ -167,7 +169,7 @@ pub record StateSamples : Type 0 where
       ∷ (0 ∷ 0 ∷ 0 ∷ 0 ∷ 0 ∷ 0 ∷ 0 ∷ 1 ∷ [])
       ∷ []
   -- 0 to 7 bits, and a value of so many bits; a legal write command; 0 to 8 falls; idle only while enable is 1. Flags and enables have seven bits.
-  pub accepted : each acceptedWith (Listening 7 127 ∷ Listening 8 0 ∷ Listening 3 7 ∷ Listening 3 8 ∷ Taking 0x41 7 127 ∷ Taking 0x41 8 0 ∷ Taking 0x41 3 8 ∷ Taking 0xc1 3 5 ∷ Taking 0x40 3 5 ∷ Sending 255 8 ∷ Sending 255 9 ∷ Ignoring ∷ Idle ∷ [])
+  pub accepted : each acceptedWith (Listening Nothing 7 127 ∷ Listening Nothing 8 0 ∷ Listening Nothing 3 7 ∷ Listening Nothing 3 8 ∷ Listening (One 0x41) 7 127 ∷ Listening (One 0x41) 8 0 ∷ Listening (One 0x41) 3 8 ∷ Listening (One 0xc1) 3 5 ∷ Listening (One 0x40) 3 5 ∷ Sending 255 8 ∷ Sending 255 9 ∷ Ignoring ∷ Idle ∷ [])
       ≡ true ∷ false ∷ true ∷ false ∷ true ∷ false ∷ false ∷ false ∷ false ∷ true ∷ false ∷ true ∷ false ∷ []
   pub bounds : acceptedFlags 127 127 ∷ acceptedFlags 128 0 ∷ acceptedFlags 0 128 ∷ [] ≡ true ∷ false ∷ false ∷ []
   -- Refusal 7: "nothing read or written; stop 7, both counts 0; state handed back as given", with an empty list and no room too.

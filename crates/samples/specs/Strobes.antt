@@ -9,6 +9,7 @@ use Rattle.disk_spec.specs.Drives.{freshDrives, withDriveAt, withStrobe}
 use Rattle.disk_spec.specs.Strobe.{withTicks}
 use Rattle.item_spec.specs.declared.Item.{Item}
 use Rattle.item_spec.specs.declared.Item.the-variants.{WriteVia, WriteIwm, Disk}
+use Rattle.clock_spec.specs.declared.Chip.the-variants.{First}
 use Rattle.machine_spec.specs.declared.Machine.{Machine}
 use Rattle.machine_spec.specs.Machine.{freshMachine, withDrives}
 use Rattle.samples.specs.Registers.{one}
@@ -21,7 +22,7 @@ driveRow d = d .track ∷ one (d .direction) ∷ one (d .disk) ∷ one (d .locke
 -- Internal: 17, direction 0, a locked disk, single-sided, motor off, no step. External: 42, direction 1, a disk, double-sided, motor on, stepping.
 abbrev pub drivePair : Machine
 drivePair =
-    withDrives freshMachine (
+    withDrives (freshMachine First) (
     withDriveAt true
     (withDriveAt false freshDrives (withTrack (withDiskState freshDrive true true false) 17))
     (withStep (withMotor (withDirection (withTrack (withDiskState freshDrive true false true) 42) true) true) 100 false)
@@ -113,8 +114,8 @@ pub record StrobeSamples : Type 0 where
       ∷ [])
       ≡ 0 ∷ 0 ∷ 0 ∷ 0 ∷ 0 ∷ 0 ∷ 9401 ∷ 9401 ∷ []
   -- DI into the internal drive: not locked and single-sided, double-sided, locked; into the external one; out again.
-  pub inserted : each (λ i. driveRow (afterItem freshMachine i .drives .internal)) (Disk 0 0 1 0 0 ∷ Disk 0 0 1 0 1 ∷ Disk 0 0 1 1 0 ∷ Disk 0 1 1 1 1 ∷ [])
+  pub inserted : each (λ i. driveRow (afterItem (freshMachine First) i .drives .internal)) (Disk 0 0 1 0 0 ∷ Disk 0 0 1 0 1 ∷ Disk 0 0 1 1 0 ∷ Disk 0 1 1 1 1 ∷ [])
       ≡ (0 ∷ 0 ∷ 1 ∷ 0 ∷ 0 ∷ 0 ∷ 0 ∷ 0 ∷ []) ∷ (0 ∷ 0 ∷ 1 ∷ 0 ∷ 1 ∷ 0 ∷ 0 ∷ 0 ∷ []) ∷ (0 ∷ 0 ∷ 1 ∷ 1 ∷ 0 ∷ 0 ∷ 0 ∷ 0 ∷ []) ∷ (0 ∷ 0 ∷ 0 ∷ 0 ∷ 0 ∷ 0 ∷ 0 ∷ 0 ∷ []) ∷ []
-  pub insertedToo : driveRow (afterItem freshMachine (Disk 0 1 1 0 1) .drives .external) ≡ 0 ∷ 0 ∷ 1 ∷ 0 ∷ 1 ∷ 0 ∷ 0 ∷ 0 ∷ []
+  pub insertedToo : driveRow (afterItem (freshMachine First) (Disk 0 1 1 0 1) .drives .external) ≡ 0 ∷ 0 ∷ 1 ∷ 0 ∷ 1 ∷ 0 ∷ 0 ∷ 0 ∷ []
   pub removed : driveRow (afterItem drivePair (Disk 0 0 0 1 1) .drives .internal) ∷ driveRow (afterItem drivePair (Disk 0 1 0 1 0) .drives .external) ∷ []
       ≡ (17 ∷ 0 ∷ 0 ∷ 0 ∷ 0 ∷ 0 ∷ 0 ∷ 0 ∷ []) ∷ (42 ∷ 1 ∷ 0 ∷ 0 ∷ 1 ∷ 0 ∷ 100 ∷ 0 ∷ []) ∷ []

@@ -8,6 +8,7 @@ use Rattle.disk_spec.specs.Drives.{freshDrives, withDriveAt}
 use mathlib.Core.Bool.{false}
 use Rattle.item_spec.specs.declared.Item.{Item}
 use Rattle.item_spec.specs.declared.Item.the-variants.{ReadVia, ReadIwm, WriteVia, WriteIwm, Blank, Second, Line, Sense, Reset, Power, Disk}
+use Rattle.clock_spec.specs.declared.Chip.the-variants.{First}
 use Rattle.machine_spec.specs.declared.Machine.{Machine}
 use Rattle.machine_spec.specs.Machine.{freshMachine, withVia, withDrives}
 use Rattle.samples.specs.Registers.{sixteen}
@@ -19,7 +20,7 @@ portsAndLevel m = valueOf m (ReadVia 0 0) ∷ valueOf m (ReadVia 0 1) ∷ answer
 
 -- IN lines 0 to 4 low.
 abbrev pub linesLow : Machine
-linesLow = afterItems freshMachine (Line 0 0 0 ∷ Line 0 1 0 ∷ Line 0 2 0 ∷ Line 0 3 0 ∷ Line 0 4 0 ∷ [])
+linesLow = afterItems (freshMachine First) (Line 0 0 0 ∷ Line 0 1 0 ∷ Line 0 2 0 ∷ Line 0 3 0 ∷ Line 0 4 0 ∷ [])
 
 abbrev pub inLines : List ℕ
 inLines = 0 ∷ 1 ∷ 2 ∷ 3 ∷ 4 ∷ 5 ∷ 6 ∷ []
@@ -27,22 +28,22 @@ inLines = 0 ∷ 1 ∷ 2 ∷ 3 ∷ 4 ∷ 5 ∷ 6 ∷ []
 -- The level with the switch, the serial chip and the VIA asking where 1.
 abbrev pub levelBy : ℕ → ℕ → ℕ → ℕ
 levelBy switch serial via =
-    answerTo (afterItem (withVia freshMachine (withEnables (withFlags (freshMachine .via) 2) (2 * via))) (Line 0 6 switch)) (Line 0 5 serial) .level
+    answerTo (afterItem (withVia (freshMachine First) (withEnables (withFlags ((freshMachine First) .via) 2) (2 * via))) (Line 0 6 switch)) (Line 0 5 serial) .level
 
 -- SEL with these outputs and directions of port A.
 abbrev pub selBy : ℕ → ℕ → ℕ
-selBy out dir = answerTo (afterItem freshMachine (WriteVia 0 15 out)) (WriteVia 0 3 dir) .sel
+selBy out dir = answerTo (afterItem (freshMachine First) (WriteVia 0 15 out)) (WriteVia 0 3 dir) .sel
 
 abbrev pub eight : (ℕ → ℕ) → List ℕ
 eight f = f 0 ∷ f 1 ∷ f 2 ∷ f 3 ∷ f 4 ∷ f 5 ∷ f 6 ∷ f 7 ∷ []
 
 -- Every disk line on.
 abbrev pub allOn : Machine
-allOn = afterItems freshMachine (accessItem 1 ∷ accessItem 3 ∷ accessItem 5 ∷ accessItem 7 ∷ accessItem 9 ∷ accessItem 11 ∷ accessItem 13 ∷ accessItem 15 ∷ [])
+allOn = afterItems (freshMachine First) (accessItem 1 ∷ accessItem 3 ∷ accessItem 5 ∷ accessItem 7 ∷ accessItem 9 ∷ accessItem 11 ∷ accessItem 13 ∷ accessItem 15 ∷ [])
 
 -- T1 at 10 VIA ticks, the internal drive at track 5 with 3 VIA ticks left of a step towards 79.
 abbrev pub timerMachine : Machine
-timerMachine = withDrives (withVia freshMachine (withT1 (freshMachine .via) (withCounter1 (freshMachine .via .t1) 10))) (withDriveAt false freshDrives (withStep (withTrack freshDrive 5) 3 false))
+timerMachine = withDrives (withVia (freshMachine First) (withT1 ((freshMachine First) .via) (withCounter1 ((freshMachine First) .via .t1) 10))) (withDriveAt false freshDrives (withStep (withTrack freshDrive 5) 3 false))
 
 -- Each kind of item, after a wait of n VIA ticks.
 abbrev pub everyKind : ℕ → List Item
@@ -68,8 +69,8 @@ trackAfter i = afterItem timerMachine i .drives .internal .track
 
 pub record WiringSamples : Type 0 where
   -- Fresh, and with one IN line at 0: "PB3 to PB6 the IN lines 0 to 3 .., PA7 IN line 4"; 5 and 6 are 0 when fresh.
-  pub fresh : portsAndLevel freshMachine ≡ 0xff ∷ 0xff ∷ 0 ∷ []
-  pub oneLow : each (λ l. portsAndLevel (afterItem freshMachine (Line 0 l 0))) inLines
+  pub fresh : portsAndLevel (freshMachine First) ≡ 0xff ∷ 0xff ∷ 0 ∷ []
+  pub oneLow : each (λ l. portsAndLevel (afterItem (freshMachine First) (Line 0 l 0))) inLines
       ≡ (0xf7 ∷ 0xff ∷ 0 ∷ []) ∷ (0xef ∷ 0xff ∷ 0 ∷ []) ∷ (0xdf ∷ 0xff ∷ 0 ∷ []) ∷ (0xbf ∷ 0xff ∷ 0 ∷ []) ∷ (0xff ∷ 0x7f ∷ 0 ∷ []) ∷ (0xff ∷ 0xff ∷ 0 ∷ []) ∷ (0xff ∷ 0xff ∷ 0 ∷ []) ∷ []
   -- One IN line at 1, the others at 0.
   pub oneHigh : each (λ l. portsAndLevel (afterItem linesLow (Line 0 l 1))) inLines
@@ -80,7 +81,7 @@ pub record WiringSamples : Type 0 where
   pub selOut : eight (λ k. selBy (2 ^ k) 0xff) ≡ 0 ∷ 0 ∷ 0 ∷ 0 ∷ 0 ∷ 1 ∷ 0 ∷ 0 ∷ []
   pub selUndriven : eight (λ k. selBy 0 (2 ^ k)) ≡ 1 ∷ 1 ∷ 1 ∷ 1 ∷ 1 ∷ 0 ∷ 1 ∷ 1 ∷ []
   -- The line byte after an access to each location, by WR from all lines off, by RD from all on.
-  pub lineOn : sixteen (λ k. answerTo freshMachine (accessItem k) .lines) ≡ 0 ∷ 0x01 ∷ 0 ∷ 0x02 ∷ 0 ∷ 0x04 ∷ 0 ∷ 0x08 ∷ 0 ∷ 0x10 ∷ 0 ∷ 0x20 ∷ 0 ∷ 0x40 ∷ 0 ∷ 0x80 ∷ []
+  pub lineOn : sixteen (λ k. answerTo (freshMachine First) (accessItem k) .lines) ≡ 0 ∷ 0x01 ∷ 0 ∷ 0x02 ∷ 0 ∷ 0x04 ∷ 0 ∷ 0x08 ∷ 0 ∷ 0x10 ∷ 0 ∷ 0x20 ∷ 0 ∷ 0x40 ∷ 0 ∷ 0x80 ∷ []
   pub lineOff : sixteen (λ k. answerTo allOn (ReadIwm 0 k) .lines)
       ≡ 0xfe ∷ 0xff ∷ 0xfd ∷ 0xff ∷ 0xfb ∷ 0xff ∷ 0xf7 ∷ 0xff ∷ 0xef ∷ 0xff ∷ 0xdf ∷ 0xff ∷ 0xbf ∷ 0xff ∷ 0x7f ∷ 0xff ∷ []
   -- The wait of every kind passes, in T1 and in the drive, before the action: PW comes last, and makes T1 fresh.

@@ -2,36 +2,63 @@
 ghost use mathlib.Core.Path.{_≡_};
 ghost use lib.ListN.{length};
 ghost use mathlib.Core.Bool.{true};
-ghost use Rattle.image_spec.specs.Image.{imageLength, machineOf, validImage};
+ghost use Rattle.image_spec.specs.Image.{machineOf, validImage};
 ghost use Rattle.demand3.specs.Runs.{Run3};
 ghost use Rattle.units.specs.Units.{ticksOf};
 ghost use Rattle.capture_spec.specs.Convert.{convertedOf, outputOf};
-ghost use Rattle.entry_spec.specs.Call.{callOf, callImage, callAnswers, freshStop, freshImage};
+ghost use Rattle.entry_spec.specs.Call.{callOf, callImage, callAnswers, roomStop, roomImage, freshStop, freshImage, lengthFor};
 ghost use Rattle.sheet_spec.specs.Lookup.{sourceOf, placeOf, refusalOf, sheetNumber};
 ghost use Rattle.sheet_spec.specs.Compaction.{compactedOf, memoryOf, stopOf, writtenOf};
+use clock_spec::Chip;
 use units::Micros;
 
 pub mod keyboard_calls;
 
-// The length of an image in bytes.
+// The numbers of cells that a machine can be made with.
+const FIRST: u32 = clock_command::FIRST_CELLS as u32;
+
+const LATER: u32 = clock_command::ALL_CELLS as u32;
+
+// The length in bytes of an image of a machine with so many cells; 0 where there is no such machine.
 #[no_mangle]
-pub extern "C" fn swarmtempo_image_len() -> u64
-    ensures { λ r. ⌜ r ≡ imageLength ⌝ }
+pub extern "C" fn swarmtempo_image_len(cells: u32) -> u64
+    ensures { λ r. ⌜ r ≡ lengthFor cells ⌝ }
 {
-    image::LENGTH as u64
+    if cells == FIRST {
+        return image_layout::image_length(Chip::First) as u64;
+    }
+    if cells == LATER {
+        return image_layout::image_length(Chip::Later) as u64;
+    }
+    0
 }
 
-// Writes the fresh machine's image. 0, or 6 where the room is shorter than an image.
-#[no_mangle]
-pub extern "C" fn swarmtempo_fresh(image: &mut [u8]) -> u8
-    ensures { λ r. ⌜ r ≡ freshStop (now (image .entry)) ⌝ }
-    ensures { λ _. ⌜ now (image .exit) ≡ freshImage (now (image .entry)) ⌝ }
+// Writes the fresh machine's image, by its chip. 0, or 6 where the room is shorter than an image.
+fn fresh_image(image: &mut [u8], chip: Chip) -> u8
+    ensures { λ r. ⌜ r ≡ roomStop chip (now (image .entry)) ⌝ }
+    ensures { λ _. ⌜ now (image .exit) ≡ roomImage chip (now (image .entry)) ⌝ }
 {
-    if image.len() < image::LENGTH {
+    let n = image_layout::image_length(chip);
+    if image.len() < n {
         return 6;
     }
-    image::save(&mut image[..image::LENGTH], machine::fresh());
+    image::save(&mut image[..n], machine::fresh(chip));
     0
+}
+
+// Writes the fresh machine's image. 0; 5 where there is no machine with so many cells; 6 where the room is shorter than an image.
+#[no_mangle]
+pub extern "C" fn swarmtempo_fresh(image: &mut [u8], cells: u32) -> u8
+    ensures { λ r. ⌜ r ≡ freshStop cells (now (image .entry)) ⌝ }
+    ensures { λ _. ⌜ now (image .exit) ≡ freshImage cells (now (image .entry)) ⌝ }
+{
+    if cells == FIRST {
+        return fresh_image(image, Chip::First);
+    }
+    if cells == LATER {
+        return fresh_image(image, Chip::Later);
+    }
+    5
 }
 
 // Runs the list from the image's state, and leaves the image of the state reached. The stop number: 0, 1 or 6; 7 where no

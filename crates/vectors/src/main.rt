@@ -1,30 +1,22 @@
 // Runs the script on standard input: the samples, as lines that do something or say something. docs/FORMATS.md has their language.
-ghost use mathlib.Core.Path.{_≡_};
-ghost use Rattle.image_spec.specs.Image.{imageLength};
-ghost use lib.ListN.{length};
 use vectors_operations::Order;
 
-// Makes the machine fresh: 0.
-fn fresh(image: &mut [u8]) -> u64
-    requires { ⌜ length (now image) ≡ imageLength ⌝ }
-{
-    image::save(image, machine::fresh());
+// Makes the machine fresh, with the first chip: 0.
+fn fresh(image: &mut [u8]) -> u64 {
+    swarmtempo::swarmtempo_fresh(image, 20);
     0
 }
 
-// Runs a list, and prints what its operation shows.
-fn carry_out(image: &mut [u8], op: u8, list: &[u8], answers: &mut [u8])
-    requires { ⌜ length (now image) ≡ imageLength ⌝ }
-{
-    let r = run::run(image::load(image), list, answers);
-    image::save(image, r.machine);
-    vectors_print::shown(op, answers, r.stop, r.consumed, r.written);
+// Runs a list through the C entry, and prints what its operation shows.
+fn carry_out(image: &mut [u8], op: u8, list: &[u8], answers: &mut [u8]) {
+    let mut consumed: u64 = 0;
+    let mut written: u64 = 0;
+    let stop = swarmtempo::swarmtempo_run(image, list, answers, &mut consumed, &mut written);
+    vectors_print::shown(op, answers, stop, consumed, written);
 }
 
 // A line of an answer room, whose bytes hold $ee, and a list: the value as it was, or 256 where the line is bad.
-fn raw(image: &mut [u8], op: u8, text: &[u8], value: u64) -> u64
-    requires { ⌜ length (now image) ≡ imageLength ⌝ }
-{
+fn raw(image: &mut [u8], op: u8, text: &[u8], value: u64) -> u64 {
     let mut answers = [0xee; 32];
     let given = vectors_words::read_list(text);
     let list = given.list;
@@ -38,9 +30,7 @@ fn raw(image: &mut [u8], op: u8, text: &[u8], value: u64) -> u64
 }
 
 // One access: the value of its answer.
-fn once(image: &mut [u8], x: Order) -> u8
-    requires { ⌜ length (now image) ≡ imageLength ⌝ }
-{
+fn once(image: &mut [u8], x: Order) -> u8 {
     let list = vectors_operations::record(x);
     let mut answers = [0u8; 8];
     carry_out(image, x.op, &list, &mut answers);
@@ -48,9 +38,7 @@ fn once(image: &mut [u8], x: Order) -> u8
 }
 
 // The accesses of an operation: the value seen.
-fn many(image: &mut [u8], x: Order, value: u64) -> u64
-    requires { ⌜ length (now image) ≡ imageLength ⌝ }
-{
+fn many(image: &mut [u8], x: Order, value: u64) -> u64 {
     let n = vectors_operations::accesses(x);
     let mut byte = vectors_operations::start(x, value);
     let mut k: u64 = 0;
@@ -63,9 +51,7 @@ fn many(image: &mut [u8], x: Order, value: u64) -> u64
 }
 
 // A line of an operation: the value seen then, or 256 where it is bad.
-fn operation(image: &mut [u8], x: Order, value: u64) -> u64
-    requires { ⌜ length (now image) ≡ imageLength ⌝ }
-{
+fn operation(image: &mut [u8], x: Order, value: u64) -> u64 {
     let op = x.op;
     match op {
         0 => 256,
@@ -75,9 +61,7 @@ fn operation(image: &mut [u8], x: Order, value: u64) -> u64
 }
 
 // One line: the value seen then, or 256 or more where it is bad. An empty line makes the machine fresh.
-fn line(image: &mut [u8], text: &[u8], value: u64) -> u64
-    requires { ⌜ length (now image) ≡ imageLength ⌝ }
-{
+fn line(image: &mut [u8], text: &[u8], value: u64) -> u64 {
     if text.len() == 0 {
         return fresh(image);
     }
@@ -91,9 +75,7 @@ fn line(image: &mut [u8], text: &[u8], value: u64) -> u64
 }
 
 // The lines of the script, up to one that is bad.
-fn script(image: &mut [u8], s: &[u8])
-    requires { ⌜ length (now image) ≡ imageLength ⌝ }
-{
+fn script(image: &mut [u8], s: &[u8]) {
     let mut at: usize = 0;
     let mut number: u64 = 1;
     let mut value: u64 = 0;
@@ -110,7 +92,7 @@ fn script(image: &mut [u8], s: &[u8])
 }
 
 fn main() {
-    let mut image = [0; image::LENGTH];
+    let mut image = [0; image_layout::TAIL];
     fresh(&mut image);
     let mut text = io::large_buffer();
     let n = io::read_full(0, &mut text);

@@ -12,10 +12,10 @@ fn number(word: &[u8], n: u64) {
 }
 
 // Prints the line of a run: its stop number, the bytes consumed and the bytes written.
-fn end(stop: u8, consumed: usize, written: usize) {
+fn end(stop: u8, consumed: u64, written: u64) {
     number(b"stop ", stop as u64);
-    number(b" consumed ", consumed as u64);
-    number(b" written ", written as u64);
+    number(b" consumed ", consumed);
+    number(b" written ", written);
     io::write_all(1, b"\n");
 }
 
@@ -36,7 +36,7 @@ fn dump(answers: &[u8]) {
 
 // Prints with `l` the bytes of a list's first answer, with `e` the bytes of the answer room and the line of the run, with any other operation
 // nothing.
-pub fn shown(op: u8, answers: &[u8], stop: u8, consumed: usize, written: usize) {
+pub fn shown(op: u8, answers: &[u8], stop: u8, consumed: u64, written: u64) {
     match op {
         b'l' => {
             if 8 <= answers.len() {

@@ -7,7 +7,7 @@ use super::files::print;
 use std::process::Command;
 use std::time::{Duration, Instant};
 use swarmtempo::{
-    Address, DiskLine, Drive, InLine, Item, List, Machine, Register, Seconds, SenseRegister,
+    Address, Chip, DiskLine, Drive, InLine, Item, List, Machine, Register, Seconds, SenseRegister,
     ViaTicks, ANSWER_LEN,
 };
 use swarmtempo_model::run_image;
@@ -180,8 +180,8 @@ impl<'a> Run<'a> {
         Run { list: bytes, answers: vec![0; ANSWER_LEN * records], call }
     }
 
-    fn library(&mut self) {
-        let mut machine = Machine::fresh();
+    fn library(&mut self, chip: Chip) {
+        let mut machine = Machine::fresh(chip);
         let room = self.answers.len() / (self.list.len() / self.call);
         for (list, answers) in self.list.chunks(self.call).zip(self.answers.chunks_mut(room)) {
             assert!(machine.run_in(list, answers).at_end());
@@ -191,7 +191,7 @@ impl<'a> Run<'a> {
     // A function of its own, so that its instructions can be counted.
     #[inline(never)]
     fn model(&mut self) {
-        let mut image = Machine::fresh().image().to_vec();
+        let mut image = Machine::fresh(Chip::First).image().to_vec();
         let room = self.answers.len() / (self.list.len() / self.call);
         for (list, answers) in self.list.chunks(self.call).zip(self.answers.chunks_mut(room)) {
             assert_eq!(run_image(&mut image, list, answers).stop, 0);
@@ -205,27 +205,28 @@ fn timed(mut run: impl FnMut()) -> Duration {
     start.elapsed()
 }
 
-/// The quickest of several rounds, in which both take turns, so that what else the machine does meets
-/// both.
-fn best(name: &str, list: &List, records: usize) -> (Duration, Duration) {
-    let mut ours = Run::new(name, list, records);
-    let mut theirs = Run::new(name, list, records);
-    let mut quickest = (Duration::MAX, Duration::MAX);
+/// The quickest of several rounds, of the library with 20 cells, of the model, and of the library with
+/// 256 cells. They take turns, so that what else the machine does meets all.
+fn best(name: &str, list: &List, records: usize) -> [Duration; 3] {
+    let [mut first, mut model, mut later] = [(); 3].map(|()| Run::new(name, list, records));
+    let mut quickest = [Duration::MAX; 3];
     for _ in 0..ROUNDS {
-        quickest.0 = quickest.0.min(timed(|| ours.library()));
-        quickest.1 = quickest.1.min(timed(|| theirs.model()));
+        quickest[0] = quickest[0].min(timed(|| first.library(Chip::First)));
+        quickest[2] = quickest[2].min(timed(|| later.library(Chip::Later)));
+        quickest[1] = quickest[1].min(timed(|| model.model()));
     }
-    assert_eq!(ours.answers, theirs.answers, "library and model differ on {name}");
+    assert_eq!(first.answers, model.answers, "library and model differ on {name}");
+    assert_eq!(first.answers, later.answers, "the chips differ on {name}");
     quickest
 }
 
-/// The line for scripts: the mix, the worst list of records in one call, and calls of one item.
-fn summary(ratios: &[(&str, f64)]) -> String {
+/// A line for scripts: the mix, the worst list of records in one call, and calls of one item.
+fn summary(word: &str, digits: usize, ratios: &[(&str, f64)]) -> String {
     let of = |name: &str| ratios.iter().find(|r| r.0 == name).map_or(f64::NAN, |r| r.1);
     let rows = ratios.iter().filter(|r| r.0 != ONE);
     let worst = rows.max_by(|a, b| a.1.total_cmp(&b.1)).copied().unwrap_or(("none", f64::NAN));
     format!(
-        "summary mix={:.2} worst={:.2} one-item={:.2} worst-list=\"{}\"\n",
+        "{word} mix={:.digits$} worst={:.digits$} one-item={:.digits$} worst-list=\"{}\"\n",
         of(MIX),
         worst.1,
         of(ONE),
@@ -241,24 +242,32 @@ pub fn bench(records: usize) -> Result<(), Failure> {
     }
     print(&format!("{records} records a list, the best of {ROUNDS} rounds\n"))?;
     let (library, model) = ("library: nanoseconds", "model: nanoseconds");
-    print(&format!("{:<18} {:>17} {library:>21} {model:>21}\n", "", "library: records"))?;
+    let (later, cells) = ("256 cells: nanoseconds", "256 cells");
+    print(&format!(
+        "{:<18} {:>17} {library:>21} {model:>21} {:>7} {later:>23} {cells:>10}\n",
+        "", "library: records", ""
+    ))?;
     let each = "a record";
-    print(&format!("{:<18} {:>17} {each:>21} {each:>21} {:>7}\n", "list", "a second", "ratio"))?;
-    let mut ratios = Vec::new();
+    print(&format!(
+        "{:<18} {:>17} {each:>21} {each:>21} {:>7} {each:>23} {:>10}\n",
+        "list", "a second", "ratio", "by 20"
+    ))?;
+    let (mut ratios, mut by_cells) = (Vec::new(), Vec::new());
     for (name, list) in lists(records) {
-        let (library, model) = best(name, &list, records);
-        let ns = |time: Duration| time.as_secs_f64() * 1e9 / records as f64;
-        let ratio = ns(library) / ns(model);
+        let [library, model, later] = best(name, &list, records)
+            .map(|time: Duration| time.as_secs_f64() * 1e9 / records as f64);
+        let (ratio, by_first) = (library / model, later / library);
         print(&format!(
-            "{name:<18} {:>17.0} {:>21.1} {:>21.1} {ratio:>7.2}\n",
-            1e9 / ns(library),
-            ns(library),
-            ns(model),
+            "{name:<18} {:>17.0} {library:>21.1} {model:>21.1} {ratio:>7.2} {later:>23.1} {by_first:>10.3}\n",
+            1e9 / library,
         ))?;
         ratios.push((name, ratio));
+        by_cells.push((name, by_first));
     }
     print("ratio: time of the library by time of the model; below 1 the library is quicker\n")?;
-    print(&summary(&ratios))
+    print("256 cells by 20: time of the library with 256 cells by its time with 20\n")?;
+    print(&summary("cells", 3, &by_cells))?;
+    print(&summary("summary", 2, &ratios))
 }
 
 // ---- instructions, counted by callgrind
@@ -268,10 +277,10 @@ fn run_only(only: &str, records: usize) {
     let (side, wanted) = only.split_once(' ').unwrap_or((only, ""));
     for (name, list) in lists(records).iter().filter(|l| l.0 == wanted) {
         let mut run = Run::new(name, list, records);
-        if side == "library" {
-            run.library();
-        } else {
-            run.model();
+        match side {
+            "library" => run.library(Chip::First),
+            "later" => run.library(Chip::Later),
+            _ => run.model(),
         }
     }
 }
@@ -299,13 +308,19 @@ fn counted(side: &str, function: &str, name: &str, records: usize) -> Result<f64
 /// needs valgrind.
 pub fn instructions(records: usize) -> Result<(), Failure> {
     print(&format!("{records} records a list, instructions a record\n"))?;
-    print("list                 library       model   ratio\n")?;
-    let mut ratios = Vec::new();
+    print("list                 library       model   ratio  256 cells  256 cells by 20\n")?;
+    let (mut ratios, mut by_cells) = (Vec::new(), Vec::new());
     for (name, _) in lists(1) {
         let library = counted("library", "swarmtempo_run", name, records)?;
         let model = counted("model", "*Run*model*", name, records)?;
-        print(&format!("{name:<18} {library:>9.0} {model:>11.0} {:>7.2}\n", library / model))?;
-        ratios.push((name, library / model));
+        let later = counted("later", "swarmtempo_run", name, records)?;
+        let (ratio, by_first) = (library / model, later / library);
+        print(&format!(
+            "{name:<18} {library:>9.0} {model:>11.0} {ratio:>7.2} {later:>10.0} {by_first:>16.3}\n"
+        ))?;
+        ratios.push((name, ratio));
+        by_cells.push((name, by_first));
     }
-    print(&summary(&ratios))
+    print(&summary("cells", 3, &by_cells))?;
+    print(&summary("summary", 2, &ratios))
 }

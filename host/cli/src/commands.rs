@@ -65,9 +65,14 @@ const OUT: Flag = Flag {
     help: "writes to FILE, which appears whole or not at all (without it: standard output)",
 };
 
-const RUN: [Flag; 10] = [
+const RUN: [Flag; 11] = [
     Flag { name: "--text", value: "", help: "LIST is in the text form" },
     Flag { name: "--records", value: "", help: "LIST is records even where it looks like a text" },
+    Flag {
+        name: "--cells",
+        value: "CELLS",
+        help: "the fresh machine's clock chip has so many cells: 20 (without it, too) or 256",
+    },
     Flag {
         name: "--image",
         value: "FILE",
@@ -105,6 +110,24 @@ const RUN: [Flag; 10] = [
 const SHEET_TEXT: Flag =
     Flag { name: "--text", value: "", help: "the sheets named are in the text form" };
 
+const CAPTURE_TEXT: Flag =
+    Flag { name: "--text", value: "", help: "the captures are in the text form" };
+const CAPTURE_RECORDS: Flag = Flag {
+    name: "--records",
+    value: "",
+    help: "the captures are records even where they look like a text",
+};
+const CAPTURE_CELLS: Flag = Flag {
+    name: "--cells",
+    value: "CELLS",
+    help: "the fresh machine's clock chip has so many cells: 20 (without it, too) or 256",
+};
+const CAPTURE_IMAGE: Flag = Flag {
+    name: "--image",
+    value: "FILE",
+    help: "begins with the state of this image, not with the fresh machine",
+};
+
 /// All groups.
 pub const GROUPS: [Group; 1] = [Group {
     name: "sheet",
@@ -118,7 +141,7 @@ pub const GROUPS: [Group; 1] = [Group {
 }];
 
 /// All commands.
-pub const COMMANDS: [Command; 16] = [
+pub const COMMANDS: [Command; 19] = [
     Command {
         name: "run",
         operand: "LIST",
@@ -170,10 +193,56 @@ pub const COMMANDS: [Command; 16] = [
         }],
     },
     Command {
+        name: "cut",
+        operand: "CAPTURE",
+        brief: "a capture in parts, each with the state that it starts from",
+        about: "Cuts a capture between records, at a byte offset of the records or after every so many\n\
+                records. Part 1 is PREFIX-0001.bin (records), and PREFIX-0001.st is the image of the state\n\
+                that it starts from, so that run PREFIX-0002.bin --image PREFIX-0002.st goes on where part 1\n\
+                ended. It makes at most 400 parts of at most 268,435,456 bytes in all; all files are\n\
+                written, or none. An offset that is not between two records is refused.\n\
+                \n\
+                Exit status: 1 where a record of the capture is cut; then nothing is written.",
+        flags: &[
+            Flag { name: "--at", value: "OFFSET", help: "cuts in two, so many bytes from the start" },
+            Flag { name: "--every", value: "COUNT", help: "cuts after every so many records" },
+            Flag { name: "--out", value: "PREFIX", help: "what the names of all files begin with" },
+            CAPTURE_TEXT,
+            CAPTURE_RECORDS,
+            CAPTURE_CELLS,
+            CAPTURE_IMAGE,
+        ],
+    },
+    Command {
+        name: "join",
+        operand: "CAPTURE..",
+        brief: "captures one after the other, as one",
+        about: "Writes the records of all captures named, in the order in which they are named. Where each\n\
+                starts from the state that the one before it left, as the parts that cut makes do, a run of\n\
+                the whole gives what the runs of the parts gave. The whole has at most 268,435,456 bytes.\n\
+                \n\
+                Exit status: 1 where a record of a capture is cut; then nothing is written.",
+        flags: &[OUT, CAPTURE_TEXT, CAPTURE_RECORDS],
+    },
+    Command {
+        name: "touches",
+        operand: "CAPTURE..",
+        brief: "what of a capture can touch the clock; whether two agree",
+        about: "Shows the items of a capture that can touch the clock chip: those carried out that write VIA\n\
+                registers 0 (ORB) and 2 (DDRB), resets, every SE (one second), power cuts, each with its byte\n\
+                offset and the VIA ticks waited until it acts. Of two captures it says whether they agree in these\n\
+                items, and where they first part; two that agree leave the same cells, seconds, protect, test\n\
+                and half-made command, whatever their waits and other items are. Both begin on one state.\n\
+                \n\
+                Exit status: of one capture 1 where a record is cut; what comes before it is shown. Of two 0\n\
+                where they agree, 1 where they do not.",
+        flags: &[CAPTURE_TEXT, CAPTURE_RECORDS, CAPTURE_CELLS, CAPTURE_IMAGE],
+    },
+    Command {
         name: "image",
         operand: "FILE",
         brief: "a state image in words",
-        about: "Shows the state in an image that run --save wrote. An image of no accepted state is refused\n\
+        about: "Shows the state in an image that run --save wrote, all cells of its clock chip too. An image of no accepted state is refused\n\
                 with the first field that is out of its range: its name, offset and value.",
         flags: &[],
     },
@@ -266,8 +335,9 @@ pub const COMMANDS: [Command; 16] = [
         operand: "",
         brief: "records a second, beside a plain model of the board",
         about: "Times lists on the library and on a plain model of the same board: each kind of item, refusals,\n\
-                transactions with the clock chip, long waits, a mix, and calls with one item. The last line is\n\
-                for scripts: the ratios of the mix, of the worst list, and of calls with one item.",
+                transactions with the clock chip, long waits, a mix, and calls with one item; and on the library\n\
+                with 256 cells. The last lines are for scripts: the ratios of the mix, of the worst list, and of\n\
+                calls with one item.",
         flags: &[
             Flag {
                 name: "--records",
@@ -329,6 +399,7 @@ turned into VIA ticks and rounded up), a time off in s (seconds).";
 pub const STATUSES: &str = "\
 Exit status of run: 0 at the end of the list, 1 a record is cut, 6 no room for an answer, 7 the image
 is none of an accepted state; with --strict the number of the first refusal. Of convert: 1 a
+record is cut. Of cut and join: 1 a record is cut. Of touches: 1 two captures do not agree, or a
 record is cut. Of sheet: 1 a sheet is broken, 2 a setting is not set, 6 too little room. Of all commands: 64 wrong words, 65 an error in a
 text or a file of another kind, 74 a file cannot be read or written.";
 

@@ -24,9 +24,10 @@ enum Values {
 }
 
 fn values(name: &str) -> Values {
-    match name.trim_matches(['[', ']']) {
-        "EVENTS" | "FILE" | "LIST" | "OLD" | "SHEET" | "TEXT" => Values::Files,
+    match name.trim_matches(['[', ']', '.']) {
+        "CAPTURE" | "EVENTS" | "FILE" | "LIST" | "OLD" | "SHEET" | "TEXT" => Values::Files,
         "WHEN" => Values::Words(vec!["always", "never", "auto"]),
+        "CELLS" => Values::Words(vec!["20", "256"]),
         "SHELL" => Values::Words(SHELLS.to_vec()),
         "COMMAND" => Values::Words(names()),
         _ => Values::Nothing,
@@ -132,8 +133,9 @@ fn zsh() -> String {
             out.push('\'');
         }
         if !command.operand.is_empty() {
-            let name = command.operand.trim_matches(['[', ']']);
-            out.push_str(&format!(" \\\n        '1:{name}:{}'", action(name)));
+            let name = command.operand.trim_matches(['[', ']', '.']);
+            let which = if command.operand.ends_with("..") { "*" } else { "1" };
+            out.push_str(&format!(" \\\n        '{which}:{name}:{}'", action(name)));
         }
         out.push_str("\n    ;;\n");
     }

@@ -3,7 +3,7 @@
 use super::failure::{failure, Failure};
 use super::place::Input;
 use std::io::{self, Cursor, Read};
-use swarmtempo::Machine;
+use swarmtempo::Chip;
 
 /// Bytes looked at.
 const SAMPLE_LEN: u64 = 4096;
@@ -25,7 +25,7 @@ pub enum Looks {
 pub fn looks(sample: &[u8]) -> Looks {
     let control = |&byte: &u8| (byte < b' ' && !b"\t\n\r\x0C".contains(&byte)) || byte == 0x7F;
     let wide = |mark: [u8; 2]| sample.starts_with(&mark) && sample.len().is_multiple_of(2);
-    if sample.len() == Machine::image_len() && sample[2..4] == *b"ST" {
+    if Chip::of_image(sample).is_some_and(|chip| sample.len() == chip.image_len()) {
         Looks::Image
     } else if wide([0xFF, 0xFE]) || wide([0xFE, 0xFF]) {
         Looks::Utf16

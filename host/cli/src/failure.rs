@@ -15,6 +15,8 @@ pub enum Failure {
     Content(String, String),
     /// A file that cannot be read or written.
     File(String, io::Error),
+    /// A capture with a record that is cut, at this offset in bytes.
+    Cut(String, u64),
     /// An image that is none of an accepted state.
     State(String, String),
     /// An image that is none of an accepted keyboard.
@@ -30,6 +32,7 @@ impl Failure {
             Failure::Usage(_) => 64,
             Failure::Text(..) | Failure::Content(..) => 65,
             Failure::File(..) => 74,
+            Failure::Cut(..) => 1,
             Failure::State(..) | Failure::Keyboard(_) => 7,
             Failure::Sheet(_, refusal) => refusal.number(),
         }
@@ -51,6 +54,9 @@ impl fmt::Display for Failure {
             }
             Failure::Content(name, what) => write!(f, "{name}: {what}"),
             Failure::File(name, error) => write!(f, "{name}: {}", reason(error)),
+            Failure::Cut(name, offset) => {
+                write!(f, "{name}: a record is cut at byte {offset}; no file is written")
+            }
             Failure::State(name, why) => {
                 write!(f, "{name}: not the image of an accepted state: {why}")
             }

@@ -4,7 +4,7 @@ use super::contents::{looks, Looks};
 use super::failure::{failure, Failure};
 use super::place::Input;
 use std::io::Read;
-use swarmtempo::{Command, DiskLine, Machine};
+use swarmtempo::{Chip, Command, DiskLine, Machine};
 
 /// Lengths of older layouts in bytes, and what they are without.
 const OLDER: [(usize, &str); 2] = [
@@ -18,7 +18,7 @@ const STROBE_TICKS: u32 = 391_680;
 /// The machine of an image.
 pub fn read(input: &Input, file: Box<dyn Read>) -> Result<Machine, Failure> {
     let mut image = Vec::new();
-    let most = Machine::image_len() as u64 + 1;
+    let most = Machine::image_len(Chip::Later) as u64 + 1;
     file.take(most).read_to_end(&mut image).map_err(|error| failure(input, error))?;
     Machine::from_image(&image).map_err(|refusal| {
         let why = format!("{} (refusal {})", wrong(&image), refusal.number());
@@ -28,40 +28,63 @@ pub fn read(input: &Input, file: Box<dyn Read>) -> Result<Machine, Failure> {
 
 /// Why an image is refused.
 fn wrong(image: &[u8]) -> String {
-    let length = Machine::image_len();
+    let length = Chip::First.image_len();
+    let kind = Chip::of_image(image);
     let head = image.first_chunk::<2>().map(|&head| usize::from(u16::from_le_bytes(head)));
     let older = OLDER.iter().find(|(old, _)| image.len() == *old && head == Some(old - 2));
     if let Some((old, without)) = older.filter(|_| image[2..4] == *b"ST") {
         format!("it is an image of an older layout, {old} bytes, {without}; it has to be {length} bytes")
     } else if looks(image) == Looks::Text {
         "it is a text".to_string()
-    } else if image.len() > length {
-        format!("it has more than {length} bytes")
-    } else if image.len() < length {
-        format!("it has {} bytes, an image has {length}", image.len())
+    } else if let Some(chip) = kind.filter(|chip| chip.image_len() != image.len()) {
+        format!(
+            "it has {}, an image of its kind, with {chip}, has {}",
+            bytes(image),
+            chip.image_len()
+        )
+    } else if of_length(image).is_none() {
+        format!("it has {}, an image has {length} or {}", bytes(image), Chip::Later.image_len())
     } else {
         first_wrong(image).unwrap_or_else(|| "a field is out of its range".to_string())
     }
 }
 
+/// The bytes read, of which one more than the longest image has says that there may be many.
+fn bytes(image: &[u8]) -> String {
+    let most = Chip::Later.image_len();
+    if image.len() > most {
+        format!("more than {most} bytes")
+    } else {
+        format!("{} bytes", image.len())
+    }
+}
+
+/// The chip whose images have this length.
+fn of_length(image: &[u8]) -> Option<Chip> {
+    Chip::BOTH.into_iter().find(|chip| chip.image_len() == image.len())
+}
+
 /// The first field of an image that is out of its range: its name, offset and value, and what is
-/// accepted there. None where all are in range. The image has its length.
+/// accepted there. None where all are in range. The image has the length of a kind.
 pub fn first_wrong(image: &[u8]) -> Option<String> {
-    let mut fields = Fields { image, offset: 0, wrong: None };
+    let chip = of_length(image)?;
+    let mut fields = Fields { image, chip, offset: 0, wrong: None };
     fields.head();
     let enable = fields.via();
-    fields.clock(enable);
+    let (phase, command) = fields.clock(enable);
     let strobing = fields.levels();
     for drive in ["internal", "external"] {
         fields.drive(drive);
     }
     fields.strobe(strobing);
+    fields.tail(phase, command);
     fields.wrong
 }
 
 /// The fields of an image from its front on, up to the first wrong one.
 struct Fields<'a> {
     image: &'a [u8],
+    chip: Chip,
     offset: usize,
     wrong: Option<String>,
 }
@@ -105,8 +128,9 @@ impl Fields<'_> {
     fn head(&mut self) {
         let rest = u32::try_from(self.image.len() - 2).unwrap_or(u32::MAX);
         self.field("the length of what follows", 2, &rest.to_string(), |value| value == rest);
-        let kind = u32::from(u16::from_le_bytes(*b"ST"));
-        self.field("the kind", 2, "ST (83, 84)", |value| value == kind);
+        let kind = u32::from(u16::from_le_bytes(self.chip.kind()));
+        let named = if self.chip == Chip::Later { "SX (83, 88)" } else { "ST (83, 84)" };
+        self.field("the kind", 2, named, |value| value == kind);
     }
 
     /// Gives the level of the clock's enable: bit 2 of port B, 1 where it is not driven.
@@ -123,29 +147,23 @@ impl Fields<'_> {
         out & 4 != 0 || directions & 4 == 0
     }
 
-    fn clock(&mut self, enable: bool) {
+    /// Gives the phase and the command.
+    fn clock(&mut self, enable: bool) -> (u32, u32) {
         let phase = if enable {
             self.field("the clock's phase", 1, "0 while enable is 1", |value| value == 0)
         } else {
-            self.field("the clock's phase", 1, "1 to 4 while enable is 0", |value| {
-                (1..=4).contains(&value)
-            })
+            let most = if self.chip == Chip::Later { 5 } else { 4 };
+            let accepted = format!("1 to {most} while enable is 0");
+            self.field("the clock's phase", 1, &accepted, |value| (1..=most).contains(&value))
         };
-        let legal = |value: u32| {
-            let command = u8::try_from(value).ok().and_then(Command::of);
-            command.is_some_and(|command| !command.read)
-        };
-        match phase {
-            2 => self.field("the clock's command", 1, "a legal write command", legal),
-            _ => self.zero("the clock's command", phase),
-        };
+        let command = self.command(phase);
         let bits = match phase {
-            1 | 2 => self.field("the clock's bits taken", 1, "0 to 7", |value| value <= 7),
+            1 | 2 | 5 => self.field("the clock's bits taken", 1, "0 to 7", |value| value <= 7),
             3 => self.field("the clock's falls seen", 1, "0 to 8", |value| value <= 8),
             _ => self.zero("the clock's bits taken", phase),
         };
         match phase {
-            1 | 2 => {
+            1 | 2 | 5 => {
                 let most = (1u32 << bits.min(7)) - 1;
                 let accepted = format!("0 to {most} with {bits} bits taken");
                 self.field("the value of the clock's bits", 1, &accepted, |value| value <= most);
@@ -157,6 +175,47 @@ impl Fields<'_> {
         }
         self.flag("protect");
         self.any(25);
+        (phase, command)
+    }
+
+    /// The first command byte.
+    fn command(&mut self, phase: u32) -> u32 {
+        let name = "the clock's command";
+        let writes = |value: u32| {
+            let command = u8::try_from(value).ok().and_then(Command::of);
+            command.is_some_and(|command| !command.read)
+        };
+        let of_two = |value: u32| u8::try_from(value).is_ok_and(Command::is_first_of_two);
+        match (phase, self.chip) {
+            (2, Chip::First) => self.field(name, 1, "a legal write command", writes),
+            (2, Chip::Later) => {
+                let accepted = "a legal write command, or the first byte of a command of two";
+                self.field(name, 1, accepted, |value| writes(value) || of_two(value))
+            }
+            (5, Chip::Later) => {
+                let accepted = "the first byte of a write command of two, $38 to $3F";
+                self.field(name, 1, accepted, |value| of_two(value) && value < 128)
+            }
+            _ => self.zero(name, phase),
+        }
+    }
+
+    /// What an image of kind SX has at its end.
+    fn tail(&mut self, phase: u32, command: u32) {
+        if self.chip == Chip::First {
+            return;
+        }
+        self.any(Chip::Later.cells() - Chip::First.cells());
+        let name = "the clock's second command byte";
+        if phase == 5 {
+            let first = u8::try_from(command).unwrap_or(0);
+            let legal = |value: u32| {
+                u8::try_from(value).is_ok_and(|byte| Command::of_two(first, byte).is_some())
+            };
+            self.field(name, 1, "a byte whose bits 7, 1 and 0 are 0", legal);
+        } else {
+            self.zero(name, phase);
+        }
     }
 
     fn zero(&mut self, name: &str, phase: u32) -> u32 {
@@ -212,13 +271,14 @@ mod tests {
             "",
             "0t WR VIA.ORB $04\n0t WR VIA.DDRB $07\n0t WR VIA.ORB $00\n1t WR VIA.ORB 2",
             include_str!("../../captures/cell.txt"),
+            include_str!("../../captures/far.txt"),
             include_str!("../../captures/seek.txt"),
         ];
-        for text in texts {
+        for (text, chip) in texts.iter().flat_map(|text| Chip::BOTH.map(|chip| (text, chip))) {
             let lines: Vec<&str> = text.lines().collect();
-            for part in [lines.len() / 4, lines.len() / 2, 3 * lines.len() / 4, lines.len()] {
+            for part in (1..=6).map(|sixth| sixth * lines.len() / 6) {
                 let list = swarmtempo::text::assemble(&lines[..part].join("\n")).expect("text");
-                let mut machine = Machine::fresh();
+                let mut machine = Machine::fresh(chip);
                 assert!(machine.run(&list, &mut Vec::new()).at_end());
                 every_byte(machine.image());
             }
@@ -229,7 +289,7 @@ mod tests {
         assert_eq!(first_wrong(image), None);
         let ends = [0, 1, 2, 8, 9, 36, 37, 79, 80, 83, 84, 121, 127, 128, 185, 186, 255];
         for offset in 0..image.len() {
-            let in_phase = (23..27).contains(&offset);
+            let in_phase = (23..27).contains(&offset) || offset == 359;
             for value in (0..=255).filter(|value| in_phase || ends.contains(value)) {
                 let mut changed = image.to_vec();
                 changed[offset] = value;
@@ -242,7 +302,7 @@ mod tests {
 
     #[test]
     fn a_wrong_field_has_name_offset_and_value() {
-        let image = Machine::fresh().image().to_vec();
+        let image = Machine::fresh(Chip::First).image().to_vec();
         for (offset, value, words) in [
             (0, 120, "the length of what follows, at offset 0, is 120 ($0078); accepted is 121"),
             (3, 88, "the kind, at offset 2, is 22611 ($5853); accepted is ST (83, 84)"),
@@ -258,6 +318,10 @@ mod tests {
             let wrong = first_wrong(&changed).expect("refused");
             assert!(wrong.starts_with(words), "{wrong}");
         }
+        let mut later = Machine::fresh(Chip::Later).image().to_vec();
+        later[359] = 4;
+        let words = "the clock's second command byte, at offset 359, is 4 ($04); accepted is 0 in";
+        assert!(first_wrong(&later).expect("refused").starts_with(words));
     }
 
     #[test]
@@ -268,7 +332,23 @@ mod tests {
             assert!(wrong(&image)
                 .starts_with(&format!("it is an image of an older layout, {old} bytes")));
             image[0] = 1;
-            assert_eq!(wrong(&image), format!("it has {old} bytes, an image has 123"));
+            let said = format!("it has {old} bytes, an image of its kind, with 20 cells, has 123");
+            assert_eq!(wrong(&image), said);
+        }
+    }
+
+    #[test]
+    fn lengths_of_both_kinds_are_named() {
+        let [first, later] = Chip::BOTH.map(|chip| Machine::fresh(chip).image().to_vec());
+        let as_later = [&first[..3], b"X", &first[4..]].concat();
+        for (image, said) in [
+            (&later[..359], "it has 359 bytes, an image of its kind, with 256 cells, has 360"),
+            (&as_later[..], "it has 123 bytes, an image of its kind, with 256 cells, has 360"),
+            (&[0; 361], "it has more than 360 bytes, an image has 123 or 360"),
+            (&[0, 1, 2], "it has 3 bytes, an image has 123 or 360"),
+            (&[0; 360], "the length of what follows, at offset 0, is 0 ($0000); accepted is 358"),
+        ] {
+            assert_eq!(wrong(image), said);
         }
     }
 }

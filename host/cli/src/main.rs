@@ -7,6 +7,7 @@ mod completions;
 mod conflicts;
 mod contents;
 mod convert;
+mod cut;
 mod draft;
 mod failure;
 mod files;
@@ -25,6 +26,7 @@ mod source;
 mod style;
 mod summary;
 mod sys;
+mod touches;
 mod tour;
 mod words;
 
@@ -103,6 +105,9 @@ fn act(command: &str, given: &Given) -> Result<u8, Failure> {
         "asm" => assemble::asm(given),
         "disasm" => assemble::disasm(given),
         "convert" => convert::convert(given),
+        "cut" => cut::cut(given),
+        "join" => cut::join(given),
+        "touches" => touches::touches(given),
         "image" => {
             let input = Input::of(given.need()?);
             let machine = image::read(&input, source::open(&input)?)?;

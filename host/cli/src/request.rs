@@ -5,6 +5,7 @@ use super::failure::Failure;
 use super::place::{Input, Output};
 use super::style::When;
 use super::words::Given;
+use swarmtempo::Chip;
 
 /// What the words say of the list.
 #[derive(Clone, Copy, PartialEq, Eq)]
@@ -17,6 +18,21 @@ pub enum Form {
     Text,
 }
 
+impl Form {
+    /// By the words of a command.
+    pub fn of(command: &str, given: &Given) -> Result<Form, Failure> {
+        match (given.flag("--text"), given.flag("--records")) {
+            (true, true) => {
+                let what = "--text and --records: the list is one of them";
+                Err(Failure::usage(command, what))
+            }
+            (true, false) => Ok(Form::Text),
+            (false, true) => Ok(Form::Records),
+            (false, false) => Ok(Form::Unsaid),
+        }
+    }
+}
+
 /// The words of the command.
 pub struct Options {
     /// What the list is.
@@ -27,6 +43,8 @@ pub struct Options {
     pub strict: bool,
     /// Whether there are colours.
     pub colour: When,
+    /// The clock chip of a fresh machine.
+    pub chip: Chip,
     /// The image to begin with.
     pub image: Option<Input>,
     /// Where the image reached goes.
@@ -47,19 +65,12 @@ impl Options {
         let output = |name: &str| given.value(name).map(Output::of);
         let colour = given.value("--color").map_or(Some(When::Auto), |word| When::of(&word));
         let options = Options {
-            form: match (given.flag("--text"), given.flag("--records")) {
-                (true, true) => {
-                    let what = "--text and --records: the list is one of them";
-                    return Err(Failure::usage("run", what));
-                }
-                (true, false) => Form::Text,
-                (false, true) => Form::Records,
-                (false, false) => Form::Unsaid,
-            },
+            form: Form::of("run", given)?,
             quiet: given.flag("--quiet"),
             strict: given.flag("--strict"),
             colour: colour
                 .ok_or_else(|| Failure::usage("run", "--color needs always, never or auto"))?,
+            chip: chip("run", given)?,
             image: given.value("--image").map(Input::of),
             save: output("--save"),
             answers: output("--answers"),
@@ -95,4 +106,18 @@ impl Options {
         }
         uses
     }
+}
+
+/// The clock chip of a fresh machine. An image has its own.
+pub fn chip(command: &str, given: &Given) -> Result<Chip, Failure> {
+    let Some(word) = given.value("--cells") else {
+        return Ok(Chip::First);
+    };
+    if given.value("--image").is_some() {
+        let what = "--cells and --image: an image says how many cells there are";
+        return Err(Failure::usage(command, what));
+    }
+    let cells = word.to_str().and_then(|word| word.parse().ok());
+    let needs = || Failure::usage(command, "--cells needs 20 or 256, the cells of the clock chip");
+    cells.and_then(Chip::of_cells).ok_or_else(needs)
 }

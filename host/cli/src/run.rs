@@ -4,7 +4,7 @@ use super::contents::{self, Sampled};
 use super::failure::{failure, Failure};
 use super::files::{self, say, Out};
 use super::lines::{list_failure, Lines};
-use super::place::Output;
+use super::place::{Input, Output};
 use super::progress::Progress;
 use super::request::{Form, Options};
 use super::style::Style;
@@ -28,32 +28,39 @@ pub fn run(options: &Options) -> Result<u8, Failure> {
     let outs = Outs::open(options)?;
     let machine = match image {
         Some((input, file)) => image::read(input, file)?,
-        None => Machine::fresh(),
+        None => Machine::fresh(options.chip),
     };
     if options.form == Form::Text && source::length(&options.list).is_some() {
         // The whole text first, so that nothing is run where a line is wrong.
         let mut text = Lines::new(&options.list, source::open(&options.list)?, RECORDS)?;
         text.pour(&options.list, |_| Ok(()))?;
     }
-    let list = List::of(options, list)?;
+    let list = List::of(&options.list, options.form, list, "run it with --text")?;
     let mut runner = Runner::new(options, machine, outs)?;
     runner.stream(list, options)?;
     runner.close(options)
 }
 
 /// A list, as its records.
-enum List {
+pub enum List {
+    /// From records.
     Records(Sampled),
+    /// From a text.
     Text(Box<Lines>),
 }
 
 impl List {
-    fn of(options: &Options, file: Box<dyn Read>) -> Result<List, Failure> {
-        let input = &options.list;
-        Ok(match options.form {
+    /// From a file of this form; `advice` is what to do with a text where records are expected.
+    pub fn of(
+        input: &Input,
+        form: Form,
+        file: Box<dyn Read>,
+        advice: &str,
+    ) -> Result<List, Failure> {
+        Ok(match form {
             Form::Text => List::Text(Box::new(Lines::new(input, file, RECORDS)?)),
             Form::Records => List::Records(contents::sample(input, file)?.1),
-            Form::Unsaid => List::Records(contents::records(input, file, "run it with --text")?),
+            Form::Unsaid => List::Records(contents::records(input, file, advice)?),
         })
     }
 }

@@ -8,6 +8,8 @@ use swarmtempo::{Piece, Refusal, State, ANSWER_LEN};
 
 /// Refusals have the numbers 1 to 8.
 const NUMBERS: usize = 9;
+/// Of the cells changed, so many are named; run --save and image show all.
+const CELLS_SHOWN: usize = 20;
 
 /// Counts what a run does.
 pub struct Summary {
@@ -173,12 +175,17 @@ impl Summary {
             seconds(after)
         ));
         let cells = before.cells.iter().zip(&after.cells).enumerate();
-        let changed: Vec<String> = cells
+        let mut changed: Vec<String> = cells
             .filter(|(_, (before, after))| before != after)
             .map(|(cell, (before, after))| {
                 format!("cell {cell}: ${before:02X} before, ${after:02X} after")
             })
             .collect();
+        let more = changed.len().saturating_sub(CELLS_SHOWN);
+        changed.truncate(CELLS_SHOWN);
+        if more > 0 {
+            changed.push(format!("and {more} more"));
+        }
         let cells = if changed.is_empty() { "none".to_string() } else { changed.join("; ") };
         out.push_str(&format!("  cells changed {cells}\n"));
         let protect = |state: &State| if state.protect { "set" } else { "clear" };

@@ -5,7 +5,7 @@ use super::files;
 use super::numbers::{counted, ticks_and_seconds};
 use super::style::{Style, When};
 use swarmtempo::describe::date;
-use swarmtempo::{answers, pieces, text, Answer, Item, Machine, Piece};
+use swarmtempo::{answers, pieces, text, Answer, Chip, Item, Machine, Piece};
 
 /// The list. In it `;;` begins a heading, and `;-` the words for the lines without a comment below it,
 /// which make one row together.
@@ -51,7 +51,7 @@ impl<'a> Tour<'a> {
     fn new(style: Style) -> Tour<'a> {
         Tour {
             style,
-            machine: Machine::fresh(),
+            machine: Machine::fresh(Chip::First),
             items: 0,
             ticks: 0,
             words: "",

@@ -102,6 +102,17 @@ impl Given {
         }
     }
 
+    /// All operands, at least one and at most so many.
+    pub fn one_to(&self, most: usize) -> Result<&[OsString], Failure> {
+        match self.operands.get(most) {
+            Some(extra) => self.wrong(&format!("`{}` is too much", shown(extra))),
+            None if self.operands.is_empty() => {
+                self.wrong(&format!("{} is missing", self.command.operand))
+            }
+            None => Ok(&self.operands),
+        }
+    }
+
     /// All operands.
     pub fn operands(&self) -> &[OsString] {
         &self.operands

@@ -7,7 +7,7 @@ use std::collections::HashMap;
 use std::io::Write;
 use std::process::{Command, Stdio};
 use swarmtempo::{
-    answers, pieces, Address, Answer, Item, List, Machine, Piece, Refusal, Register, State,
+    answers, pieces, Address, Answer, Chip, Item, List, Machine, Piece, Refusal, Register, State,
     ViaTicks,
 };
 
@@ -123,7 +123,7 @@ fn long_lists_equal_one_run() {
         }
     }
     list.push_raw(&[9, 0, b'W']);
-    let mut machine = Machine::fresh();
+    let mut machine = Machine::fresh(Chip::First);
     let mut expected = Vec::new();
     let run = machine.run(list.as_bytes(), &mut expected);
     assert_eq!(run.stop, Some(Refusal::Cut));
@@ -395,7 +395,7 @@ fn drives_in_the_dump() {
     assert_eq!(times("external_track"), track);
     // The dump replayed beside the library, item by item.
     let records = program(&["asm", &list], b"").stdout;
-    let mut machine = Machine::fresh();
+    let mut machine = Machine::fresh(Chip::First);
     dump.shows(&machine.state(), 0);
     assert_eq!(dump.times.len(), 2 + pieces(&records).count());
     for (piece, &time) in pieces(&records).zip(&dump.times[1..]) {

@@ -6,13 +6,16 @@ use common::{feed, has, program, shell, status, stderr, stdout, Folder, PROGRAM,
 use std::fs;
 use std::process::Command;
 use swarmtempo::text::assemble;
-use swarmtempo::{Machine, CHUNK_LEN};
+use swarmtempo::{Chip, Machine, CHUNK_LEN};
 
-const COMMANDS: [&str; 16] = [
+const COMMANDS: [&str; 19] = [
     "run",
     "asm",
     "disasm",
     "convert",
+    "cut",
+    "join",
+    "touches",
     "image",
     "keyboard",
     "sheet get",
@@ -67,7 +70,7 @@ fn every_command_has_help_and_version() {
 #[test]
 fn units_in_full() {
     let folder = Folder::new("units");
-    let image = folder.put("image", Machine::fresh().image());
+    let image = folder.put("image", Machine::fresh(Chip::First).image());
     let mut said: Vec<String> =
         COMMANDS.map(|name| stdout(&program(&words(name, "--help"), b""))).into();
     for words in [
@@ -330,7 +333,7 @@ fn files_of_another_kind_are_named() {
     // Bytes that look like a text are records where the user says so.
     let forced = program(&["run", "-", "--records", "--quiet"], b"no");
     assert_eq!(status(&forced), 1);
-    let image = folder.put("image", Machine::fresh().image());
+    let image = folder.put("image", Machine::fresh(Chip::First).image());
     let list = folder.put("list", &SECOND.repeat(40));
     let wide: Vec<u8> = "\u{FEFF}0t SE\n".encode_utf16().flat_map(u16::to_le_bytes).collect();
     let wide = folder.put("wide", &wide);
@@ -350,7 +353,7 @@ fn files_of_another_kind_are_named() {
 #[test]
 fn a_bad_image_has_a_field() {
     let folder = Folder::new("field");
-    let mut image = Machine::fresh().image().to_vec();
+    let mut image = Machine::fresh(Chip::First).image().to_vec();
     image[100] = 80;
     let bad = folder.put("bad.st", &image);
     let old = folder.put("old.st", &[&[96, 0, b'S', b'T'][..], &[0; 94]].concat());

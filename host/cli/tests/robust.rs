@@ -9,7 +9,7 @@ use std::fs::File;
 use std::process::{Command, Stdio};
 use std::time::{Duration, Instant};
 use swarmtempo::text::{assemble_all, assemble_line, disassemble};
-use swarmtempo::{answers, pieces, sheet_text, Chunks, Item, Machine, Piece};
+use swarmtempo::{answers, pieces, sheet_text, Chip, Chunks, Item, Machine, Piece};
 
 /// A run of the program that takes longer hangs.
 const PATIENCE: Duration = Duration::from_secs(20);
@@ -75,9 +75,10 @@ fn for_a_while(salt: u64, mut act: impl FnMut(&mut Random)) {
     println!("seed {seed}: {rounds} rounds");
 }
 
-const TEXTS: [&str; 3] = [
+const TEXTS: [&str; 4] = [
     include_str!("../../captures/first.txt"),
     include_str!("../../captures/seek.txt"),
+    include_str!("../../captures/far.txt"),
     "12t WR $EFE1FE 0x41\n83658us RD VIA.IFR\n0t IN 6 1\n0t SN external 15 1\n\
      0t DI external 1 1 1\n$FFFFt PW 4294967295s\nRAW 05 00 53 45 00 00 00\n",
 ];
@@ -101,8 +102,11 @@ fn contents(random: &mut Random) -> Vec<u8> {
         0 => random.bytes(300),
         1 => random.broken(&sheet_text::assemble(SHEET).expect("in the form")),
         2 => random.broken(SHEET.as_bytes()),
+        3 => {
+            let chip = Chip::BOTH[random.below(2)];
+            random.broken(Machine::fresh(chip).image())
+        }
         6 => random.broken(EVENTS.as_bytes()),
-        3 => random.broken(Machine::fresh().image()),
         4 => {
             let list = records(random);
             random.broken(&list)
@@ -152,7 +156,7 @@ fn lists_and_answers() {
         assert_eq!(joined, list);
         let _ = Item::read(&list);
         assert!(answers(&list).count() <= list.len() / 8);
-        let mut machine = Machine::fresh();
+        let mut machine = Machine::fresh(Chip::First);
         let mut room = Vec::new();
         let run = machine.run(&list, &mut room);
         assert_eq!(answers(&room).count() * 8, run.written);
@@ -164,12 +168,12 @@ fn lists_and_answers() {
 fn images() {
     for_a_while(3, |random| {
         let list = records(random);
-        let mut machine = Machine::fresh();
+        let mut machine = Machine::fresh(Chip::BOTH[random.below(2)]);
         machine.run(&list[..random.below(list.len())], &mut Vec::new());
         let image = random.broken(machine.image());
         if let Ok(machine) = Machine::from_image(&image) {
             let state = machine.state();
-            assert!(state.level() <= 6 && state.cells.len() == 20);
+            assert!(state.level() <= 6 && state.cells.len() == state.chip.cells());
             assert_eq!(machine.image(), image);
         }
     });
@@ -180,7 +184,7 @@ fn images() {
 fn the_program() {
     let folder = Folder::new("robust");
     folder.put("nothing", b"");
-    let commands: [&[&str]; 18] = [
+    let commands: [&[&str]; 22] = [
         &["run", "file"],
         &["run", "file", "--text"],
         &["run", "file", "--records", "--vcd", "vcd", "--quiet"],
@@ -192,6 +196,10 @@ fn the_program() {
         &["image", "file"],
         &["convert", "file", "-o", "out"],
         &["convert", "--records"],
+        &["cut", "file", "--records", "--every", "1000", "--out", "part"],
+        &["join", "file", "nothing", "file", "-o", "out"],
+        &["touches", "file", "--records"],
+        &["touches", "-", "file", "--text"],
         &["sheet", "get", "7", "--bench", "file"],
         &["sheet", "get", "7", "--text", "--house", "file"],
         &["sheet", "list"],

@@ -3,7 +3,7 @@
 mod common;
 
 use common::{program, shell, status, stderr, stdout, Folder};
-use swarmtempo::Machine;
+use swarmtempo::{Chip, Machine};
 
 /// Two texts and their sheets.
 fn sheets(name: &str) -> Folder {
@@ -81,7 +81,7 @@ fn sheets_are_compacted() {
 fn nothing_is_written_where_something_is_wrong() {
     let folder = sheets("sheet_wrong");
     folder.put("cut.sv", &folder.get("bench.sv")[..9]);
-    folder.put("image", Machine::fresh().image());
+    folder.put("image", Machine::fresh(Chip::First).image());
     folder.put("wrong.txt", b"1 1\n65536 0\n2 2 \"a\n\xFF\n3 3\n");
     let names = folder.names();
     let broken =

@@ -1,19 +1,38 @@
-//! A saved state: one record of kind ST.
+//! A saved state: one record of kind ST, or SX where the chip is the later one.
 
-use crate::clock::{decode_command, Command, Phase, CELLS};
+use crate::clock::{decode_command, decode_extended, Chip, Command, Phase};
 use crate::machine::Machine;
 use crate::refusal;
 use crate::run::Run;
 
-/// Bytes of an image, its length included.
-pub const IMAGE_LEN: usize = 123;
+/// The cells in the middle of an image of either kind; the others stand near the end of SX.
+const CELLS_FIRST: usize = 20;
 
-struct Writer {
-    bytes: [u8; IMAGE_LEN],
+impl Chip {
+    /// Bytes of an image, its length included. SX ends with the cells that ST does not have, and a
+    /// second command byte.
+    pub fn image_len(self) -> usize {
+        match self {
+            Chip::First => 123,
+            Chip::Later => 123 + 236 + 1,
+        }
+    }
+
+    /// The kind of its images.
+    pub fn kind(self) -> [u8; 2] {
+        match self {
+            Chip::First => *b"ST",
+            Chip::Later => *b"SX",
+        }
+    }
+}
+
+struct Writer<'a> {
+    bytes: &'a mut [u8],
     at: usize,
 }
 
-impl Writer {
+impl Writer<'_> {
     fn put(&mut self, bytes: &[u8]) {
         self.bytes[self.at..self.at + bytes.len()].copy_from_slice(bytes);
         self.at += bytes.len();
@@ -64,28 +83,57 @@ impl Reader<'_> {
         self.byte().filter(|&byte| byte < 128)
     }
 
-    fn phase(&mut self) -> Option<Phase> {
+    /// The half-made command; the second byte of a command of two is none of these four.
+    fn phase(&mut self, chip: Chip) -> Option<Phase> {
         let [number, command, bits, value] = self.take()?;
         let taken = bits < 8 && u16::from(value) < 1 << bits;
         match number {
             0 if [command, bits, value] == [0; 3] => Some(Phase::Idle),
             1 if command == 0 && taken => Some(Phase::Listening { bits, value }),
-            2 if matches!(decode_command(command), Some(Command::Write(_))) && taken => {
-                Some(Phase::Taking { command, bits, value })
-            }
+            2 if taken => match decode_command(chip, command)? {
+                Command::Write(_) => Some(Phase::Taking { command, bits, value }),
+                Command::Extended { .. } => Some(Phase::Second { first: command, bits, value }),
+                Command::Read(_) => None,
+            },
             3 if command == 0 && bits < 9 => Some(Phase::Sending { byte: value, falls: bits }),
             4 if [command, bits, value] == [0; 3] => Some(Phase::Ignoring),
+            5 if taken => Some(Phase::TakingFar { first: command, second: 0, bits, value }),
             _ => None,
+        }
+    }
+
+    /// The later chip's end of an image.
+    fn tail(&mut self, m: &mut Machine) -> Option<()> {
+        let chip = m.clock.store.chip;
+        if chip == Chip::Later {
+            m.clock.store.cells[CELLS_FIRST..].copy_from_slice(&self.take::<236>()?);
+        }
+        let byte = if chip == Chip::Later { self.byte()? } else { 0 };
+        match &mut m.clock.phase {
+            Phase::TakingFar { first, second, .. } => {
+                *second = byte;
+                let command = decode_extended(chip, *first, byte);
+                matches!(command, Some(Command::Write(_))).then_some(())
+            }
+            _ => (byte == 0).then_some(()),
         }
     }
 }
 
 impl Machine {
     /// The image of an accepted state.
-    pub fn image(&self) -> [u8; IMAGE_LEN] {
-        let mut w = Writer { bytes: [0; IMAGE_LEN], at: 0 };
-        w.put(&(IMAGE_LEN as u16 - 2).to_le_bytes());
-        w.put(b"ST");
+    pub fn image(&self) -> Vec<u8> {
+        let mut image = vec![0; self.clock.store.chip.image_len()];
+        self.save(&mut image);
+        image
+    }
+
+    /// Writes it to memory of its length.
+    fn save(&self, image: &mut [u8]) {
+        let chip = self.clock.store.chip;
+        let mut w = Writer { bytes: image, at: 0 };
+        w.put(&(chip.image_len() as u16 - 2).to_le_bytes());
+        w.put(&chip.kind());
         let via = &self.via;
         w.put(&[via.out_b, via.out_a, via.dir_b, via.dir_a]);
         w.put(&via.t1.counter.to_le_bytes());
@@ -100,6 +148,8 @@ impl Machine {
             Phase::Idle => [0; 4],
             Phase::Listening { bits, value } => [1, 0, bits, value],
             Phase::Taking { command, bits, value } => [2, command, bits, value],
+            Phase::Second { first, bits, value } => [2, first, bits, value],
+            Phase::TakingFar { first, bits, value, .. } => [5, first, bits, value],
             Phase::Sending { byte, falls } => [3, 0, falls, byte],
             Phase::Ignoring => [4, 0, 0, 0],
         });
@@ -107,7 +157,7 @@ impl Machine {
         w.flag(store.protect);
         w.put(&[store.test]);
         w.put(&store.seconds.to_le_bytes());
-        w.put(&store.cells);
+        w.put(&store.cells[..CELLS_FIRST]);
         w.levels(self.lines.into(), 8);
         w.levels(self.inputs.into(), 7);
         w.levels(self.sense, 32);
@@ -121,20 +171,27 @@ impl Machine {
         }
         w.put(&self.drives.strobe.ticks.to_le_bytes());
         w.flag(self.drives.strobe.steady);
-        debug_assert_eq!(w.at, IMAGE_LEN);
-        w.bytes
+        if chip == Chip::Later {
+            w.put(&store.cells[CELLS_FIRST..]);
+            let second = match self.clock.phase {
+                Phase::TakingFar { second, .. } => second,
+                _ => 0,
+            };
+            w.put(&[second]);
+        }
+        debug_assert_eq!(w.at, chip.image_len());
     }
 
     /// The accepted state of an image, or none.
     pub fn from_image(image: &[u8]) -> Option<Machine> {
         let mut r = Reader { bytes: image };
-        let mut m = Machine::new();
-        if image.len() != IMAGE_LEN
-            || usize::from(r.word()?) != IMAGE_LEN - 2
-            || r.take()? != *b"ST"
-        {
+        let length = r.word()?;
+        let kind = r.take()?;
+        let chip = Chip::BOTH.into_iter().find(|chip| chip.kind() == kind)?;
+        if image.len() != chip.image_len() || usize::from(length) != image.len() - 2 {
             return None;
         }
+        let mut m = Machine::new(chip);
         let via = &mut m.via;
         [via.out_b, via.out_a, via.dir_b, via.dir_a] = r.take()?;
         via.t1.counter = r.word()?;
@@ -147,12 +204,12 @@ impl Machine {
         [via.sr, via.acr, via.pcr] = r.take()?;
         via.flags = r.seven_bits()?;
         via.enables = r.seven_bits()?;
-        m.clock.phase = r.phase()?;
+        m.clock.phase = r.phase(chip)?;
         let store = &mut m.clock.store;
         store.protect = r.flag()?;
         store.test = r.byte()?;
         store.seconds = u32::from_le_bytes(r.take()?);
-        store.cells = r.take::<CELLS>()?;
+        store.cells[..CELLS_FIRST].copy_from_slice(&r.take::<CELLS_FIRST>()?);
         m.lines = r.levels(8)? as u8;
         m.inputs = r.levels(7)? as u8;
         m.sense = r.levels(32)?;
@@ -168,14 +225,15 @@ impl Machine {
         }
         m.drives.strobe.ticks = u32::from_le_bytes(r.take()?);
         m.drives.strobe.steady = r.flag()?;
+        r.tail(&mut m)?;
         debug_assert!(r.bytes.is_empty());
         m.accepted().then_some(m)
     }
 }
 
 /// The image of a fresh machine.
-pub fn fresh_image() -> [u8; IMAGE_LEN] {
-    Machine::new().image()
+pub fn fresh_image(chip: Chip) -> Vec<u8> {
+    Machine::new(chip).image()
 }
 
 /// Runs a list on a lent image, which takes the state reached; on 7 nothing is written.
@@ -184,6 +242,6 @@ pub fn run_image(image: &mut [u8], list: &[u8], answers: &mut [u8]) -> Run {
         return Run { stop: refusal::STATE, consumed: 0, written: 0 };
     };
     let run = machine.run(list, answers);
-    image.copy_from_slice(&machine.image());
+    machine.save(image);
     run
 }

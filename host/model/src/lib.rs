@@ -17,10 +17,12 @@ mod run;
 pub mod sheet;
 mod via;
 
-pub use clock::{decode_command, Clock, Command, Phase, Store, Target, CELLS};
+pub use clock::{
+    decode_command, decode_extended, Chip, Clock, Command, Phase, Store, Target, CELLS_MOST,
+};
 pub use convert::{convert, Conversion};
 pub use drive::{ticks_of_micros, Drive, Drives, Strobe, EJECT_TICKS, STEP_TICKS, WRITE_TICKS};
-pub use image::{fresh_image, run_image, IMAGE_LEN};
+pub use image::{fresh_image, run_image};
 pub use items::{decode, Item, IWM_BASE, STRIDE, VIA_BASE};
 pub use keyboard::{
     keyboard_call, keyboard_fresh, Keyboard, KeyboardEvent, FULL, INQUIRY_TICKS, KEYBOARD_LEN,

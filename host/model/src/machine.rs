@@ -1,6 +1,6 @@
 //! The whole state, and one item carried out.
 
-use crate::clock::{Clock, Phase};
+use crate::clock::{Chip, Clock, Phase};
 use crate::drive::{Drive, Drives, Watched};
 use crate::items::Item;
 use crate::refusal;
@@ -28,19 +28,6 @@ pub struct Machine {
     pub drives: Drives,
 }
 
-impl Default for Machine {
-    fn default() -> Self {
-        Machine {
-            via: Via::default(),
-            clock: Clock::default(),
-            lines: 0,
-            inputs: 0x1F,
-            sense: 0xFFFF_FFFF,
-            drives: Drives::default(),
-        }
-    }
-}
-
 /// The clock's wires.
 #[derive(Clone, Copy, Debug, PartialEq, Eq)]
 pub struct Wires {
@@ -52,8 +39,15 @@ pub struct Wires {
 
 impl Machine {
     /// Fresh.
-    pub fn new() -> Self {
-        Self::default()
+    pub fn new(chip: Chip) -> Self {
+        Machine {
+            via: Via::default(),
+            clock: Clock::new(chip),
+            lines: 0,
+            inputs: 0x1F,
+            sense: 0xFFFF_FFFF,
+            drives: Drives::default(),
+        }
     }
 
     /// What the outside gives port B: data, two undriven lines, IN lines 0 to 3, an undriven line.

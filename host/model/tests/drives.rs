@@ -3,7 +3,7 @@
 mod common;
 
 use common::*;
-use swarmtempo_model::Machine;
+use swarmtempo_model::{Chip, Machine};
 
 const LSTRB: u32 = 3;
 const ENABLE: u32 = 4;
@@ -186,7 +186,7 @@ fn what_spoils_a_strobe() {
     b.line(0, LSTRB, true);
     b.ok(&record(b"RS", 5, &[]));
     assert!(!b.0.drives.drives[0].direction);
-    assert_eq!(b.0.drives, Machine::new().drives);
+    assert_eq!(b.0.drives, Machine::new(Chip::First).drives);
 }
 
 #[test]
@@ -269,7 +269,7 @@ fn ranges_in_images() {
     assert_eq!(image[118..123], [188, 2, 0, 0, 1]);
     assert_eq!(Machine::from_image(&image), Some(b.0.clone()));
     let with = |changes: &[(usize, u8)]| {
-        let mut image = image;
+        let mut image = image.clone();
         changes.iter().for_each(|&(at, value)| image[at] = value);
         Machine::from_image(&image).is_some()
     };

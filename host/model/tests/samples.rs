@@ -3,13 +3,13 @@
 mod common;
 
 use common::*;
-use swarmtempo_model::{fresh_image, run_image, Machine, Phase, Run, IMAGE_LEN};
+use swarmtempo_model::{fresh_image, run_image, Chip, Machine, Phase, Run};
 
 #[test]
 fn s1_empty_list() {
-    let mut m = Machine::new();
+    let mut m = Machine::new(Chip::First);
     assert_eq!(m.run(&[], &mut []), Run { stop: 0, consumed: 0, written: 0 });
-    assert_eq!(m, Machine::new());
+    assert_eq!(m, Machine::new(Chip::First));
 }
 
 #[test]
@@ -156,13 +156,13 @@ fn cut_lists() {
     for cut in [&[1, 0, 0][..], &[0, 0], &[4], &[4, 0, b'S', b'E', 0]] {
         let list = [&second[..], cut].concat();
         let mut answers = [0xEE; 24];
-        let mut m = Machine::new();
+        let mut m = Machine::new(Chip::First);
         let run = m.run(&list, &mut answers);
         assert_eq!(run, Run { stop: 1, consumed: 6, written: 16 });
         assert_eq!(answers[8..16], [6, 0, b'N', b'O', 1, 0, 0, 0]);
         assert_eq!(answers[16..], [0xEE; 8]);
         assert_eq!(m.clock.store.seconds, 1);
-        let run = Machine::new().run(&list, &mut answers[..15]);
+        let run = Machine::new(Chip::First).run(&list, &mut answers[..15]);
         assert_eq!(run, Run { stop: 6, consumed: 6, written: 8 });
     }
 }
@@ -172,7 +172,7 @@ fn small_rooms() {
     let list = record(b"SE", 0, &[]).repeat(3);
     for room in 0..40 {
         let mut answers = vec![0xEE; room];
-        let mut m = Machine::new();
+        let mut m = Machine::new(Chip::First);
         let run = m.run(&list, &mut answers);
         let done = (room / 8).min(3);
         let stop = if done == 3 { 0 } else { 6 };
@@ -190,7 +190,7 @@ fn power_cut_amid_a_write() {
     b.bit(1);
     b.ok(&record(b"PW", 7, &5u32.to_le_bytes()));
     assert_eq!(b.cells(), [0; 20]);
-    let mut fresh = Machine::new();
+    let mut fresh = Machine::new(Chip::First);
     fresh.clock.store.seconds = 5;
     assert_eq!(b.0, fresh);
 }
@@ -416,7 +416,7 @@ fn images_come_back() {
     assert_eq!(run, Run { stop: 0, consumed: 6, written: 8 });
     b.ok(&record(b"SE", 0, &[]));
     assert_eq!(image, b.0.image());
-    let fresh = fresh_image();
+    let fresh = fresh_image(Chip::First);
     assert_eq!(fresh[61..66], [1; 5]);
     assert_eq!(fresh[66..68], [0; 2]);
     assert_eq!(fresh[68..100], [1; 32]);
@@ -429,7 +429,7 @@ fn images_that_no_state_has() {
     let mut base = Bench::new();
     base.begin();
     let open = base.0.image();
-    let fresh = fresh_image();
+    let fresh = fresh_image(Chip::First);
     let refused = |image: &[u8], why: &str| {
         let mut lent = image.to_vec();
         let mut answers = [0xEE; 16];
@@ -438,7 +438,7 @@ fn images_that_no_state_has() {
         assert_eq!(lent, image, "{why}");
         assert_eq!(answers, [0xEE; 16]);
     };
-    refused(&fresh[..IMAGE_LEN - 1], "short");
+    refused(&fresh[..122], "short");
     refused(&[&fresh[..], &[0]].concat(), "long");
     let with = |image: &[u8], changes: &[(usize, u8)]| {
         let mut image = image.to_vec();

@@ -11,7 +11,7 @@ use std::error::Error;
 use std::fs::{read_to_string, File};
 use std::io::{Cursor, Read};
 use std::path::Path;
-use swarmtempo::{Chunks, List, Machine, Refusal, TICKS_PER_SECOND};
+use swarmtempo::{Chip, Chunks, List, Machine, Refusal, TICKS_PER_SECOND};
 
 /// What a capture had.
 #[derive(Default)]
@@ -53,7 +53,7 @@ impl Counts {
 
 fn main() -> Result<(), Box<dyn Error>> {
     for name in std::env::args().skip(1) {
-        let mut machine = Machine::fresh();
+        let mut machine = Machine::fresh(Chip::First);
         let mut counts = Counts::default();
         let text = Path::new(&name).extension().is_some_and(|end| end == "txt");
         if text {

@@ -1,11 +1,12 @@
-//! A loader: writes settings into cells of the clock chip, reads them back and checks them.
+//! A loader: writes settings into cells of the clock chip, reads them back and checks them. Where one
+//! of them is a cell past 19, the machine has the later chip, of 256 cells.
 //!
 //! ```sh
-//! cargo run --example loader -- 3=0x41 19=7
+//! cargo run --example loader -- 3=0x41 19=7 255=1
 //! ```
 
 use std::error::Error;
-use swarmtempo::{Address, Item, List, Machine, Register, ViaTicks, CELLS};
+use swarmtempo::{Address, Chip, Item, List, Machine, Register, ViaTicks};
 
 /// Every wait of a transaction.
 const NOW: ViaTicks = ViaTicks(0);
@@ -20,12 +21,12 @@ fn directions(list: &mut List, outputs: u8) {
     list.push(NOW, Item::Write(Address::Via(Register::DDRB), outputs));
 }
 
-/// Enable goes down, and a byte is sent, high-order bit first.
-fn begin(list: &mut List, command: u8) {
+/// Enable goes down, and a command is sent, high-order bits first.
+fn begin(list: &mut List, command: &[u8]) {
     port(list, 4);
     directions(list, 7);
     port(list, 0);
-    send(list, command);
+    command.iter().for_each(|&byte| send(list, byte));
 }
 
 fn send(list: &mut List, byte: u8) {
@@ -35,18 +36,18 @@ fn send(list: &mut List, byte: u8) {
     }
 }
 
-/// The command that writes a cell; bit 7 makes it a read.
-fn command(cell: u8) -> u8 {
-    if cell < 16 {
-        0x41 | cell << 2
-    } else {
-        0x21 | (cell - 16) << 2
+/// The command for a cell, of two bytes past cell 19; bit 7, given in `read`, makes it a read.
+fn command(cell: u8, read: u8) -> Vec<u8> {
+    match cell {
+        0..16 => vec![read | 0x41 | cell << 2],
+        16..20 => vec![read | 0x21 | (cell - 16) << 2],
+        _ => vec![read | 0x38 | cell >> 5, (cell & 0x1F) << 2],
     }
 }
 
 fn write_cell(cell: u8, value: u8) -> List {
     let mut list = List::new();
-    begin(&mut list, command(cell));
+    begin(&mut list, &command(cell, 0));
     send(&mut list, value);
     port(&mut list, 4);
     list
@@ -55,7 +56,7 @@ fn write_cell(cell: u8, value: u8) -> List {
 /// Its eight reads have the byte, high-order bit first, in bit 0.
 fn read_cell(cell: u8) -> List {
     let mut list = List::new();
-    begin(&mut list, 0x80 | command(cell));
+    begin(&mut list, &command(cell, 0x80));
     directions(&mut list, 6);
     for _ in 0..8 {
         port(&mut list, 0);
@@ -85,7 +86,7 @@ fn run(machine: &mut Machine, list: &List) -> Result<u8, Box<dyn Error>> {
 /// `3=0x41` or `3=65`.
 fn setting(word: &str) -> Option<(u8, u8)> {
     let (cell, value) = word.split_once('=')?;
-    let cell: u8 = cell.parse().ok().filter(|&cell| usize::from(cell) < CELLS)?;
+    let cell: u8 = cell.parse().ok()?;
     let value = match value.strip_prefix("0x") {
         Some(digits) => u8::from_str_radix(digits, 16).ok()?,
         None => value.parse().ok()?,
@@ -101,7 +102,9 @@ fn main() -> Result<(), Box<dyn Error>> {
     if settings.is_empty() {
         settings.extend([(0, 0xAA), (15, 0x01), (16, 0x7F), (19, 0x80)]);
     }
-    let mut machine = Machine::fresh();
+    let fits = |chip: &Chip| settings.iter().all(|&(cell, _)| usize::from(cell) < chip.cells());
+    let chip = Chip::BOTH.into_iter().find(fits).unwrap_or(Chip::Later);
+    let mut machine = Machine::fresh(chip);
     for &(cell, value) in &settings {
         run(&mut machine, &write_cell(cell, value))?;
         let got = run(&mut machine, &read_cell(cell))?;

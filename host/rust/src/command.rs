@@ -1,4 +1,4 @@
-//! The clock chip's command bytes, named.
+//! The clock chip's commands, named.
 
 use std::fmt;
 
@@ -15,7 +15,7 @@ pub enum Target {
     Cell(u8),
 }
 
-/// A legal command byte.
+/// A legal command.
 #[derive(Clone, Copy, Debug, PartialEq, Eq, Hash)]
 pub struct Command {
     /// True for a read, false for a write.
@@ -25,7 +25,7 @@ pub struct Command {
 }
 
 impl Command {
-    /// The meaning of a command byte, or none where the chip ignores it.
+    /// The meaning of a command of one byte, the same on both chips, or none where it is none.
     pub fn of(byte: u8) -> Option<Command> {
         let read = byte & 0x80 != 0;
         let target = match byte & 0x7F {
@@ -37,6 +37,19 @@ impl Command {
             _ => return None,
         };
         Some(Command { read, target })
+    }
+
+    /// True where the later chip takes a second byte after this one. The first chip ignores it.
+    pub fn is_first_of_two(byte: u8) -> bool {
+        byte & 0x78 == 0x38
+    }
+
+    /// The meaning of a command of two bytes, z0111abc 0defgh00 for cell abcdefgh, or none where the
+    /// later chip ignores it.
+    pub fn of_two(first: u8, second: u8) -> Option<Command> {
+        let legal = Command::is_first_of_two(first) && second & 0x83 == 0;
+        let target = Target::Cell((first & 7) << 5 | second >> 2);
+        legal.then_some(Command { read: first & 0x80 != 0, target })
     }
 }
 

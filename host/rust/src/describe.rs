@@ -1,6 +1,6 @@
 //! A state in words: what `Display` writes of a [`Machine`], a [`State`] and its parts.
 
-use crate::{Command, DriveState, InLine, Machine, Phase, State, Wires};
+use crate::{Chip, Command, DriveState, InLine, Machine, Phase, State, Wires};
 use std::fmt;
 
 const FLAGS: [&str; 7] =
@@ -9,7 +9,8 @@ const FLAGS: [&str; 7] =
 /// All of a machine's image.
 pub fn image(machine: &Machine) -> String {
     let state = machine.state();
-    format!("State image of kind ST, {} bytes\n\n{state}", machine.image().len())
+    let kind = String::from_utf8_lossy(&state.chip.kind()).into_owned();
+    format!("State image of kind {kind}, {} bytes\n\n{state}", machine.image().len())
 }
 
 impl fmt::Display for Machine {
@@ -111,9 +112,18 @@ fn clock(state: &State, out: &mut String) {
     let stopped = if state.seconds_stopped() { " (seconds stopped)" } else { "" };
     out.push_str(&format!("  test      ${:02X}{stopped}\n", state.test));
     out.push_str(&format!("  seconds   {} seconds: {}\n", state.seconds.0, date(state.seconds.0)));
+    cells(state, out);
+}
+
+/// A row for sixteen cells; over those of the later chip, which are many, the low digits.
+fn cells(state: &State, out: &mut String) {
+    if state.chip == Chip::Later {
+        let digits: Vec<String> = (0..16).map(|low| format!(" {low:X}")).collect();
+        out.push_str(&format!("  {:<9}      {}\n", "256 cells", digits.join(" ")));
+    }
     for (row, cells) in state.cells.chunks(16).enumerate() {
         let shown: Vec<String> = cells.iter().map(|cell| format!("{cell:02X}")).collect();
-        let name = if row == 0 { "cells" } else { "" };
+        let name = if row == 0 && state.chip == Chip::First { "cells" } else { "" };
         out.push_str(&format!("  {name:<9} ${:02X}: {}\n", 16 * row, shown.join(" ")));
     }
 }
@@ -132,6 +142,16 @@ fn phase(phase: Phase) -> String {
         Phase::Taking { command, bits: count, value } => {
             let name = Command::of(command).map_or(String::new(), |it| it.to_string());
             format!("${command:02X} ({name}): {} of the data taken", bits(count, value))
+        }
+        Phase::Second { first, bits: count, value } => {
+            let kind = if first & 0x80 != 0 { "read" } else { "write" };
+            let bits = bits(count, value);
+            format!("${first:02X} ({kind} of two bytes): {bits} of the second byte taken")
+        }
+        Phase::TakingExtended { first, second, bits: count, value } => {
+            let name = Command::of_two(first, second).map_or(String::new(), |it| it.to_string());
+            let bits = bits(count, value);
+            format!("${first:02X} ${second:02X} ({name}): {bits} of the data taken")
         }
         Phase::Sending { byte, falls } => {
             format!("sending ${byte:02X}, {falls} falls of data-clock seen")

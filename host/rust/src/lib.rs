@@ -1,17 +1,17 @@
 //! Swarmtempo: the VIA, the clock chip and the disk lines of a Macintosh Plus, behind safe types.
 //!
-//! A [`Machine`] owns a state. A [`List`] is built of items, each with a wait in [`ViaTicks`]; a run
+//! A [`Machine`] owns a state, and has one of two clock chips ([`Chip`]). A [`List`] is built of items, each with a wait in [`ViaTicks`]; a run
 //! carries them out or refuses them, and answers each.
 //!
 //! ```
-//! use swarmtempo::{Address, Item, List, Machine, Register, ViaTicks};
+//! use swarmtempo::{Address, Chip, Item, List, Machine, Register, ViaTicks};
 //!
 //! let mut list = List::new();
 //! list.push(ViaTicks(0), Item::Write(Address::Via(Register::IER), 0x81));
 //! list.push(ViaTicks(0), Item::Second);
 //! list.push(ViaTicks(0), Item::Read(Address::Via(Register::IFR)));
 //!
-//! let mut machine = Machine::fresh();
+//! let mut machine = Machine::fresh(Chip::First);
 //! let transcript = machine.run_items(&list);
 //! assert!(transcript.run().at_end());
 //! let last = transcript.iter().last().expect("three answers");
@@ -27,6 +27,7 @@
 //! - States: [`Machine::image`] to save and [`Machine::from_image`] to restore; [`State`] to look at.
 //! - For people: [`table`], [`vcd`], [`describe`], and `Display` of nearly everything.
 //! - Captures from before SN retired on the drives' own registers: [`convert`].
+//! - What of a capture can touch the clock: [`Touches`].
 //! - A keyboard, by itself: [`Keyboard`].
 //! - Settings of a bench: [`Sheets`], [`compact`], and as text [`sheet_text`].
 //! - The C functions as they are: [`sys`].
@@ -42,6 +43,7 @@
 
 mod address;
 mod answer;
+mod chip;
 mod chunks;
 mod command;
 mod convert;
@@ -62,6 +64,7 @@ pub mod table;
     reason = "a number is cut, and a value expected, once its range is checked"
 )]
 pub mod text;
+mod touches;
 mod units;
 pub mod vcd;
 
@@ -69,6 +72,7 @@ pub use address::{Address, DiskLine, Register};
 pub use answer::{
     answers, Answer, Answers, Lines, NoAnswer, Refusal, Seen, UnknownRefusal, ANSWER_LEN,
 };
+pub use chip::Chip;
 pub use chunks::{pieces, Chunks, Piece, Pieces, CHUNK_LEN};
 pub use command::{Command, Target};
 pub use convert::{convert, convert_in, Conversion};
@@ -80,5 +84,6 @@ pub use machine::{Exchange, Exchanges, Machine, Run, Transcript};
 pub use sheets::{
     compact, compact_into, settings, Setting, Sheet, SheetRefusal, Sheets, SETTING_MAX,
 };
-pub use state::{DriveState, Phase, State, Strobe, Timer1, Timer2, Wires, CELLS, IMAGE_LEN};
+pub use state::{DriveState, Phase, State, Strobe, Timer1, Timer2, Wires};
+pub use touches::{Touch, Touched, Touches};
 pub use units::{Micros, Seconds, TickCount, TooLong, ViaTicks, TICKS_PER_SECOND};

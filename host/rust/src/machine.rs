@@ -2,8 +2,8 @@
 
 use crate::table::{Table, HEAD};
 use crate::{
-    chunks, pieces, sys, Answer, Item, Piece, Pieces, Refusal, Seen, State, Timed, ViaTicks,
-    ANSWER_LEN, IMAGE_LEN,
+    chunks, pieces, sys, Answer, Chip, Item, Piece, Pieces, Refusal, Seen, State, Timed, ViaTicks,
+    ANSWER_LEN,
 };
 use std::fmt;
 use std::iter::FusedIterator;
@@ -50,25 +50,28 @@ pub struct Machine {
 }
 
 impl Machine {
-    /// A fresh machine.
+    /// A fresh machine with this clock chip.
     ///
     /// # Panics
     /// As [`Machine::image_len`].
-    pub fn fresh() -> Machine {
-        let mut image = vec![0; Machine::image_len()];
-        let refusal = sys::fresh(&mut image);
+    #[allow(clippy::cast_possible_truncation, reason = "20 or 256 cells")]
+    pub fn fresh(chip: Chip) -> Machine {
+        let mut image = vec![0; Machine::image_len(chip)];
+        let refusal = sys::fresh(&mut image, chip.cells() as u32);
         assert_eq!(refusal, 0, "an image of its own length has room");
         Machine { image }
     }
 
-    /// Bytes of an image.
+    /// Bytes of an image, by the archive.
     ///
     /// # Panics
     /// Where the archive is of another version than this crate, and has another image.
-    pub fn image_len() -> usize {
-        let same = usize::try_from(sys::image_len()) == Ok(IMAGE_LEN);
+    #[allow(clippy::cast_possible_truncation, reason = "20 or 256 cells")]
+    pub fn image_len(chip: Chip) -> usize {
+        let by_archive = usize::try_from(sys::image_len(chip.cells() as u32));
+        let same = by_archive == Ok(chip.image_len());
         assert!(same, "libswarmtempo.a is of another version than the crate swarmtempo");
-        IMAGE_LEN
+        chip.image_len()
     }
 
     /// The machine of a saved image.
@@ -76,7 +79,8 @@ impl Machine {
     /// # Errors
     /// [`Refusal::State`] where no accepted state has this image.
     pub fn from_image(image: &[u8]) -> Result<Machine, Refusal> {
-        if image.len() != Machine::image_len() {
+        let chip = Chip::of_image(image).ok_or(Refusal::State)?;
+        if image.len() != Machine::image_len(chip) {
             return Err(Refusal::State);
         }
         let mut machine = Machine { image: image.to_vec() };
@@ -84,6 +88,11 @@ impl Machine {
             None => Ok(machine),
             Some(refusal) => Err(refusal),
         }
+    }
+
+    /// Its clock chip, which no run changes.
+    pub fn chip(&self) -> Chip {
+        Chip::of_image(&self.image).unwrap_or_default()
     }
 
     /// The image, to be saved.
@@ -99,9 +108,9 @@ impl Machine {
     /// Does one item, after a wait.
     ///
     /// ```
-    /// use swarmtempo::{Address, Item, Machine, Register, ViaTicks};
+    /// use swarmtempo::{Address, Chip, Item, Machine, Register, ViaTicks};
     ///
-    /// let mut machine = Machine::fresh();
+    /// let mut machine = Machine::fresh(Chip::First);
     /// let seen = machine.step(ViaTicks(0), Item::Read(Address::Via(Register::ORB)))?;
     /// assert_eq!(seen.value, 0xFF);
     /// # Ok::<(), swarmtempo::Refusal>(())
@@ -139,10 +148,10 @@ impl Machine {
     /// Runs a list, and gives its items with their answers.
     ///
     /// ```
-    /// use swarmtempo::{List, Machine, Refusal};
+    /// use swarmtempo::{Chip, List, Machine, Refusal};
     ///
     /// let list: List = "0t WR VIA.IER $81\n0t SE\nRAW 05 00 53 45 00 00 00".parse()?;
-    /// let transcript = Machine::fresh().run_items(&list);
+    /// let transcript = Machine::fresh(Chip::First).run_items(&list);
     /// assert!(transcript.run().at_end());
     /// for done in &transcript {
     ///     match done.item {
@@ -161,9 +170,10 @@ impl Machine {
     }
 }
 
+/// Fresh, with the first chip.
 impl Default for Machine {
     fn default() -> Machine {
-        Machine::fresh()
+        Machine::fresh(Chip::First)
     }
 }
 

@@ -1,12 +1,7 @@
-//! An image taken apart, for showing it. The layout is that of kind ST. Its words are in [`crate::describe`].
+//! An image taken apart, for showing it. The layout is that of kinds ST and SX. Its words are in
+//! [`crate::describe`].
 
-use crate::{DiskLine, InLine, Lines, Seconds, SenseRegister, TickCount, ViaTicks};
-
-/// Bytes of an image of kind ST.
-pub const IMAGE_LEN: usize = 123;
-
-/// Cells of the clock chip.
-pub const CELLS: usize = 20;
+use crate::{Chip, Command, DiskLine, InLine, Lines, Seconds, SenseRegister, TickCount, ViaTicks};
 
 /// Timer 1.
 #[derive(Clone, Copy, Debug, PartialEq, Eq)]
@@ -48,6 +43,26 @@ pub enum Phase {
     Taking {
         /// The command.
         command: u8,
+        /// Data bits taken, 0 to 7.
+        bits: u8,
+        /// Their value.
+        value: u8,
+    },
+    /// Taking the second byte of a command of two: the later chip's.
+    Second {
+        /// The first byte.
+        first: u8,
+        /// Bits taken, 0 to 7.
+        bits: u8,
+        /// Their value.
+        value: u8,
+    },
+    /// Taking the data of a write command of two bytes: the later chip's.
+    TakingExtended {
+        /// The first byte.
+        first: u8,
+        /// The second byte.
+        second: u8,
         /// Data bits taken, 0 to 7.
         bits: u8,
         /// Their value.
@@ -139,8 +154,10 @@ pub struct State {
     pub test: u8,
     /// The chip's count, from 1 January 1904.
     pub seconds: Seconds,
-    /// Parameter memory.
-    pub cells: [u8; CELLS],
+    /// The clock chip.
+    pub chip: Chip,
+    /// Its parameter memory, as many cells as it has.
+    pub cells: Vec<u8>,
     /// The disk lines.
     pub lines: Lines,
     /// The levels of the IN lines.
@@ -206,9 +223,25 @@ impl Fields<'_> {
         match number {
             0 => Phase::Idle,
             1 => Phase::Listening { bits, value },
+            2 if Command::is_first_of_two(command) => Phase::Second { first: command, bits, value },
             2 => Phase::Taking { command, bits, value },
             3 => Phase::Sending { byte: value, falls: bits },
+            5 => Phase::TakingExtended { first: command, second: 0, bits, value },
             _ => Phase::Ignoring,
+        }
+    }
+
+    /// What an image of kind SX has at its end: the other cells, and the second command byte.
+    fn tail(&mut self, state: &mut State) {
+        if state.chip == Chip::First {
+            return;
+        }
+        state
+            .cells
+            .extend_from_slice(&self.bytes::<{ Chip::Later.cells() - Chip::First.cells() }>());
+        let byte = self.byte();
+        if let Phase::TakingExtended { second, .. } = &mut state.phase {
+            *second = byte;
         }
     }
 }
@@ -216,9 +249,10 @@ impl Fields<'_> {
 impl State {
     /// The state of an image that a run accepts.
     pub(crate) fn of_accepted(image: &[u8]) -> State {
+        let chip = Chip::of_image(image).expect("an accepted image has a kind");
         let mut f = Fields(image);
         let _length_and_kind: [u8; 4] = f.bytes();
-        State {
+        let mut state = State {
             out_b: f.byte(),
             out_a: f.byte(),
             dir_b: f.byte(),
@@ -234,13 +268,16 @@ impl State {
             protect: f.flag(),
             test: f.byte(),
             seconds: Seconds(f.long()),
-            cells: f.bytes(),
+            chip,
+            cells: f.bytes::<{ Chip::First.cells() }>().to_vec(),
             lines: f.lines(),
             inputs: f.flags(),
             sense: [f.flags(), f.flags()],
             drives: [f.drive(), f.drive()],
             strobe: Strobe { ticks: TickCount(f.long()), steady: f.flag() },
-        }
+        };
+        f.tail(&mut state);
+        state
     }
 
     /// The level of the clock's data line as the chip gives it; 1 where it does not drive it.

@@ -19,9 +19,9 @@ extern "C" {
         consumed: *mut u64,
         written: *mut u64,
     ) -> u8;
-    fn swarmtempo_image_len() -> u64;
+    fn swarmtempo_image_len(cells: u32) -> u64;
     fn swarmtempo_ticks_of_micros(micros: u32) -> u32;
-    fn swarmtempo_fresh(image: *mut c_uchar, image_len: usize) -> u8;
+    fn swarmtempo_fresh(image: *mut c_uchar, image_len: usize, cells: u32) -> u8;
     fn swarmtempo_convert(
         list: *const c_uchar,
         list_len: usize,
@@ -103,10 +103,10 @@ pub fn run(image: &mut [u8], list: &[u8], answers: &mut [u8]) -> Report {
     Report { stop, consumed, written }
 }
 
-/// Bytes of an image.
-pub fn image_len() -> u64 {
-    // SAFETY: takes nothing.
-    unsafe { swarmtempo_image_len() }
+/// Bytes of an image of a machine with so many cells; 0 where no machine has so many.
+pub fn image_len(cells: u32) -> u64 {
+    // SAFETY: takes and gives a number.
+    unsafe { swarmtempo_image_len(cells) }
 }
 
 /// Microseconds as VIA ticks, rounded up.
@@ -115,10 +115,11 @@ pub fn ticks_of_micros(micros: u32) -> u32 {
     unsafe { swarmtempo_ticks_of_micros(micros) }
 }
 
-/// Writes the image of a fresh machine: 0, or 6 where there are too few bytes.
-pub fn fresh(image: &mut [u8]) -> u8 {
-    // SAFETY: a slice that lives through the call.
-    unsafe { swarmtempo_fresh(image.as_mut_ptr(), image.len()) }
+/// Writes the image of a fresh machine with so many cells: 0, 5 where no machine has so many, or 6
+/// where there are too few bytes.
+pub fn fresh(image: &mut [u8], cells: u32) -> u8 {
+    // SAFETY: a slice that lives through the call, and a number.
+    unsafe { swarmtempo_fresh(image.as_mut_ptr(), image.len(), cells) }
 }
 
 /// What a conversion reports, as numbers.

@@ -5,11 +5,11 @@
 //!
 //! ```
 //! use swarmtempo::table::{Table, HEAD};
-//! use swarmtempo::{pieces, List, Machine, ANSWER_LEN};
+//! use swarmtempo::{pieces, Chip, List, Machine, ANSWER_LEN};
 //!
 //! let list: List = "12t RD VIA.ORB".parse()?;
 //! let mut answers = Vec::new();
-//! Machine::fresh().run(&list, &mut answers);
+//! Machine::fresh(Chip::First).run(&list, &mut answers);
 //! let mut text = HEAD.to_string();
 //! let mut table = Table::default();
 //! for (piece, answer) in pieces(list.as_ref()).zip(answers.as_chunks::<ANSWER_LEN>().0) {

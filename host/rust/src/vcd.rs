@@ -6,11 +6,11 @@
 //! its end.
 //!
 //! ```
-//! use swarmtempo::{vcd, List, Machine};
+//! use swarmtempo::{vcd, Chip, List, Machine};
 //!
 //! let list: List = "12t WR VIA.ORB 4\n0t WR VIA.DDRB 7\n0t WR VIA.ORB 0".parse()?;
 //! let mut dump = Vec::new();
-//! let run = vcd::dump(&mut Machine::fresh(), list.as_ref(), &mut dump)?;
+//! let run = vcd::dump(&mut Machine::fresh(Chip::First), list.as_ref(), &mut dump)?;
 //! assert!(run.at_end());
 //! let dump = String::from_utf8(dump)?;
 //! assert!(dump.starts_with("$version Swarmtempo $end"));
@@ -27,7 +27,7 @@ use std::io::{self, Write};
 const GAP_NANOSECONDS: u64 = 10;
 
 /// Tracks in a dump.
-const COUNT: usize = 30;
+const COUNT: usize = 31;
 
 /// The tracks: scope, name, bits (0: a string). Names are unique, for a viewer that leaves the scope
 /// out.
@@ -37,6 +37,7 @@ const TRACKS: [(&str, &str, u32); COUNT] = [
     ("clock", "data", 1),
     ("clock", "decoded", 0),
     ("clock", "command", 8),
+    ("clock", "second_byte", 8),
     ("clock", "byte", 8),
     ("clock", "seconds", 32),
     ("clock", "seconds_stopped", 1),
@@ -106,6 +107,8 @@ pub struct Vcd<W> {
 struct Decoded {
     words: String,
     command: u8,
+    /// The second byte of a command of two; else 0.
+    second: u8,
     byte: u8,
 }
 
@@ -134,9 +137,7 @@ impl<W: Write> Vcd<W> {
         }
         head.push_str("$upscope $end\n$upscope $end\n$enddefinitions $end\n");
         out.write_all(head.as_bytes())?;
-        let words = open_command(start.phase);
-        let command = if let Phase::Taking { command, .. } = start.phase { command } else { 0 };
-        let decoded = Decoded { words, command, byte: 0 };
+        let decoded = Decoded::open(start.phase);
         let mut vcd = Vcd {
             out,
             shown: [None; COUNT],
@@ -234,6 +235,7 @@ impl<W: Write> Vcd<W> {
             u64::from(wires.data),
             0,
             u64::from(self.decoded.command),
+            u64::from(self.decoded.second),
             u64::from(self.decoded.byte),
             u64::from(state.seconds.0),
             u64::from(state.seconds_stopped()),
@@ -274,35 +276,38 @@ fn named(command: u8) -> String {
     Command::of(command).map_or(format!("${command:02X}"), |command| command.to_string())
 }
 
-/// A command that was under way before the first item.
-fn open_command(phase: Phase) -> String {
-    match phase {
-        Phase::Idle => "idle".into(),
-        Phase::Listening { .. } => "command".into(),
-        Phase::Taking { command, .. } => named(command),
-        Phase::Sending { byte, .. } => format!("read = ${byte:02X}"),
-        Phase::Ignoring => "ignoring".into(),
-    }
+fn named_by_two(first: u8, second: u8) -> String {
+    let named = Command::of_two(first, second).map(|command| command.to_string());
+    named.unwrap_or(format!("${first:02X} ${second:02X}"))
 }
 
 impl Decoded {
+    /// A command that was under way before the first item.
+    fn open(phase: Phase) -> Decoded {
+        let (words, command, second) = match phase {
+            Phase::Idle => ("idle".into(), 0, 0),
+            Phase::Listening { .. } => ("command".into(), 0, 0),
+            Phase::Taking { command, .. } => (named(command), command, 0),
+            Phase::Second { first, .. } => (format!("${first:02X}, second byte"), first, 0),
+            Phase::TakingExtended { first, second, .. } => {
+                (named_by_two(first, second), first, second)
+            }
+            Phase::Sending { byte, .. } => (format!("read = ${byte:02X}"), 0, 0),
+            Phase::Ignoring => ("ignoring".into(), 0, 0),
+        };
+        Decoded { words, command, second, byte: 0 }
+    }
+
     fn follow(&mut self, before: &State, after: &State) {
         let data = u8::from(after.wires().data);
         match (before.phase, after.phase) {
             (_, Phase::Idle) => self.words = "idle".into(),
             (Phase::Idle, _) => self.words = "command".into(),
-            (Phase::Listening { value, .. }, Phase::Sending { byte, .. }) => {
-                self.command = value << 1 | data;
-                self.byte = byte;
-                self.words = format!("{} = ${byte:02X}", named(self.command));
+            (Phase::Listening { value, .. }, phase) if before.phase != phase => {
+                self.first(value << 1 | data, phase);
             }
-            (Phase::Listening { .. }, Phase::Taking { command, .. }) => {
-                self.command = command;
-                self.words = named(command);
-            }
-            (Phase::Listening { value, .. }, Phase::Ignoring) => {
-                self.command = value << 1 | data;
-                self.words = format!("ignored ${:02X}", self.command);
+            (Phase::Second { first, value, .. }, phase) if before.phase != phase => {
+                self.second(first, value << 1 | data, phase);
             }
             (Phase::Taking { command, value, .. }, Phase::Ignoring) => {
                 self.byte = value << 1 | data;
@@ -311,7 +316,43 @@ impl Decoded {
                     self.words.push_str(" (protected)");
                 }
             }
+            (Phase::TakingExtended { first, second, value, .. }, Phase::Ignoring) => {
+                self.byte = value << 1 | data;
+                self.words = format!("{} = ${:02X}", named_by_two(first, second), self.byte);
+                if before.protect {
+                    self.words.push_str(" (protected)");
+                }
+            }
             _ => {}
         }
+    }
+
+    /// At a bit of the first byte: what it made of the chip's phase.
+    fn first(&mut self, taken: u8, phase: Phase) {
+        match phase {
+            Phase::Sending { byte, .. } => {
+                self.byte = byte;
+                self.words = format!("{} = ${byte:02X}", named(taken));
+            }
+            Phase::Taking { .. } => self.words = named(taken),
+            Phase::Second { .. } => self.words = format!("${taken:02X}, second byte"),
+            Phase::Ignoring => self.words = format!("ignored ${taken:02X}"),
+            _ => return,
+        }
+        (self.command, self.second) = (taken, 0);
+    }
+
+    /// At a bit of the second byte.
+    fn second(&mut self, first: u8, taken: u8, phase: Phase) {
+        match phase {
+            Phase::Sending { byte, .. } => {
+                self.byte = byte;
+                self.words = format!("{} = ${byte:02X}", named_by_two(first, taken));
+            }
+            Phase::TakingExtended { .. } => self.words = named_by_two(first, taken),
+            Phase::Ignoring => self.words = format!("ignored ${first:02X} ${taken:02X}"),
+            _ => return,
+        }
+        self.second = taken;
     }
 }

@@ -7,10 +7,10 @@ use std::fmt::{Debug, Display};
 use std::str::FromStr;
 use swarmtempo::text::{LineError, TextError};
 use swarmtempo::{
-    answers, items, sys, table, vcd, Address, Answer, DiskLine, Drive, InLine, Item, KeyboardFull,
-    Lines, List, Machine, Micros, NoAnswer, ParseError, Phase, Refusal, Register, Seconds, Seen,
-    SenseRegister, Setting, State, TickCount, Timed, TooLong, UnknownRefusal, ViaTicks, ANSWER_LEN,
-    CELLS, IMAGE_LEN, INQUIRY_TICKS, KEYBOARD_LEN, SETTING_MAX, TICKS_PER_SECOND,
+    answers, items, sys, table, vcd, Address, Answer, Chip, DiskLine, Drive, InLine, Item,
+    KeyboardFull, Lines, List, Machine, Micros, NoAnswer, ParseError, Phase, Refusal, Register,
+    Seconds, Seen, SenseRegister, Setting, State, TickCount, Timed, TooLong, UnknownRefusal,
+    ViaTicks, ANSWER_LEN, INQUIRY_TICKS, KEYBOARD_LEN, SETTING_MAX, TICKS_PER_SECOND,
 };
 
 const NOW: ViaTicks = ViaTicks(0);
@@ -66,7 +66,10 @@ fn every_kind_there_and_back() {
         assert_eq!(Item::read(&bytes[2..bytes.len() - 1]), Err(Refusal::Length));
         assert_eq!(Timed::try_from(&bytes[..bytes.len() - 1]), Err(Refusal::Cut));
         // The run takes it.
-        assert!(matches!(Machine::fresh().step(timed.wait, item), Ok(_) | Err(Refusal::Disk)));
+        assert!(matches!(
+            Machine::fresh(Chip::First).step(timed.wait, item),
+            Ok(_) | Err(Refusal::Disk)
+        ));
     }
 }
 
@@ -239,10 +242,10 @@ fn runs_give_items_with_answers() {
     list.push(ViaTicks(3), Item::Second);
     list.push_raw(&[1, 0, 9]);
     list.push(NOW, Item::Reset);
-    let mut machine = Machine::fresh();
+    let mut machine = Machine::fresh(Chip::First);
     let transcript = machine.run_items(&list);
     let mut bytes = Vec::new();
-    let mut other = Machine::fresh();
+    let mut other = Machine::fresh(Chip::First);
     assert_eq!(transcript.run(), other.run(&list, &mut bytes));
     assert_eq!(transcript.answers(), bytes);
     let got: Vec<_> = transcript.iter().collect();
@@ -253,7 +256,7 @@ fn runs_give_items_with_answers() {
     assert_eq!(got[2].answer.result().unwrap().level, 1);
     assert_eq!((got[3].item, got[3].answer), (Err(Refusal::Cut), Answer::No(Refusal::Cut)));
     // The same one by one.
-    let mut stepped = Machine::fresh();
+    let mut stepped = Machine::fresh(Chip::First);
     for done in transcript.iter().filter_map(|done| Some((done.item.ok()?, done.answer))) {
         assert_eq!(stepped.step(done.0.wait, done.0.item), done.1.result());
     }
@@ -275,7 +278,7 @@ fn runs_give_items_with_answers() {
 fn dumps() {
     let list: List =
         "1t WR VIA.ORB 4\n2t WR VIA.DDRB 7\n3t WR VIA.ORB 0\n0t IN 6 1".parse().unwrap();
-    let (mut dumped, mut run) = (Machine::fresh(), Machine::fresh());
+    let (mut dumped, mut run) = (Machine::fresh(Chip::First), Machine::fresh(Chip::First));
     let mut dump = Vec::new();
     let report = vcd::dump(&mut dumped, list.as_ref(), &mut dump).unwrap();
     assert_eq!(report, run.run(&list, &mut Vec::new()));
@@ -287,10 +290,10 @@ fn dumps() {
     assert!(dump.contains("scommand $\n"), "enable fell: {dump}");
     // A stop at a cut record, and an output that cannot be written.
     let mut cut = list.as_bytes()[..15].to_vec();
-    let report = vcd::dump(&mut Machine::fresh(), &cut, &mut Vec::new()).unwrap();
+    let report = vcd::dump(&mut Machine::fresh(Chip::First), &cut, &mut Vec::new()).unwrap();
     assert_eq!((report.stop, report.consumed, report.written), (Some(Refusal::Cut), 11, 16));
     cut.clear();
-    assert!(vcd::dump(&mut Machine::fresh(), &cut, Full).is_err());
+    assert!(vcd::dump(&mut Machine::fresh(Chip::First), &cut, Full).is_err());
 }
 
 /// Takes nothing.
@@ -308,13 +311,12 @@ impl std::io::Write for Full {
 
 #[test]
 fn states_in_words() {
-    let mut machine = Machine::fresh();
+    let mut machine = Machine::fresh(Chip::First);
     let text = "0t WR VIA.ORB 4\n0t WR VIA.DDRB 7\n0t WR VIA.ORB 0\n0t WR VIA.ORB 2\n0t DI external 1 1 1\n0t IN 5 1";
     machine.run(text.parse::<List>().unwrap(), &mut Vec::new());
     let state: State = machine.state();
-    let cells: [u8; CELLS] = state.cells;
     let inputs: [bool; 7] = state.inputs;
-    assert_eq!((cells, inputs[5]), ([0; CELLS], true));
+    assert_eq!((&state.cells[..], inputs[5]), (&[0; 20][..], true));
     assert_eq!(state.phase, Phase::Listening { bits: 1, value: 0 });
     let words = machine.to_string();
     assert!(words.ends_with(&state.to_string()));
@@ -377,8 +379,13 @@ fn the_header_has_the_same_numbers() {
     assert_eq!(version.join("."), env!("CARGO_PKG_VERSION"));
     assert_eq!(number_of("TICKS_PER_SECOND"), TICKS_PER_SECOND);
     assert_eq!(number_of("ANSWER_LEN") as usize, ANSWER_LEN);
-    assert_eq!(number_of("IMAGE_LEN") as usize, IMAGE_LEN);
-    assert_eq!(sys::image_len(), IMAGE_LEN as u64);
+    for (chip, cells, length) in
+        [(Chip::First, "CELLS_FIRST", "IMAGE_LEN"), (Chip::Later, "CELLS_LATER", "IMAGE_LEN_LATER")]
+    {
+        assert_eq!(number_of(cells) as usize, chip.cells());
+        assert_eq!(number_of(length) as usize, chip.image_len());
+        assert_eq!(sys::image_len(number_of(cells)), chip.image_len() as u64);
+    }
     let longest =
         samples().into_iter().map(|item| Timed { wait: NOW, item }.to_bytes().len()).max();
     assert_eq!(Some(number_of("ITEM_MAX") as usize), longest);

@@ -3,9 +3,9 @@
 use std::fmt::{Debug, Display};
 use std::str::FromStr;
 use swarmtempo::{
-    answers, items, pieces, table, vcd, Address, Answer, Chunks, Command, DiskLine, Drive, InLine,
-    Item, List, Machine, Micros, Refusal, Register, Seconds, SenseRegister, TickCount, Timed,
-    ViaTicks, ANSWER_LEN,
+    answers, items, pieces, table, vcd, Address, Answer, Chip, Chunks, Command, DiskLine, Drive,
+    InLine, Item, List, Machine, Micros, Refusal, Register, Seconds, SenseRegister, TickCount,
+    Timed, ViaTicks, ANSWER_LEN,
 };
 
 /// Random numbers (splitmix64).
@@ -93,7 +93,8 @@ fn lists() {
     let mut taken = 0;
     for _ in 0..20_000 {
         let bytes = some_list(&mut random);
-        let mut machine = Machine::fresh();
+        let chip = Chip::BOTH[random.below(2)];
+        let mut machine = Machine::fresh(chip);
         let transcript = machine.run_items(&bytes);
         let mut count = 0;
         for done in &transcript {
@@ -119,7 +120,7 @@ fn lists() {
         let list = List::from(&bytes[..]);
         assert_eq!(list.to_string().parse(), Ok(list), "text and back");
         let mut dump = Vec::new();
-        let mut watched = Machine::fresh();
+        let mut watched = Machine::fresh(chip);
         assert_eq!(vcd::dump(&mut watched, &bytes, &mut dump).expect("memory"), transcript.run());
         assert_eq!(watched, machine);
         assert!(!machine.to_string().is_empty());
@@ -164,7 +165,7 @@ fn images_of_any_bytes() {
     let mut random = Random(3);
     let mut taken = 0;
     for round in 0..100_000 {
-        let mut machine = Machine::fresh();
+        let mut machine = Machine::fresh(Chip::BOTH[random.below(2)]);
         if round % 8 == 0 {
             machine.run(some_list(&mut random), &mut Vec::new());
         }
@@ -300,4 +301,14 @@ fn every_command_byte() {
     let legal: Vec<String> = (0..=255).filter_map(Command::of).map(|it| it.to_string()).collect();
     assert_eq!(legal.len(), 50);
     assert!(legal.iter().all(|words| !words.is_empty()));
+    let first_of_two: Vec<u8> = (0..=255).filter(|&it| Command::is_first_of_two(it)).collect();
+    assert_eq!(first_of_two, (0x38..=0x3F).chain(0xB8..=0xBF).collect::<Vec<u8>>());
+    assert!(first_of_two.iter().all(|&byte| Command::of(byte).is_none()), "66 in all");
+    let two = (0..=255).flat_map(|first| (0..=255).map(move |second| (first, second)));
+    let two: Vec<_> = two.filter_map(|(first, second)| Command::of_two(first, second)).collect();
+    assert_eq!(two.len(), 512, "each cell read and written");
+    let named = |first, second| Command::of_two(first, second).map(|it| it.to_string());
+    assert_eq!(named(0x3F, 0x7C).as_deref(), Some("write cell 255"));
+    assert_eq!(named(0xB9, 0x08).as_deref(), Some("read cell 34"));
+    assert_eq!((named(0x3F, 0x7D), named(0x41, 0x00)), (None, None));
 }

@@ -4,8 +4,13 @@
 //! lists.
 //! A difference is made small and printed.
 
+#[path = "differential/laws.rs"]
+mod laws;
+#[path = "differential/touches.rs"]
+mod touches;
+
 use swarmtempo::text::disassemble;
-use swarmtempo::{sys, Address, DiskLine, Machine, Register};
+use swarmtempo::{sys, Address, Chip, DiskLine, Machine, Register};
 use swarmtempo_model as model;
 
 const LISTS: u64 = 250_000;
@@ -75,9 +80,10 @@ fn by_library(case: &Case) -> Left {
     Left { stop: run.stop, consumed, written, answers, image }
 }
 
-/// Builds a list part by part.
+/// Builds a list part by part, for a machine with this chip.
 struct Maker<'a> {
     random: &'a mut Random,
+    chip: model::Chip,
     parts: Vec<Vec<u8>>,
 }
 
@@ -269,7 +275,27 @@ impl Maker<'_> {
         }
     }
 
-    fn command(&mut self) -> u8 {
+    /// The bytes of a transaction: a command of one byte or two, and what follows it.
+    fn command(&mut self) -> [u8; 4] {
+        let extended = if self.chip == model::Chip::Later { 2 } else { 12 };
+        let [first, second] = if self.random.one_in(extended) {
+            self.of_two()
+        } else {
+            [self.of_one(), self.random.byte()]
+        };
+        [first, second, self.random.byte(), self.random.byte()]
+    }
+
+    /// A command of two bytes; now and then a second byte of another form.
+    fn of_two(&mut self) -> [u8; 2] {
+        let any = self.random.byte();
+        let cell = self.random.pick(&[0, 1, 16, 19, 20, 31, 32, 34, 127, 128, 255, any]);
+        let read = self.random.pick(&[0, 0, 0x80]);
+        let odd = self.random.pick(&[0, 0, 0, 0, 0, 0, 0, 1, 2, 0x80, 0x83]);
+        [0x38 | read | cell >> 5, (cell & 0x1F) << 2 | odd]
+    }
+
+    fn of_one(&mut self) -> u8 {
         match self.random.below(10) {
             0 => self.random.byte(),
             1 => self.random.pick(&[0x35, 0x31, 0x31, 0xB5, 0xB1]),
@@ -291,17 +317,15 @@ impl Maker<'_> {
         self.wr(0, Register::DDRB, dir);
         let clock = self.random.pick(&[0, 2]);
         self.wr(0, Register::ORB, high | clock);
-        let command = self.command();
-        let bits = self.bits();
-        let value = self.random.byte();
-        for i in 0..bits {
-            let bit = if i < 8 { command >> (7 - i) } else { value >> (15 - i.min(15)) } & 1;
+        let bytes = self.command();
+        for i in 0..self.bits(bytes[0]) {
+            let bit = bytes[i / 8] >> (7 - i % 8) & 1;
             self.wr(0, Register::ORB, high | bit);
             self.between();
             self.wr(0, Register::ORB, high | bit | 2);
             self.between();
         }
-        if command & 0x80 != 0 || self.random.one_in(6) {
+        if bytes[0] & 0x80 != 0 || self.random.one_in(6) {
             let released = dir & if self.random.one_in(8) { 0xFF } else { 0xFE };
             self.wr(0, Register::DDRB, released);
             for _ in 0..self.random.below(11) {
@@ -320,15 +344,16 @@ impl Maker<'_> {
         }
     }
 
-    /// Bits of a transaction: whole, cut, or too many.
-    fn bits(&mut self) -> u8 {
+    /// Bits of a transaction by its first byte: whole, cut, or too many.
+    fn bits(&mut self, first: u8) -> usize {
+        let more = if first & 0x78 == 0x38 { 8 } else { 0 };
         match self.random.below(8) {
-            0 => self.random.below(8) as u8,
-            1 => self.random.below(16) as u8,
-            2 => 15,
-            3 => 17 + self.random.below(3) as u8,
-            4 => 8,
-            _ => 16,
+            0 => self.random.below(8),
+            1 => self.random.below(16 + more),
+            2 => 15 + more,
+            3 => 17 + more + self.random.below(3),
+            4 => 8 + more,
+            _ => 16 + more,
         }
     }
 
@@ -338,11 +363,9 @@ impl Maker<'_> {
         let high = self.random.byte() & 0xF8;
         self.wr(0, Register::ORB, high);
         self.wr(0, Register::DDRB, other | 6);
-        let command = self.command();
-        let value = self.random.byte();
-        for i in 0..self.bits() {
-            let bit = if i < 8 { command >> (7 - i) } else { value >> (15 - i.min(15)) } & 1;
-            let low = 1 - bit;
+        let bytes = self.command();
+        for i in 0..self.bits(bytes[0]) {
+            let low = 1 - (bytes[i / 8] >> (7 - i % 8) & 1);
             self.wr(0, Register::DDRB, other | 6 | low);
             self.between();
             self.wr(0, Register::DDRB, other | 4 | low);
@@ -448,9 +471,9 @@ impl Maker<'_> {
     }
 }
 
-fn some_list(random: &mut Random, most: usize) -> Vec<Vec<u8>> {
+fn some_list(random: &mut Random, chip: model::Chip, most: usize) -> Vec<Vec<u8>> {
     let count = random.below(most + 1);
-    let mut maker = Maker { random, parts: Vec::new() };
+    let mut maker = Maker { random, chip, parts: Vec::new() };
     match maker.random.below(10) {
         0 => maker.noise(),
         _ => (0..count).for_each(|_| maker.part()),
@@ -459,9 +482,11 @@ fn some_list(random: &mut Random, most: usize) -> Vec<Vec<u8>> {
 }
 
 /// An accepted image with every field at random, mostly amid a command.
-fn some_image(random: &mut Random) -> Vec<u8> {
-    let mut image: Vec<u8> = model::fresh_image().to_vec();
-    for at in (4..12).chain(14..17).chain(18..23).chain(28..53) {
+fn some_image(random: &mut Random, chip: model::Chip) -> Vec<u8> {
+    let mut image = model::fresh_image(chip);
+    let later = chip == model::Chip::Later;
+    let cells = if later { 123..359 } else { 0..0 };
+    for at in (4..12).chain(14..17).chain(18..23).chain(28..53).chain(cells) {
         if random.one_in(2) {
             image[at] = random.byte();
         }
@@ -499,11 +524,23 @@ fn some_image(random: &mut Random) -> Vec<u8> {
     if low {
         let bits = random.below(8) as u8;
         let value = (random.next() % (1 << bits)) as u8;
-        let phase = match random.below(5) {
+        let phase = match random.below(if later { 8 } else { 5 }) {
             0 | 1 => {
                 // The first bits of a command, so that later ones may complete it.
-                let command = 0x41 | random.byte() & 0xBC;
-                [1, 0, bits, ((u16::from(command) << bits) >> 8) as u8]
+                let far = later && random.one_in(2);
+                let any = random.byte();
+                let command = if far { 0x38 | any & 0x87 } else { 0x41 | any & 0xBC };
+                [1, 0, bits, first_bits(command, bits)]
+            }
+            // A half-sent second byte, mostly of the right form.
+            5 => {
+                let second = random.byte() & random.pick(&[0x7C, 0x7C, 0x7C, 0xFF]);
+                [2, 0x38 | random.byte() & 0x87, bits, first_bits(second, bits)]
+            }
+            // A write of two bytes, with some of its data.
+            6 | 7 => {
+                image[359] = random.byte() & 0x7C;
+                [5, 0x38 | random.byte() & 7, bits, value]
             }
             2 => {
                 let command = random.pick(&[0x41, 0x7D, 0x21, 0x2D, 0x01, 0x0D, 0x31, 0x35]);
@@ -517,12 +554,17 @@ fn some_image(random: &mut Random) -> Vec<u8> {
     image
 }
 
+/// The value of a byte's first bits.
+fn first_bits(byte: u8, bits: u8) -> u8 {
+    ((u16::from(byte) << bits) >> 8) as u8
+}
+
 /// A command under way, at or past the edges of its ranges.
 fn odd_phase(random: &mut Random) -> [u8; 4] {
     let bits = random.below(10) as u8;
     let value = random.pick(&[0, 1, (1u32 << bits) - 1, 1 << bits, 255]) as u8;
-    let command = random.pick(&[0, 0, 0x41, 0x35, 0xC1, 0xB5, 0x42]);
-    [random.below(6) as u8, command, bits, value]
+    let command = random.pick(&[0, 0, 0x41, 0x35, 0xC1, 0xB5, 0x42, 0x38, 0x3F, 0xBF]);
+    [random.below(7) as u8, command, bits, value]
 }
 
 /// A field of the drives or of the strobe at or past the edges of its range.
@@ -545,25 +587,55 @@ fn odd_drives(random: &mut Random, image: &mut [u8]) {
     }
 }
 
+/// The last byte of an image of kind SX is the second command byte; that of ST is a flag.
+fn set_last(image: &mut [u8], byte: u8) {
+    if let Some(last) = image.last_mut() {
+        *last = byte;
+    }
+}
+
+/// The other kind's letters, with its length or without, or its length alone.
+fn other_kind(random: &mut Random, image: &mut Vec<u8>) {
+    let other = if image[3] == b'T' { model::Chip::Later } else { model::Chip::First };
+    if !random.one_in(3) {
+        image[2..4].copy_from_slice(&other.kind());
+    }
+    if random.one_in(2) {
+        image[..2].copy_from_slice(&(other.image_len() as u16 - 2).to_le_bytes());
+    }
+    if random.one_in(2) {
+        image.resize(other.image_len(), 0);
+    }
+}
+
 fn some_case(seed: u64) -> Case {
     let random = &mut Random(seed);
+    let chip = random.pick(&model::Chip::BOTH);
     let mut image = match random.below(4) {
-        0 | 1 => model::fresh_image().to_vec(),
-        2 => some_image(random),
+        0 | 1 => model::fresh_image(chip),
+        2 => some_image(random, chip),
         _ => {
             // A state that a list reached.
-            let mut image = model::fresh_image().to_vec();
-            let list = some_list(random, 3).concat();
+            let mut image = model::fresh_image(chip);
+            let list = some_list(random, chip, 3).concat();
             model::run_image(&mut image, &list, &mut vec![0; 8 * 400]);
             image
         }
     };
     if random.one_in(12) {
         // Mostly an image that no state has.
-        match random.below(12) {
+        match random.below(14) {
             0 => image.truncate(random.below(image.len())),
             1 => image.push(0),
-            2..=4 => image[23..27].copy_from_slice(&odd_phase(random)),
+            2..=4 => {
+                image[23..27].copy_from_slice(&odd_phase(random));
+                if random.one_in(2) {
+                    image[23] = random.pick(&[2, 5, 5]);
+                    set_last(&mut image, random.pick(&[0, 4, 0x7C, 0x7D, 0x80]));
+                }
+            }
+            12 => other_kind(random, &mut image),
+            13 => set_last(&mut image, random.pick(&[1, 4, 0x7C, 0x7D])),
             5 | 6 => odd_drives(random, &mut image),
             _ => {
                 let at = random.below(image.len());
@@ -571,7 +643,7 @@ fn some_case(seed: u64) -> Case {
             }
         }
     }
-    let parts = some_list(random, 4);
+    let parts = some_list(random, chip, 4);
     let whole = 8 * (parts.len() + 8);
     let room = if random.one_in(6) { random.below(whole) } else { whole };
     Case { image, parts, room }
@@ -579,7 +651,8 @@ fn some_case(seed: u64) -> Case {
 
 /// The smallest case found that still differs.
 fn shrink(mut case: Case, differs: impl Fn(&Case) -> bool) -> Case {
-    let fresh = model::fresh_image().to_vec();
+    let later = case.image.get(3) == Some(&b'X');
+    let fresh = model::fresh_image(model::Chip::BOTH[usize::from(later)]);
     loop {
         let plain = Case { image: fresh.clone(), ..case.clone() };
         let mut better = Some(plain).filter(|it| it.image != case.image && differs(it));
@@ -617,10 +690,10 @@ fn shrink(mut case: Case, differs: impl Fn(&Case) -> bool) -> Case {
 
 fn report(case: &Case, seed: u64, index: u64) -> String {
     let list = case.parts.concat();
-    let image = if case.image == model::fresh_image() {
-        "fresh".to_string()
-    } else {
-        format!("{:02X?}", case.image)
+    let fresh = model::Chip::BOTH.into_iter().find(|&it| case.image == model::fresh_image(it));
+    let image = match fresh {
+        Some(chip) => format!("fresh, {} cells", chip.cells()),
+        None => format!("{:02X?}", case.image),
     };
     format!(
         "list {index} of seed {seed}\nimage: {image}\nanswer room: {} bytes\nlist:\n{}bytes: {list:02X?}\nmodel:   {:02X?}\nlibrary: {:02X?}",
@@ -643,7 +716,12 @@ fn number(name: &str, otherwise: u64) -> u64 {
 struct Reached {
     stops: [u64; 8],
     refusals: [u64; 10],
-    phases: [u64; 5],
+    phases: [u64; 6],
+    /// Amid a second byte, and past cell 19.
+    second_bytes: u64,
+    far_cells: u64,
+    /// Runs with either chip.
+    chips: [u64; 2],
     protected: u64,
     cells: u64,
     seconds: u64,
@@ -666,7 +744,13 @@ impl Reached {
             }
         }
         if left.stop != 7 {
+            let later = left.image[3] == b'X';
+            assert_eq!(left.image[..4], case.image[..4], "no run changes the chip");
+            self.chips[usize::from(later)] += 1;
             self.phases[usize::from(left.image[23])] += 1;
+            let first = left.image[24] & 0x78 == 0x38;
+            self.second_bytes += u64::from(left.image[23] == 2 && first);
+            self.far_cells += u64::from(later && left.image[123..359] != case.image[123..359]);
             self.protected += u64::from(left.image[27]);
             self.cells += u64::from(left.image[33..53] != case.image[33..53]);
             self.moved += u64::from(left.image[100] != case.image[100]);
@@ -680,7 +764,8 @@ impl Reached {
         let counts = [0, 1, 6, 7].map(|i| self.stops[i]).into_iter();
         let refusals = [1, 2, 3, 4, 5, 8, 9].map(|i| self.refusals[i]);
         let counts = counts.chain(refusals).chain(self.phases);
-        let counts = counts.chain([self.moved, self.motors, self.strobes]);
+        let counts = counts.chain([self.moved, self.motors, self.strobes]).chain(self.chips);
+        let counts = counts.chain([self.second_bytes, self.far_cells]);
         let counts = counts.chain([self.protected, self.cells, self.seconds, self.asked]);
         for count in counts {
             assert!(count * 500 >= lists, "too little of something: {self:?}");
@@ -717,7 +802,7 @@ fn a_difference_is_made_small() {
         left.stop != 7 && left.image[33] == 0xAA && case.image[33] != 0xAA
     };
     let mut random = Random(3);
-    let mut maker = Maker { random: &mut random, parts: Vec::new() };
+    let mut maker = Maker { random: &mut random, chip: model::Chip::First, parts: Vec::new() };
     (0..5).for_each(|_| maker.timers());
     maker.wr(0, Register::ORB, 4);
     maker.wr(0, Register::DDRB, 7);
@@ -729,7 +814,7 @@ fn a_difference_is_made_small() {
     }
     (0..5).for_each(|_| maker.item());
     let parts = maker.parts;
-    let image = Machine::fresh().image().to_vec();
+    let image = Machine::fresh(Chip::First).image().to_vec();
     let small = shrink(Case { image, room: 4000, parts }, differs);
     assert!(small.parts.len() <= 34, "{}", disassemble(&small.parts.concat()));
     assert!(differs(&small));

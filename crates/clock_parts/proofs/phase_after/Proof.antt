@@ -33,15 +33,15 @@ phase-after-rise-requires c κs = search needs
 
 returns : tie.Need-returns
 unfolding next acts
-returns c = λ N s. (simp (c .enum-told .given .1), simp (c .enum-told .given .1))
+returns c = λ s. (simp (c .enum-told .given .1), simp (c .enum-told .given .1))
 
 returns-2 : tie.Need-returns-2
 unfolding next acts
-returns-2 c = λ N s. (simp (c .enum-told2 .given .1), simp (c .enum-told2 .given .1))
+returns-2 c = λ s. (simp (c .enum-told2 .given .1), simp (c .enum-told2 .given .1))
 
 returns-3 : tie.Need-returns-3
 unfolding next acts
-returns-3 c = λ N s. (simp (c .enum-told3 .given .1), simp (c .enum-told3 .given .1))
+returns-3 c = λ s. (simp (c .enum-told3 .given .1), simp (c .enum-told3 .given .1))
 
 returns-4 : tie.Need-returns-4
 returns-4 c = subst (λ (e : Edge). FitsPhase (c .before .before .before .args .p) e (c .phase-after-fall .result)) (sym (c .before .enum-told4 .given .1)) (c .phase-after-fall .ensures)

@@ -18,7 +18,7 @@ shift-requires c κs = ltb-true _ _ (sym (ap counts (c .before .p .given .1)) �
 
 returns : tie.Need-returns
 unfolding next acts
-returns c = λ N s. (simp (c .before .before .p .given .1, c .shift .ensures), refl)
+returns c = λ s. (simp (c .before .before .p .given .1, c .shift .ensures), refl)
 
 returns-2 : tie.Need-returns-2
 returns-2 c = fall-kept (c .before .args .p) (c .match .keys2)

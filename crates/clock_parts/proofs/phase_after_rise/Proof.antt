@@ -8,9 +8,6 @@ use Rattle.clock_parts.proofs.Laws.{rise-kept}
 use borrow.Author.Needs.{needs}
 use Rattle.clock_parts.proofs.phase_after_rise.Statement.{statement}
 use Rattle.clock_parts.proofs.phase_after_rise.Tie as tie
-use Rattle.clock_parts.proofs.phase_after_rise.Reads as reads
-use Rattle.clock_parts.proofs.phase_after_rise.Lts as lts
-use Rattle.clock_phase.proofs.pushed.Reads as pushed-reads
 
 enum-known-p : tie.Need-enum-known-p
 enum-known-p c = search needs
@@ -19,46 +16,18 @@ returns : tie.Need-returns
 returns c = search needs
 
 pushed-requires : tie.Need-pushed-requires
-pushed-requires c κs = let p = c .before .before .p .given .0 in few-small (p .0) (p .1 .0) (sym (ap counts (c .before .before .p .given .1)) ∙ c .before .before .before .before .pre)
+pushed-requires c κs = let p = c .before .before .p .given .0 in few-small (p .1 .0) (p .1 .1 .0) (sym (ap counts (c .before .before .p .given .1)) ∙ c .before .before .before .before .pre)
 
-add-t12 : tie.Need-add-t12
-add-t12 c = let p = c .before .before .before .p .given .0 in omega (arith, few-count (p .0) (p .1 .0) (sym (ap counts (c .before .before .before .p .given .1)) ∙ c .before .before .before .before .before .pre))
-
-enum-known-p-2 : tie.Need-enum-known-p-2
-enum-known-p-2 c = search needs
+add-t9 : tie.Need-add-t9
+add-t9 c = let p = c .before .before .before .p .given .0 in omega (arith, few-count (p .1 .0) (p .1 .1 .0) (sym (ap counts (c .before .before .before .p .given .1)) ∙ c .before .before .before .before .before .pre))
 
 returns-2 : tie.Need-returns-2
-returns-2 c = search needs
-
-pushed-requires-2 : tie.Need-pushed-requires-2
-pushed-requires-2 c κs = let p = c .before .before .p2 .given .0 in few-small (p .1 .0) (p .1 .1 .0) (sym (ap counts (c .before .before .p2 .given .1)) ∙ c .before .before .before .before .pre)
-
-add-t15 : tie.Need-add-t15
-add-t15 c = let p = c .before .before .before .p2 .given .0 in omega (arith, few-count (p .1 .0) (p .1 .1 .0) (sym (ap counts (c .before .before .before .p2 .given .1)) ∙ c .before .before .before .before .before .pre))
+unfolding next acts
+returns-2 c = λ s. (simp (c .before .before .before .p .given .1, ne-eqb _ _ (c .before .if1 .left), c .pushed .ensures), simp (c .before .before .before .p .given .1, ne-eqb _ _ (c .before .if1 .left)))
 
 returns-3 : tie.Need-returns-3
-unfolding next acts
-returns-3 c = λ N s. (simp (c .before .before .before .p .given .1, ne-eqb _ _ (c .before .if1 .left), c .pushed .ensures), simp (c .before .before .before .p .given .1))
-
-returns-4 : tie.Need-returns-4
-unfolding next acts
-returns-4 c = λ N s. (simp (c .before .before .before .p2 .given .1, ne-eqb _ _ (c .before .if2 .left), c .pushed2 .ensures), simp (c .before .before .before .p2 .given .1, ne-eqb _ _ (c .before .if2 .left)))
-
-returns-5 : tie.Need-returns-5
-returns-5 c = rise-kept (c .before .args .p) (c .before .args .b) (c .match .keys3)
+returns-3 c = rise-kept (c .before .args .p) (c .before .args .b) (c .match .keys2)
 
 pub phase-after-rise-spec : {M : Type 1} → statement M
 phase-after-rise-spec =
-    tie.close
-    (tie.spec
-    enum-known-p
-    returns
-    pushed-requires
-    add-t12
-    enum-known-p-2
-    returns-2
-    pushed-requires-2
-    add-t15
-    returns-3
-    returns-4
-    returns-5)
+    tie.close (tie.spec enum-known-p returns pushed-requires add-t9 returns-2 returns-3)

@@ -20,7 +20,7 @@ edge-between-requires : tie.Need-edge-between-requires
 edge-between-requires c κs = search needs
 
 phase-after-requires : tie.Need-phase-after-requires
-phase-after-requires c κs = accepted-counts 20 _ _ (c .before .pre)
+phase-after-requires c κs = accepted-counts _ _ _ (c .before .pre)
 
 enum-known-q : tie.Need-enum-known-q
 enum-known-q c = search needs
@@ -46,9 +46,9 @@ returns c =
     let a = edge .before .args in
     let s = wholeClock (a .k) (now (a .cells)) .store in
     let f =
-    subst (FitsPhase (a .k .phase) (edge .edge-between .result)) (c .before .q .given .1) (c .before .before .before .phase-after .ensures) 20 s in
-    phase-step 20 (a .k) (now (a .cells)) (a .before) (a .after) _ (f .0 ∙ ap (next 20 s (a .k .phase)) (edge .edge-between .ensures))
-    (sym (ap (acts 20 (a .k .phase)) (edge .edge-between .ensures)) ∙ f .1)
+    subst (FitsPhase (a .k .phase) (edge .edge-between .result)) (c .before .q .given .1) (c .before .before .before .phase-after .ensures) s in
+    phase-step (a .k) (now (a .cells)) (a .before) (a .after) _ (f .0 ∙ ap (next s (a .k .phase)) (edge .edge-between .ensures))
+    (sym (ap (acts (a .k .chip) (a .k .phase)) (edge .edge-between .ensures)) ∙ f .1)
 
 returns-2 : tie.Need-returns-2
 returns-2 c =

@@ -9,7 +9,7 @@ enum-known-t : tie.Need-enum-known-t
 enum-known-t c = search needs
 
 byte-at-requires : tie.Need-byte-at-requires
-byte-at-requires c κs = subst (TargetInRange 20) (c .before .t .given .1) (c .before .before .before .pre)
+byte-at-requires c κs = subst (TargetInRange _) (c .before .t .given .1) (c .before .before .before .pre)
 
 enum-told : tie.Need-enum-told
 enum-told c = search needs
@@ -24,7 +24,7 @@ cast-k : tie.Need-cast-k
 cast-k c = search needs
 
 element-copy-out-result : tie.Need-element-copy-out-result
-element-copy-out-result c = subst (TargetInRange 20) (c .before .t2 .given .1) (c .before .before .before .pre)
+element-copy-out-result c = search needs
 
 returns : tie.Need-returns
 unfolding fetch

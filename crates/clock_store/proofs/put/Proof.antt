@@ -9,7 +9,7 @@ enum-known-t : tie.Need-enum-known-t
 enum-known-t c = search needs
 
 replaced-requires : tie.Need-replaced-requires
-replaced-requires c κs = subst (TargetInRange 20) (c .before .t .given .1) (c .before .before .before .pre)
+replaced-requires c κs = subst (TargetInRange _) (c .before .t .given .1) (c .before .before .before .pre)
 
 enum-told : tie.Need-enum-told
 enum-told c = search needs
@@ -24,7 +24,7 @@ cast-k : tie.Need-cast-k
 cast-k c = search needs
 
 element-write-s : tie.Need-element-write-s
-element-write-s c = subst (TargetInRange 20) (c .before .t2 .given .1) (c .before .before .before .pre)
+element-write-s c = search needs
 
 returns : tie.Need-returns
 unfolding put

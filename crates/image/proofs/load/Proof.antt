@@ -1,4 +1,6 @@
-use Rattle.image_spec.specs.Image.{machineOf}
+use mathlib.Core.Path.{sym, ap, _∙_}
+use Rattle.image_spec.specs.Image.{imageLength, machineOf}
+use native.Mathlib.Nat.{le-of-eq}
 use borrow.Author.Needs.{needs}
 use Rattle.image.proofs.load.Statement.{statement}
 use Rattle.image.proofs.load.Tie as tie
@@ -11,12 +13,16 @@ use Rattle.image_layout.proofs.inputs.Reads as inputs-reads
 use Rattle.image_layout.proofs.lines.Reads as lines-reads
 use Rattle.image_layout.proofs.sense.Reads as sense-reads
 use Rattle.image_via.proofs.via.Reads as via-reads
+use Rattle.image_layout.proofs.chip_of.Reads as chip-of-reads
+
+chip-of-requires : tie.Need-chip-of-requires
+chip-of-requires c κs = search needs
 
 via-requires : tie.Need-via-requires
 via-requires c κs = search needs
 
 clock-requires : tie.Need-clock-requires
-clock-requires c κs = search needs
+clock-requires c κs = le-of-eq (ap imageLength (c .before .chip-of .ensures) ∙ sym (c .before .before .before .pre))
 
 lines-requires : tie.Need-lines-requires
 lines-requires c κs = search needs
@@ -35,12 +41,13 @@ drives-requires c κs = search needs
 
 returns : tie.Need-returns
 unfolding machineOf
-returns c = simp (c .before .before .before .before .before .before .via .ensures, c .before .before .before .before .before .clock .ensures, c .before .before .before .lines-of .ensures, c .before .before .before .before .lines .ensures, c .before .before .inputs .ensures, c .before .sense .ensures, c .drives .ensures)
+returns c = simp (c .before .before .before .before .before .before .via .ensures, c .before .before .before .before .before .clock .ensures, c .before .before .before .before .before .before .before .chip-of .ensures, c .before .before .before .lines-of .ensures, c .before .before .before .before .lines .ensures, c .before .before .inputs .ensures, c .before .sense .ensures, c .drives .ensures)
 
 pub load-spec : {M : Type 1} → statement M
 load-spec =
     tie.close
     (tie.spec
+    chip-of-requires
     via-requires
     clock-requires
     lines-requires

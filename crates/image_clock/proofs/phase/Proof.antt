@@ -1,15 +1,13 @@
+use Prim.Native.Nat.{ℕ, _-_}
 use mathlib.Core.Path.{_≡_, ap, _∙_}
+use mathlib.Core.List.{List}
 use denote.Ref.{now}
 use Rattle.image_spec.specs.Layout.{phaseAt, phaseLength, part}
-use Rattle.image_spec.proofs.Parts.{whole}
 use Rattle.image_spec.specs.ClockLayout.{phaseOf}
+use Rattle.image_spec.proofs.Parts.{whole}
 use borrow.Author.Needs.{needs}
 use Rattle.image_clock.proofs.phase.Statement.{statement}
 use Rattle.image_clock.proofs.phase.Tie as tie
-use Rattle.image_clock.proofs.phase.Reads as reads
-use Rattle.image_clock.proofs.phase.Lts as lts
-use Rattle.image_clock.proofs.phase_of.Reads as phase-of-reads
-use Rattle.octets.proofs.copy.Reads as copy-reads
 
 slice-aggregate-copy : tie.Need-slice-aggregate-copy
 slice-aggregate-copy c = search needs
@@ -43,8 +41,9 @@ phase-of-requires c κs = search needs
 
 returns : tie.Need-returns
 returns c =
-    let b : c .before .before .copy .last .0 ≡ part phaseAt phaseLength (now (c .before .before .before .before .before .before .args .image)) = c .before .before .copy .ensures ∙ whole _ _ (search needs) in
-    c .phase-of .ensures ∙ ap phaseOf b
+    let a = c .before .before .before .before .before .before .args in
+    let b : c .before .before .copy .last .0 ≡ part phaseAt phaseLength (now (a .image)) = c .before .before .copy .ensures ∙ whole _ _ (search needs) in
+    c .phase-of .ensures ∙ ap (λ (x : List ℕ). phaseOf x (a .second)) b
 
 pub phase-spec : {M : Type 1} → statement M
 phase-spec =

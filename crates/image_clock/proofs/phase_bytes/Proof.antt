@@ -1,10 +1,8 @@
-use borrow.Author.Needs.{needs}
 use Rattle.image_spec.specs.ClockLayout.{phaseBytes}
-use borrow.Author.Tests.{lt-ltb, le-ltb, le-leb, lt-leb, eq-eqb, ne-eqb}
+use mathlib.Core.Path.{sym, ap, _∙_}
+use borrow.Author.Needs.{needs}
 use Rattle.image_clock.proofs.phase_bytes.Statement.{statement}
 use Rattle.image_clock.proofs.phase_bytes.Tie as tie
-use Rattle.image_clock.proofs.phase_bytes.Reads as reads
-use Rattle.image_clock.proofs.phase_bytes.Lts as lts
 
 enum-told : tie.Need-enum-told
 enum-told c = search needs
@@ -12,11 +10,11 @@ enum-told c = search needs
 enum-known-p : tie.Need-enum-known-p
 enum-known-p c = search needs
 
+listening-bytes-requires : tie.Need-listening-bytes-requires
+listening-bytes-requires c κs = search needs
+
 enum-known-p-2 : tie.Need-enum-known-p-2
 enum-known-p-2 c = search needs
-
-enum-known-p-3 : tie.Need-enum-known-p-3
-enum-known-p-3 c = search needs
 
 enum-told-2 : tie.Need-enum-told-2
 enum-told-2 c = search needs
@@ -26,8 +24,7 @@ unfolding phaseBytes
 returns c = simp (c .enum-told .given .1)
 
 returns-2 : tie.Need-returns-2
-unfolding phaseBytes
-returns-2 c = simp (c .before .p .given .1)
+returns-2 c = c .listening-bytes .ensures ∙ sym (ap phaseBytes (c .before .before .p .given .1))
 
 returns-3 : tie.Need-returns-3
 unfolding phaseBytes
@@ -35,11 +32,7 @@ returns-3 c = simp (c .before .p2 .given .1)
 
 returns-4 : tie.Need-returns-4
 unfolding phaseBytes
-returns-4 c = simp (c .before .p3 .given .1)
-
-returns-5 : tie.Need-returns-5
-unfolding phaseBytes
-returns-5 c = simp (c .enum-told2 .given .1)
+returns-4 c = simp (c .enum-told2 .given .1)
 
 pub phase-bytes-spec : {M : Type 1} → statement M
 phase-bytes-spec =
@@ -47,11 +40,10 @@ phase-bytes-spec =
     (tie.spec
     enum-told
     enum-known-p
+    listening-bytes-requires
     enum-known-p-2
-    enum-known-p-3
     enum-told-2
     returns
     returns-2
     returns-3
-    returns-4
-    returns-5)
+    returns-4)

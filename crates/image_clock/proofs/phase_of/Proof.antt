@@ -1,9 +1,7 @@
-use Rattle.image_spec.specs.ClockLayout.{phaseBy}
 use borrow.Author.Tests.{eq-eqb, ne-eqb}
+use Rattle.image_spec.specs.ClockLayout.{phaseBy}
 use Rattle.image_clock.proofs.phase_of.Statement.{statement}
 use Rattle.image_clock.proofs.phase_of.Tie as tie
-use Rattle.image_clock.proofs.phase_of.Reads as reads
-use Rattle.image_clock.proofs.phase_of.Lts as lts
 
 returns : tie.Need-returns
 unfolding phaseBy
@@ -23,7 +21,11 @@ returns-4 c = simp (ne-eqb _ _ (c .before .before .before .if1 .left), ne-eqb _ 
 
 returns-5 : tie.Need-returns-5
 unfolding phaseBy
-returns-5 c = simp (ne-eqb _ _ (c .before .before .before .if1 .left), ne-eqb _ _ (c .before .before .if2 .left), ne-eqb _ _ (c .before .if3 .left), ne-eqb _ _ (c .if4 .left))
+returns-5 c = simp (ne-eqb _ _ (c .before .before .before .before .if1 .left), ne-eqb _ _ (c .before .before .before .if2 .left), ne-eqb _ _ (c .before .before .if3 .left), ne-eqb _ _ (c .before .if4 .left), eq-eqb _ _ (c .if5 .taken))
+
+returns-6 : tie.Need-returns-6
+unfolding phaseBy
+returns-6 c = simp (ne-eqb _ _ (c .before .before .before .before .if1 .left), ne-eqb _ _ (c .before .before .before .if2 .left), ne-eqb _ _ (c .before .before .if3 .left), ne-eqb _ _ (c .before .if4 .left), ne-eqb _ _ (c .if5 .left))
 
 pub phase-of-spec : {M : Type 1} → statement M
-phase-of-spec = tie.close (tie.spec returns returns-2 returns-3 returns-4 returns-5)
+phase-of-spec = tie.close (tie.spec returns returns-2 returns-3 returns-4 returns-5 returns-6)

@@ -1,17 +1,13 @@
-use native.Mathlib.Omega.{arith}
+use Rattle.image_spec.specs.ClockLayout.{StoreTyped}
 use mathlib.Core.Path.{refl}
 use denote.Ref.{now}
+use native.Mathlib.Omega.{arith}
 use Rattle.image_spec.specs.Layout.{phaseAt, registersAt, cellsAt}
+use Rattle.image_spec.specs.ClockLayout.{registerBytes}
 use Rattle.image_spec.proofs.Parts.{put-three}
-use Rattle.image_spec.specs.ClockLayout.{registerBytes, StoreTyped}
 use borrow.Author.Needs.{needs}
 use Rattle.image_clock.proofs.put_clock.Statement.{statement}
 use Rattle.image_clock.proofs.put_clock.Tie as tie
-use Rattle.image_clock.proofs.put_clock.Reads as reads
-use Rattle.image_clock.proofs.put_clock.Lts as lts
-use Rattle.image_clock.proofs.phase_bytes.Reads as phase-bytes-reads
-use Rattle.image_clock.proofs.register_bytes.Reads as register-bytes-reads
-use Rattle.octets.proofs.copy.Reads as copy-reads
 
 -- what the type of the clock handed in says of it
 typed : (c : tie.Start) → StoreTyped (c .args .c .store)
@@ -35,11 +31,11 @@ slice-aggregate-copy-2 c = search needs
 copy-requires-2 : tie.Need-copy-requires-2
 copy-requires-2 c κs = search needs
 
-slice-aggregate-copy-3 : tie.Need-slice-aggregate-copy-3
-slice-aggregate-copy-3 c = search needs
+slice-aggregate-put-first : tie.Need-slice-aggregate-put-first
+slice-aggregate-put-first c = search needs
 
-copy-requires-3 : tie.Need-copy-requires-3
-copy-requires-3 c κs = omega (arith, typed (c .before .before .before .before .before .before .before .before .before .before .before .before .before .before .before .before .before) .1)
+put-first-requires : tie.Need-put-first-requires
+put-first-requires c κs = (search needs, omega (arith, typed (c .before .before .before .before .before .before .before .before .before .before .before .before .before .before .before .before .before) .1))
 
 same-length : tie.Need-same-length
 same-length c = search needs
@@ -53,7 +49,7 @@ returns c =
     let r = x .before .before .before in
     let p = r .before in
     let start = p .before .before .before .before in
-    (put-three (now (start .args .image)) phaseAt registersAt cellsAt (x .copy .ensures) (y .copy2 .ensures) (z .copy3 .ensures) (p .phase-bytes .ensures) (r .register-bytes .ensures) refl, typed start)
+    (put-three (now (start .args .image)) phaseAt registersAt cellsAt (x .copy .ensures) (y .copy2 .ensures) (z .put-first .ensures) (p .phase-bytes .ensures) (r .register-bytes .ensures) refl, typed start)
 
 pub put-clock-spec : {M : Type 1} → statement M
 put-clock-spec =
@@ -65,7 +61,7 @@ put-clock-spec =
     copy-requires
     slice-aggregate-copy-2
     copy-requires-2
-    slice-aggregate-copy-3
-    copy-requires-3
+    slice-aggregate-put-first
+    put-first-requires
     same-length
     returns)

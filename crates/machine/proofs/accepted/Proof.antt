@@ -2,14 +2,6 @@ use Rattle.machine_spec.specs.Machine.{acceptedOf}
 use borrow.Author.Needs.{needs}
 use Rattle.machine.proofs.accepted.Statement.{statement}
 use Rattle.machine.proofs.accepted.Tie as tie
-use Rattle.machine.proofs.accepted.Reads as reads
-use Rattle.machine.proofs.accepted.Lts as lts
-use Rattle.clock_phase.proofs.accepted_phase.Reads as accepted-phase-reads
-use Rattle.disk_drives.proofs.accepted.Reads as drivelines-accepted-reads
-use Rattle.levels.proofs.all_levels.Reads as all-levels-reads
-use Rattle.machine_pins.proofs.watched.Reads as watched-reads
-use Rattle.machine_pins.proofs.wires.Reads as wires-reads
-use Rattle.via_flags.proofs.accepted.Reads as viaflags-accepted-reads
 
 wires-requires : tie.Need-wires-requires
 wires-requires c κs = search needs
@@ -32,6 +24,9 @@ accepted-requires c κs = search needs
 accepted-phase-requires : tie.Need-accepted-phase-requires
 accepted-phase-requires c κs = search needs
 
+unused-clear-requires : tie.Need-unused-clear-requires
+unused-clear-requires c κs = search needs
+
 watched-requires : tie.Need-watched-requires
 watched-requires c κs = search needs
 
@@ -41,9 +36,9 @@ accepted-requires-2 c κs = search needs
 returns : tie.Need-returns
 unfolding acceptedOf
 returns c =
-    let a = c .before .before in
+    let a = c .before .before .before in
     let b = a .before .before in
-    simp (c .accepted2 .ensures, c .before .watched .ensures, a .accepted-phase .ensures, a .before .accepted .ensures, b .all-levels2 .ensures, b .before .before .all-levels .ensures, b .before .before .before .before .wires .ensures)
+    simp (c .accepted2 .ensures, c .before .watched .ensures, c .before .before .unused-clear .ensures, a .accepted-phase .ensures, a .before .accepted .ensures, b .all-levels2 .ensures, b .before .before .all-levels .ensures, b .before .before .before .before .wires .ensures)
 
 pub accepted-spec : {M : Type 1} → statement M
 accepted-spec =
@@ -56,6 +51,7 @@ accepted-spec =
     all-levels-requires-2
     accepted-requires
     accepted-phase-requires
+    unused-clear-requires
     watched-requires
     accepted-requires-2
     returns)

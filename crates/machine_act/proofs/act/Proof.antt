@@ -9,7 +9,7 @@ use Rattle.clock_parts.specs.Parts.{coreSeconds}
 use Rattle.clock_parts.proofs.Laws.{enabled-idle}
 use Rattle.item_spec.specs.Items.{ItemInRange}
 use Rattle.machine_spec.specs.declared.Machine.{Machine}
-use Rattle.machine_spec.specs.Machine.{withDisk, wires, cellCount}
+use Rattle.machine_spec.specs.Machine.{withDisk, wires}
 use Rattle.machine_spec.specs.Pins.{wiresOf}
 use Rattle.machine_spec.specs.Accesses.{viaRead, iwmRead}
 use Rattle.machine_spec.specs.Action.{actedOf}
@@ -164,13 +164,13 @@ returns-9 : tie.Need-returns-9
 unfolding actedOf machineChange senseChange wiresOf resetOf
 returns-9 c =
     let a = c .before .before .before .before .before .args in
-    (simp (c .before .before .enum-told3 .given .1, c .before .off .ensures, c .idle .ensures, enabled-idle cellCount (a .k) (now (a .cells)) (wiresOf (a .m .via .ports) (shownLevel (a .k .phase))) (wiresOf (resetOf (a .m .via) .ports) (shownLevel (a .k .phase))) refl), (simp (c .before .before .enum-told3 .given .1), tt))
+    (simp (c .before .before .enum-told3 .given .1, c .before .off .ensures, c .idle .ensures, enabled-idle (a .k) (now (a .cells)) (wiresOf (a .m .via .ports) (shownLevel (a .k .phase))) (wiresOf (resetOf (a .m .via) .ports) (shownLevel (a .k .phase))) refl), (simp (c .before .before .enum-told3 .given .1), tt))
 
 returns-10 : tie.Need-returns-10
 unfolding actedOf machineChange senseChange wiresOf freshVia
 returns-10 c =
     let a = c .before .before .before .before .before .before .before .before .args in
-    (simp (c .before .before .before .before .before .item7 .given .1, c .before .before .before .off2 .ensures, c .power-cut .ensures, c .before .idle2 .ensures, c .before .before .add-seconds2 .ensures, enabled-idle cellCount (coreSeconds (a .k) (advance (stops (a .k .test)) (c .before .before .before .before .before .item7 .given .0 .1 .0) (a .k .seconds))) (now (a .cells)) (wiresOf (a .m .via .ports) (shownLevel (a .k .phase))) (wiresOf (freshVia .ports) (shownLevel (a .k .phase))) refl), (simp (c .before .before .before .before .before .item7 .given .1), tt))
+    (simp (c .before .before .before .before .before .item7 .given .1, c .before .before .before .off2 .ensures, c .power-cut .ensures, c .before .idle2 .ensures, c .before .before .add-seconds2 .ensures, enabled-idle (coreSeconds (a .k) (advance (stops (a .k .test)) (c .before .before .before .before .before .item7 .given .0 .1 .0) (a .k .seconds))) (now (a .cells)) (wiresOf (a .m .via .ports) (shownLevel (a .k .phase))) (wiresOf (freshVia .ports) (shownLevel (a .k .phase))) refl), (simp (c .before .before .before .before .before .item7 .given .1), tt))
 
 returns-11 : tie.Need-returns-11
 unfolding actedOf viaRead registerRead iwmRead raisedOf machineChange senseChange

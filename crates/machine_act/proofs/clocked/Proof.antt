@@ -8,7 +8,6 @@ use Rattle.clock_spec.specs.Phase.{shownLevel}
 use Rattle.clock.specs.Step.{stepWires}
 use Rattle.clock.proofs.Keep.{still}
 use Rattle.clock_parts.specs.Parts.{wholeClock}
-use Rattle.machine_spec.specs.Machine.{cellCount}
 use Rattle.machine_spec.specs.Pins.{wiresOf}
 use Rattle.machine_act.proofs.Laws.{other-register}
 use borrow.Author.Needs.{needs}
@@ -31,8 +30,8 @@ returns c =
     let a = c .before .args in
     let w = wiresOf (a .ports) (shownLevel (a .k .phase)) in
     let k = wholeClock (a .k) (now (a .cells)) in
-    sym (ap (stepWires cellCount k w) (other-register (a .register) (a .value) (a .ports) (shownLevel (a .k .phase)) (ne-eqb _ _ (c .match .rest .0 .1)) (ne-eqb _ _ (c .match .rest .1)))
-    ∙ still cellCount k w (c .before .pre))
+    sym (ap (stepWires k w) (other-register (a .register) (a .value) (a .ports) (shownLevel (a .k .phase)) (ne-eqb _ _ (c .match .rest .0 .1)) (ne-eqb _ _ (c .match .rest .1)))
+    ∙ still k w (c .before .pre))
 
 shown-line-requires : tie.Need-shown-line-requires
 shown-line-requires c κs = search needs

@@ -37,7 +37,7 @@ returns c =
         told .1 .0 ∙ ap (λ (m : Machine). over (runOf m list (length answers)) answers) fresh,
         (
           told .1 .1,
-          subst (λ (r : Ran). Run3 freshMachine list (length answers) (r .machine)) (sym first) (run3-fresh list (length answers)),
+          subst (λ (r : Ran). Run3 (freshMachine (args .chip)) list (length answers) (r .machine)) (sym first) (run3-fresh (args .chip) list (length answers)),
         ),
       ),
     )

@@ -1,10 +1,15 @@
+use Rattle.run_spec.specs.declared.Ran.{Ran}
+use Rattle.machine_spec.specs.declared.Machine.{Machine}
+use Rattle.run_spec.proofs.Users.{size-kept}
+use Rattle.image_spec.proofs.Round.{image-chip}
 use Rattle.image_spec.specs.Image.{imageLength, validImage}
 use lib.ListN.{length}
+use Rattle.image_spec.specs.Layout.{chipOf}
 use Rattle.image_spec.proofs.Round.{valid-is}
 use Rattle.machine_spec.specs.Machine.{acceptedOf}
 use mathlib.Core.Bool.{true, false}
 use Rattle.entry_spec.proofs.Entry as call
-use borrow.Author.Tests.{not-true, not-false, lt-ltb, le-ltb}
+use borrow.Author.Tests.{not-true, not-false}
 use denote.Ref.{now}
 use mathlib.Core.Path.{_≡_, sym, ap, _∙_}
 use borrow.Author.Needs.{needs}
@@ -21,7 +26,7 @@ use Rattle.run.proofs.run_accepted.Reads as run-accepted-reads
 good : (c : tie.Else1) → validImage (now (c .before .before .before .before .before .before .args .image)) ≡ true
 good c = sym (c .before .valid .ensures) ∙ not-false _ (c .if1 .left)
 
-whole : (c : tie.Else1) → length (now (c .before .before .before .before .before .before .args .image)) ≡ imageLength
+whole : (c : tie.Else1) → length (now (c .before .before .before .before .before .before .args .image)) ≡ imageLength (chipOf (now (c .before .before .before .before .before .before .args .image)))
 whole c = valid-is _ (good c) .long
 
 valid-requires : tie.Need-valid-requires
@@ -42,7 +47,15 @@ run-accepted-requires : tie.Need-run-accepted-requires
 run-accepted-requires c κs = ap acceptedOf (c .before .load .ensures) ∙ valid-is _ (good (c .before .before .before)) .accepted
 
 save-requires : tie.Need-save-requires
-save-requires c κs = whole (c .before .before .before .before .before .before .before)
+save-requires c κs =
+    let start = c .before .before .before .before .before .before .before .before .before .before .before .before .before in
+    let m = c .before .before .before .before .before .load in
+    let r = c .before .before .before .run-accepted in
+    whole (c .before .before .before .before .before .before .before)
+    ∙ ap imageLength (sym (ap (λ (x : Ran). x .machine .clock .store .chip) (r .ensures .0)
+    ∙ size-kept (m .result) (now (start .args .list)) (length (now (start .args .answers)))
+    ∙ ap (λ (x : Machine). x .clock .store .chip) (m .ensures)
+    ∙ image-chip (now (start .args .image))))
 
 same-length-2 : tie.Need-same-length-2
 same-length-2 c = search needs

@@ -1,7 +1,7 @@
 //! A machine with short forms of the items.
 #![allow(dead_code)]
 
-use swarmtempo_model::{Machine, Run};
+use swarmtempo_model::{Chip, Machine, Run};
 
 pub const ORB: u32 = 0;
 pub const DDRB: u32 = 2;
@@ -29,7 +29,11 @@ pub struct Bench(pub Machine);
 
 impl Bench {
     pub fn new() -> Self {
-        Bench(Machine::new())
+        Bench::of(Chip::First)
+    }
+
+    pub fn of(chip: Chip) -> Self {
+        Bench(Machine::new(chip))
     }
 
     pub fn item(&mut self, record: &[u8]) -> [u8; 8] {
@@ -96,8 +100,13 @@ impl Bench {
 
     /// A read transaction: the byte shown by the falls.
     pub fn receive(&mut self, command: u8) -> u8 {
+        self.receive_by(&[command])
+    }
+
+    /// The same by a command of one or two bytes.
+    pub fn receive_by(&mut self, command: &[u8]) -> u8 {
         self.begin();
-        self.byte(command);
+        command.iter().for_each(|&byte| self.byte(byte));
         self.wr(0, via(DDRB), 0x06);
         let mut byte = 0;
         for _ in 0..8 {
@@ -110,6 +119,6 @@ impl Bench {
     }
 
     pub fn cells(&self) -> &[u8] {
-        &self.0.clock.store.cells
+        self.0.clock.store.cells()
     }
 }

@@ -19,7 +19,7 @@ unfolding afterEdge next acts act
 returns c = simp (c .before .before .before .p .given .1, c .before .shift .ensures)
 
 returns-2 : tie.Need-returns-2
-returns-2 c = fall-stays 20 (c .before .args .self) (c .match .keys2)
+returns-2 c = fall-stays (c .before .args .self) (c .match .keys2)
 
 pub fall-spec : {M : Type 1} → statement M
 fall-spec = tie.close (tie.spec enum-known-p shift-requires returns returns-2)

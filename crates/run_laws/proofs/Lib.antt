@@ -1,0 +1,3 @@
+pub mod Proved
+pub mod Calls
+pub mod Samples
