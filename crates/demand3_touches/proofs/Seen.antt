@@ -6,6 +6,7 @@ use mathlib.Core.List.{List, [], _∷_, _++_}
 use native.Mathlib.Omega.{arith}
 use lib.Dec.{eqb}
 use borrow.Author.Tests.{eqb-true}
+use Rattle.units.specs.declared.WaitTicks.{WaitTicks}
 use Rattle.via.specs.declared.Ports.{Ports}
 use Rattle.via.specs.Via.{freshVia, raisedOf, resetOf}
 use Rattle.via.specs.Registers.{registerRead}
@@ -120,18 +121,18 @@ left m i h p e =
     ∙ no-move m h
 
 -- A WR to a VIA register: 0, 2, or another.
-wrote : (m : Machine) (w r v : ℕ) → Fits m → seenOf (stepOf m (WriteVia w r v) .machine) ≡ afterTouches (writes r v) (seenOf m)
+wrote : (m : Machine) (w : WaitTicks) (r v : ℕ) → Fits m → seenOf (stepOf m (WriteVia w r v) .machine) ≡ afterTouches (writes r v) (seenOf m)
 unfolding actedOf itemWait eventOf viaWritten portsWritten
 wrote m w r v h = go (eqb r 0) (eqb r 2) refl refl
   where
     x : Item
     x = WriteVia w r v
 
-    o : (t : Bool) → eqb r 0 ≡ t → afterAction m x .via .ports .outb ≡ cond t v (afterWait w m .via .ports .outb)
-    o t e = ap (λ (b : Bool). cond b v (afterWait w m .via .ports .outb)) e
+    o : (t : Bool) → eqb r 0 ≡ t → afterAction m x .via .ports .outb ≡ cond t v (afterWait (w .0) m .via .ports .outb)
+    o t e = ap (λ (b : Bool). cond b v (afterWait (w .0) m .via .ports .outb)) e
 
-    d : (t : Bool) → eqb r 2 ≡ t → afterAction m x .via .ports .dirb ≡ cond t v (afterWait w m .via .ports .dirb)
-    d t e = ap (λ (b : Bool). cond b v (afterWait w m .via .ports .dirb)) e
+    d : (t : Bool) → eqb r 2 ≡ t → afterAction m x .via .ports .dirb ≡ cond t v (afterWait (w .0) m .via .ports .dirb)
+    d t e = ap (λ (b : Bool). cond b v (afterWait (w .0) m .via .ports .dirb)) e
 
     go : (t u : Bool) → eqb r 0 ≡ t → eqb r 2 ≡ u → seenOf (stepOf m x .machine) ≡ afterTouches (cond t (portB v ∷ []) (cond u (directionB v ∷ []) [])) (seenOf m)
     go true true e f = absurd (omega (arith, eqb-true r 0 e, eqb-true r 2 f))
