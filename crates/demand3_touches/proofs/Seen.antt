@@ -136,21 +136,21 @@ wrote m w r v h = go (eqb r 0) (eqb r 2) refl refl
 
     go : (t u : Bool) → eqb r 0 ≡ t → eqb r 2 ≡ u → seenOf (stepOf m x .machine) ≡ afterTouches (cond t (portB v ∷ []) (cond u (directionB v ∷ []) [])) (seenOf m)
     go true true e f = absurd (omega (arith, eqb-true r 0 e, eqb-true r 2 f))
-    go true false e f = step-move m x v (m .via .ports .dirb) (o true e, d false f ∙ waited-port m w .1)
-    go false true e f = step-move m x (m .via .ports .outb) v (o false e ∙ waited-port m w .0, d true f)
-    go false false e f = left m x h (o false e ∙ waited-port m w .0, d false f ∙ waited-port m w .1) refl
+    go true false e f = step-move m x v (m .via .ports .dirb) (o true e, d false f ∙ waited-port m (w .0) .1)
+    go false true e f = step-move m x (m .via .ports .outb) v (o false e ∙ waited-port m (w .0) .0, d true f)
+    go false false e f = left m x h (o false e ∙ waited-port m (w .0) .0, d false f ∙ waited-port m (w .0) .1) refl
 
 -- Every item that is done.
 pub done : (m : Machine) (i : Item) → Fits m → seenOf (stepOf m i .machine) ≡ afterTouches (touchesOf i) (seenOf m)
 unfolding touchesOf actedOf itemWait eventOf viaRead iwmRead registerRead raisedOf resetOf freshVia
-done m (ReadVia w r) h = left m (ReadVia w r) h (waited-port m w) refl
-done m (ReadIwm w k) h = left m (ReadIwm w k) h (waited-port m w) refl
+done m (ReadVia w r) h = left m (ReadVia w r) h (waited-port m (w .0)) refl
+done m (ReadIwm w k) h = left m (ReadIwm w k) h (waited-port m (w .0)) refl
 done m (WriteVia w r v) h = wrote m w r v h
-done m (WriteIwm w k v) h = left m (WriteIwm w k v) h (waited-port m w) refl
-done m (Blank w) h = left m (Blank w) h (waited-port m w) refl
-done m (Second w) h = step-move m (Second w) (m .via .ports .outb) (m .via .ports .dirb) (waited-port m w)
-done m (Line w l v) h = left m (Line w l v) h (waited-port m w) refl
-done m (Sense w d r v) h = left m (Sense w d r v) h (waited-port m w) refl
+done m (WriteIwm w k v) h = left m (WriteIwm w k v) h (waited-port m (w .0)) refl
+done m (Blank w) h = left m (Blank w) h (waited-port m (w .0)) refl
+done m (Second w) h = step-move m (Second w) (m .via .ports .outb) (m .via .ports .dirb) (waited-port m (w .0))
+done m (Line w l v) h = left m (Line w l v) h (waited-port m (w .0)) refl
+done m (Sense w d r v) h = left m (Sense w d r v) h (waited-port m (w .0)) refl
 done m (Reset w) h = step-move m (Reset w) 0 0 (refl, refl)
 done m (Power w s) h = step-move m (Power w s) 0 0 (refl, refl)
-done m (Disk w d i l b) h = left m (Disk w d i l b) h (waited-port m w) refl
+done m (Disk w d i l b) h = left m (Disk w d i l b) h (waited-port m (w .0)) refl
