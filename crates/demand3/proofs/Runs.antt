@@ -6,6 +6,7 @@ use Prim.Native.Nat.{ℕ, _-_, _^_, _<_}
 use native.Mathlib.Omega.{arith}
 use lib.Dec.{ltb, eqb}
 use lib.ListN.{length, getD}
+use Rattle.units.specs.declared.WaitTicks.{WaitTicks}
 use Rattle.levels.specs.Levels.{allBelow}
 use Rattle.via.specs.declared.Ports.{Ports}
 use Rattle.via.specs.Via.{freshVia, acceptedVia}
@@ -78,7 +79,7 @@ done-is m i =
     ∙ ap (λ (c : Clock). stepWires c (wires m) (wires (stepOf m i .machine))) (acted-clock (afterWait (itemWait i) m) i)
 
 -- A DI done leaves the whole clock as it is.
-pub disk-still : (m : Machine) (w d i l b : ℕ) → Accepted (m .clock) (wires m) → stepOf m (Disk w d i l b) .machine .clock ≡ m .clock
+pub disk-still : (m : Machine) (w : WaitTicks) (d i l b : ℕ) → Accepted (m .clock) (wires m) → stepOf m (Disk w d i l b) .machine .clock ≡ m .clock
 unfolding stepOf itemWait actedOf
 disk-still m w d i l b ok =
     ap (stepWires (m .clock) (wires m)) (disk-wires m w d i l b) ∙ step-still (m .clock) (wires m) ok

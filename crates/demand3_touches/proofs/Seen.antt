@@ -6,6 +6,7 @@ use mathlib.Core.List.{List, [], _∷_, _++_}
 use native.Mathlib.Omega.{arith}
 use lib.Dec.{eqb}
 use borrow.Author.Tests.{eqb-true}
+use Rattle.units.specs.declared.WaitTicks.{WaitTicks}
 use Rattle.via.specs.declared.Ports.{Ports}
 use Rattle.via.specs.Via.{freshVia, raisedOf, resetOf}
 use Rattle.via.specs.Registers.{registerRead}
@@ -120,36 +121,36 @@ left m i h p e =
     ∙ no-move m h
 
 -- A WR to a VIA register: 0, 2, or another.
-wrote : (m : Machine) (w r v : ℕ) → Fits m → seenOf (stepOf m (WriteVia w r v) .machine) ≡ afterTouches (writes r v) (seenOf m)
+wrote : (m : Machine) (w : WaitTicks) (r v : ℕ) → Fits m → seenOf (stepOf m (WriteVia w r v) .machine) ≡ afterTouches (writes r v) (seenOf m)
 unfolding actedOf itemWait eventOf viaWritten portsWritten
 wrote m w r v h = go (eqb r 0) (eqb r 2) refl refl
   where
     x : Item
     x = WriteVia w r v
 
-    o : (t : Bool) → eqb r 0 ≡ t → afterAction m x .via .ports .outb ≡ cond t v (afterWait w m .via .ports .outb)
-    o t e = ap (λ (b : Bool). cond b v (afterWait w m .via .ports .outb)) e
+    o : (t : Bool) → eqb r 0 ≡ t → afterAction m x .via .ports .outb ≡ cond t v (afterWait (w .0) m .via .ports .outb)
+    o t e = ap (λ (b : Bool). cond b v (afterWait (w .0) m .via .ports .outb)) e
 
-    d : (t : Bool) → eqb r 2 ≡ t → afterAction m x .via .ports .dirb ≡ cond t v (afterWait w m .via .ports .dirb)
-    d t e = ap (λ (b : Bool). cond b v (afterWait w m .via .ports .dirb)) e
+    d : (t : Bool) → eqb r 2 ≡ t → afterAction m x .via .ports .dirb ≡ cond t v (afterWait (w .0) m .via .ports .dirb)
+    d t e = ap (λ (b : Bool). cond b v (afterWait (w .0) m .via .ports .dirb)) e
 
     go : (t u : Bool) → eqb r 0 ≡ t → eqb r 2 ≡ u → seenOf (stepOf m x .machine) ≡ afterTouches (cond t (portB v ∷ []) (cond u (directionB v ∷ []) [])) (seenOf m)
     go true true e f = absurd (omega (arith, eqb-true r 0 e, eqb-true r 2 f))
-    go true false e f = step-move m x v (m .via .ports .dirb) (o true e, d false f ∙ waited-port m w .1)
-    go false true e f = step-move m x (m .via .ports .outb) v (o false e ∙ waited-port m w .0, d true f)
-    go false false e f = left m x h (o false e ∙ waited-port m w .0, d false f ∙ waited-port m w .1) refl
+    go true false e f = step-move m x v (m .via .ports .dirb) (o true e, d false f ∙ waited-port m (w .0) .1)
+    go false true e f = step-move m x (m .via .ports .outb) v (o false e ∙ waited-port m (w .0) .0, d true f)
+    go false false e f = left m x h (o false e ∙ waited-port m (w .0) .0, d false f ∙ waited-port m (w .0) .1) refl
 
 -- Every item that is done.
 pub done : (m : Machine) (i : Item) → Fits m → seenOf (stepOf m i .machine) ≡ afterTouches (touchesOf i) (seenOf m)
 unfolding touchesOf actedOf itemWait eventOf viaRead iwmRead registerRead raisedOf resetOf freshVia
-done m (ReadVia w r) h = left m (ReadVia w r) h (waited-port m w) refl
-done m (ReadIwm w k) h = left m (ReadIwm w k) h (waited-port m w) refl
+done m (ReadVia w r) h = left m (ReadVia w r) h (waited-port m (w .0)) refl
+done m (ReadIwm w k) h = left m (ReadIwm w k) h (waited-port m (w .0)) refl
 done m (WriteVia w r v) h = wrote m w r v h
-done m (WriteIwm w k v) h = left m (WriteIwm w k v) h (waited-port m w) refl
-done m (Blank w) h = left m (Blank w) h (waited-port m w) refl
-done m (Second w) h = step-move m (Second w) (m .via .ports .outb) (m .via .ports .dirb) (waited-port m w)
-done m (Line w l v) h = left m (Line w l v) h (waited-port m w) refl
-done m (Sense w d r v) h = left m (Sense w d r v) h (waited-port m w) refl
+done m (WriteIwm w k v) h = left m (WriteIwm w k v) h (waited-port m (w .0)) refl
+done m (Blank w) h = left m (Blank w) h (waited-port m (w .0)) refl
+done m (Second w) h = step-move m (Second w) (m .via .ports .outb) (m .via .ports .dirb) (waited-port m (w .0))
+done m (Line w l v) h = left m (Line w l v) h (waited-port m (w .0)) refl
+done m (Sense w d r v) h = left m (Sense w d r v) h (waited-port m (w .0)) refl
 done m (Reset w) h = step-move m (Reset w) 0 0 (refl, refl)
 done m (Power w s) h = step-move m (Power w s) 0 0 (refl, refl)
-done m (Disk w d i l b) h = left m (Disk w d i l b) h (waited-port m w) refl
+done m (Disk w d i l b) h = left m (Disk w d i l b) h (waited-port m (w .0)) refl

@@ -20,7 +20,7 @@ pub fn line_item(s: &[u8]) -> Decoded
         return Decoded::Refused(5);
     }
     Decoded::Done(Item::Line {
-        wait: octets::le16(s, 2),
+        wait: item_wait::wait_of(s),
         line,
         level,
     })
@@ -51,7 +51,7 @@ pub fn sense_item(s: &[u8]) -> Decoded
         return Decoded::Refused(9);
     }
     Decoded::Done(Item::Sense {
-        wait: octets::le16(s, 2),
+        wait: item_wait::wait_of(s),
         drive,
         register,
         level,
@@ -74,7 +74,7 @@ pub fn disk_item(s: &[u8]) -> Decoded
         return Decoded::Refused(5);
     }
     Decoded::Done(Item::Disk {
-        wait: octets::le16(s, 2),
+        wait: item_wait::wait_of(s),
         drive: external,
         insert,
         locked,

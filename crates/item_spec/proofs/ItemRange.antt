@@ -8,6 +8,7 @@ use lib.ListN.{length, getD}
 use lib.Dec.{ltb, eqb}
 use borrow.Author.Tests.{ltb-false}
 use Rattle.octets.specs.Octets.{le32Of, Bytes}
+use Rattle.units.specs.declared.WaitTicks.{WaitTicks}
 use Rattle.octets.proofs.Laws.{le16-width, le32-width}
 use Rattle.item_spec.specs.Addresses.{foundOf}
 use Rattle.item_spec.specs.Items.{ofLength, atAddress, recordWait, readRecord, writeRecord, powerRecord, plainItem, plainRecord, ItemInRange, ItemInWidth}
@@ -65,7 +66,7 @@ module _ (P : Item → Type 0) where
       (good-cond (isKind s (80 ∷ 87 ∷ [])) _ _ pw
       (good-cond (isKind s (68 ∷ 73 ∷ [])) _ _ di tt))))))))
 
-plain-range : (k : Plain) (w : ℕ) → ItemInRange (plainItem k w)
+plain-range : (k : Plain) (w : WaitTicks) → ItemInRange (plainItem k w)
 plain-range Plain.Blank w = tt
 plain-range Plain.Second w = tt
 plain-range Plain.Reset w = tt
@@ -87,7 +88,7 @@ in-range s =
 pub decoded-range : (s : List ℕ) (x : Item) → decodedOf s ≡ Done x → ItemInRange x
 decoded-range s x e = subst (Good ItemInRange) e (in-range s)
 
-plain-width : (k : Plain) (w : ℕ) → w < 65536 → ItemInWidth (plainItem k w)
+plain-width : (k : Plain) (w : WaitTicks) → w .0 < 65536 → ItemInWidth (plainItem k w)
 plain-width Plain.Blank w h = h
 plain-width Plain.Second w h = h
 plain-width Plain.Reset w h = h
@@ -95,7 +96,7 @@ plain-width Plain.Reset w h = h
 in-width : (s : List ℕ) → Bytes s → Good ItemInWidth (decodedOf s)
 unfolding readRecord writeRecord lineRecord senseRecord powerRecord diskRecord plainRecord
 in-width s bs =
-    let w : recordWait s < 65536 = le16-width s 2 bs in
+    let w : recordWait s .0 < 65536 = le16-width s 2 bs in
     good-all ItemInWidth s
     (good-sized ItemInWidth s 8 _ (good-placed ItemInWidth (le32Of s 4) (λ r. ReadVia (recordWait s) r) (λ k. ReadIwm (recordWait s) k) (λ r h. w) (λ k h. w)))
     (good-sized ItemInWidth s 9 _ (good-placed ItemInWidth (le32Of s 4) (λ r. WriteVia (recordWait s) r (getD s 8 0)) (λ k. WriteIwm (recordWait s) k (getD s 8 0)) (λ r h. (w, bs 8)) (λ k h. (w, bs 8))))

@@ -5,6 +5,8 @@ use mathlib.Core.List.{List}
 use lib.ListN.{length, getD}
 use lib.Dec.{eqb}
 use Rattle.octets.specs.Octets.{le16Of, le32Of}
+use Rattle.units.specs.Units.{forTicks}
+use Rattle.units.specs.declared.WaitTicks.{WaitTicks}
 use Rattle.item_spec.specs.declared.Item.{Item}
 use Rattle.item_spec.specs.declared.Item.the-variants.{ReadVia, ReadIwm, WriteVia, WriteIwm, Line, Sense, Power, Disk}
 use Rattle.item_spec.specs.declared.Decoded.{Decoded}
@@ -30,8 +32,8 @@ atAddress (Iwm k) f g = Done (g k)
 atAddress Nowhere f g = Refused 4
 
 -- "Every item's body begins with a wait in VIA ticks (2 bytes)."
-abbrev pub recordWait : List ℕ → ℕ
-recordWait s = le16Of s 2
+abbrev pub recordWait : List ℕ → WaitTicks
+recordWait s = forTicks (le16Of s 2)
 
 -- RD, 8: "address (4): read".
 unfoldable pub readRecord : List ℕ → Decoded
@@ -47,7 +49,7 @@ unfoldable pub powerRecord : List ℕ → Decoded
 powerRecord s = ofLength s 8 (Done (Power (recordWait s) (le32Of s 4)))
 
 -- VB, SE, RS, 4: nothing after the wait.
-abbrev pub plainItem : Plain → ℕ → Item
+abbrev pub plainItem : Plain → WaitTicks → Item
 plainItem Plain.Blank w = Item.Blank w
 plainItem Plain.Second w = Item.Second w
 plainItem Plain.Reset w = Item.Reset w
@@ -71,14 +73,14 @@ ItemInRange (Disk w d i l b) = (d < 2) × (i < 2) × (l < 2) × (b < 2)
 
 -- The numbers of an item are within their widths: a wait of two bytes, a value of one, seconds of four.
 abbrev pub ItemInWidth : Item → Type 0
-ItemInWidth (ReadVia w r) = w < 65536
-ItemInWidth (ReadIwm w k) = w < 65536
-ItemInWidth (WriteVia w r v) = (w < 65536) × (v < 256)
-ItemInWidth (WriteIwm w k v) = (w < 65536) × (v < 256)
-ItemInWidth (Item.Blank w) = w < 65536
-ItemInWidth (Item.Second w) = w < 65536
-ItemInWidth (Line w l v) = w < 65536
-ItemInWidth (Sense w d r v) = w < 65536
-ItemInWidth (Item.Reset w) = w < 65536
-ItemInWidth (Power w t) = (w < 65536) × (t < 4294967296)
-ItemInWidth (Disk w d i l b) = w < 65536
+ItemInWidth (ReadVia w r) = w .0 < 65536
+ItemInWidth (ReadIwm w k) = w .0 < 65536
+ItemInWidth (WriteVia w r v) = (w .0 < 65536) × (v < 256)
+ItemInWidth (WriteIwm w k v) = (w .0 < 65536) × (v < 256)
+ItemInWidth (Item.Blank w) = w .0 < 65536
+ItemInWidth (Item.Second w) = w .0 < 65536
+ItemInWidth (Line w l v) = w .0 < 65536
+ItemInWidth (Sense w d r v) = w .0 < 65536
+ItemInWidth (Item.Reset w) = w .0 < 65536
+ItemInWidth (Power w t) = (w .0 < 65536) × (t < 4294967296)
+ItemInWidth (Disk w d i l b) = w .0 < 65536

@@ -3,6 +3,7 @@ use Prim.Native.Nat.{ℕ}
 use mathlib.Core.Path.{_≡_}
 use mathlib.Core.Bool.{true}
 use mathlib.Core.List.{List, [], _∷_}
+use Rattle.units.specs.Units.{forTicks}
 use Rattle.item_spec.specs.Record.{frameOf, answerBytes, noOf}
 use Rattle.item_spec.specs.Items.{refusalOf}
 use Rattle.item_spec.specs.Kinds.{decodedOf}
@@ -18,27 +19,27 @@ numbers (s ∷ ss) = refusalOf (decodedOf s) ∷ numbers ss
 
 pub record Samples : Type 0 where
   -- S2 and S4: RD $EFE1FE, WR $81 to $EFFDFE
-  pub s2 : decodedOf (0x52 ∷ 0x44 ∷ 0 ∷ 0 ∷ 0xfe ∷ 0xe1 ∷ 0xef ∷ 0 ∷ []) ≡ Done (ReadVia 0 0)
-  pub s4 : decodedOf (0x57 ∷ 0x52 ∷ 0 ∷ 0 ∷ 0xfe ∷ 0xfd ∷ 0xef ∷ 0 ∷ 0x81 ∷ []) ≡ Done (WriteVia 0 14 0x81)
+  pub s2 : decodedOf (0x52 ∷ 0x44 ∷ 0 ∷ 0 ∷ 0xfe ∷ 0xe1 ∷ 0xef ∷ 0 ∷ []) ≡ Done (ReadVia (forTicks 0) 0)
+  pub s4 : decodedOf (0x57 ∷ 0x52 ∷ 0 ∷ 0 ∷ 0xfe ∷ 0xfd ∷ 0xef ∷ 0 ∷ 0x81 ∷ []) ≡ Done (WriteVia (forTicks 0) 14 0x81)
   -- ---- each kind, after a wait of 513 VIA ticks
   -- RD, WR: $EFF3FE is VIA register 9, $DFEDFF IWM location 6
-  pub readVia : decodedOf (0x52 ∷ 0x44 ∷ 1 ∷ 2 ∷ 0xfe ∷ 0xf3 ∷ 0xef ∷ 0 ∷ []) ≡ Done (ReadVia 513 9)
-  pub readIwm : decodedOf (0x52 ∷ 0x44 ∷ 1 ∷ 2 ∷ 0xff ∷ 0xed ∷ 0xdf ∷ 0 ∷ []) ≡ Done (ReadIwm 513 6)
-  pub writeVia : decodedOf (0x57 ∷ 0x52 ∷ 1 ∷ 2 ∷ 0xfe ∷ 0xf3 ∷ 0xef ∷ 0 ∷ 0xa7 ∷ []) ≡ Done (WriteVia 513 9 0xa7)
-  pub writeIwm : decodedOf (0x57 ∷ 0x52 ∷ 1 ∷ 2 ∷ 0xff ∷ 0xed ∷ 0xdf ∷ 0 ∷ 0xa7 ∷ []) ≡ Done (WriteIwm 513 6 0xa7)
+  pub readVia : decodedOf (0x52 ∷ 0x44 ∷ 1 ∷ 2 ∷ 0xfe ∷ 0xf3 ∷ 0xef ∷ 0 ∷ []) ≡ Done (ReadVia (forTicks 513) 9)
+  pub readIwm : decodedOf (0x52 ∷ 0x44 ∷ 1 ∷ 2 ∷ 0xff ∷ 0xed ∷ 0xdf ∷ 0 ∷ []) ≡ Done (ReadIwm (forTicks 513) 6)
+  pub writeVia : decodedOf (0x57 ∷ 0x52 ∷ 1 ∷ 2 ∷ 0xfe ∷ 0xf3 ∷ 0xef ∷ 0 ∷ 0xa7 ∷ []) ≡ Done (WriteVia (forTicks 513) 9 0xa7)
+  pub writeIwm : decodedOf (0x57 ∷ 0x52 ∷ 1 ∷ 2 ∷ 0xff ∷ 0xed ∷ 0xdf ∷ 0 ∷ 0xa7 ∷ []) ≡ Done (WriteIwm (forTicks 513) 6 0xa7)
   -- VB, SE, RS
-  pub blank : decodedOf (0x56 ∷ 0x42 ∷ 1 ∷ 2 ∷ []) ≡ Done (Item.Blank 513)
-  pub second : decodedOf (0x53 ∷ 0x45 ∷ 1 ∷ 2 ∷ []) ≡ Done (Item.Second 513)
-  pub reset : decodedOf (0x52 ∷ 0x53 ∷ 1 ∷ 2 ∷ []) ≡ Done (Item.Reset 513)
+  pub blank : decodedOf (0x56 ∷ 0x42 ∷ 1 ∷ 2 ∷ []) ≡ Done (Item.Blank (forTicks 513))
+  pub second : decodedOf (0x53 ∷ 0x45 ∷ 1 ∷ 2 ∷ []) ≡ Done (Item.Second (forTicks 513))
+  pub reset : decodedOf (0x52 ∷ 0x53 ∷ 1 ∷ 2 ∷ []) ≡ Done (Item.Reset (forTicks 513))
   -- IN: line, level
-  pub line : decodedOf (0x49 ∷ 0x4e ∷ 1 ∷ 2 ∷ 6 ∷ 1 ∷ []) ≡ Done (Line 513 6 1)
+  pub line : decodedOf (0x49 ∷ 0x4e ∷ 1 ∷ 2 ∷ 6 ∷ 1 ∷ []) ≡ Done (Line (forTicks 513) 6 1)
   -- SN: drive, register, level
-  pub sense : decodedOf (0x53 ∷ 0x4e ∷ 1 ∷ 2 ∷ 1 ∷ 14 ∷ 0 ∷ []) ≡ Done (Sense 513 1 14 0)
+  pub sense : decodedOf (0x53 ∷ 0x4e ∷ 1 ∷ 2 ∷ 1 ∷ 14 ∷ 0 ∷ []) ≡ Done (Sense (forTicks 513) 1 14 0)
   -- PW: $07060504 seconds off
-  pub power : decodedOf (0x50 ∷ 0x57 ∷ 1 ∷ 2 ∷ 4 ∷ 5 ∷ 6 ∷ 7 ∷ []) ≡ Done (Power 513 0x07060504)
+  pub power : decodedOf (0x50 ∷ 0x57 ∷ 1 ∷ 2 ∷ 4 ∷ 5 ∷ 6 ∷ 7 ∷ []) ≡ Done (Power (forTicks 513) 0x07060504)
   -- DI: drive, insert, locked, double-sided
-  pub insert : decodedOf (0x44 ∷ 0x49 ∷ 1 ∷ 2 ∷ 0 ∷ 1 ∷ 1 ∷ 0 ∷ []) ≡ Done (Disk 513 0 1 1 0)
-  pub remove : decodedOf (0x44 ∷ 0x49 ∷ 1 ∷ 2 ∷ 1 ∷ 0 ∷ 0 ∷ 1 ∷ []) ≡ Done (Disk 513 1 0 0 1)
+  pub insert : decodedOf (0x44 ∷ 0x49 ∷ 1 ∷ 2 ∷ 0 ∷ 1 ∷ 1 ∷ 0 ∷ []) ≡ Done (Disk (forTicks 513) 0 1 1 0)
+  pub remove : decodedOf (0x44 ∷ 0x49 ∷ 1 ∷ 2 ∷ 1 ∷ 0 ∷ 0 ∷ 1 ∷ []) ≡ Done (Disk (forTicks 513) 1 0 0 1)
   -- ---- refusals
   -- 2: "ZZ", "rd", "RE", "WD", "BV", "ST", whatever their length
   pub kinds : numbers ((0x5a ∷ 0x5a ∷ 1 ∷ []) ∷ (0x72 ∷ 0x64 ∷ 0 ∷ 0 ∷ 0xfe ∷ 0xe1 ∷ 0xef ∷ 0 ∷ []) ∷ (0x52 ∷ 0x45 ∷ 0 ∷ 0 ∷ []) ∷ (0x57 ∷ 0x44 ∷ 0 ∷ 0 ∷ []) ∷ (0x42 ∷ 0x56 ∷ 0 ∷ 0 ∷ []) ∷ (0x53 ∷ 0x54 ∷ 0 ∷ 0 ∷ []) ∷ [])

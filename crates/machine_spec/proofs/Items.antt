@@ -6,6 +6,7 @@ use mathlib.Core.List.{List}
 use native.Mathlib.Omega.{arith}
 use lib.ListN.{getD, set}
 use lib.Seq.{getD-set-other}
+use Rattle.units.specs.declared.WaitTicks.{WaitTicks}
 use Rattle.via.specs.declared.Inputs.{Inputs}
 use Rattle.via.specs.Via.{ticks, raisedOf}
 use Rattle.via.specs.Registers.{registerRead}
@@ -79,21 +80,21 @@ drive-sensed k m s h = simp h
 
 -- "VB sets flag 1, SE flag 0"; W-204: "SE still sets flag 0" while the test byte stops the seconds. `raised-bit`
 -- (registers) says which flags that leaves set.
-pub blank-flag : (m : Machine) (w : ℕ) → stepOf m (Blank w) .machine .via ≡ raisedOf 2 (ticks w (m .via))
+pub blank-flag : (m : Machine) (w : WaitTicks) → stepOf m (Blank w) .machine .via ≡ raisedOf 2 (ticks (w .0) (m .via))
 unfolding stepOf actedOf itemWait
 blank-flag m w = refl
 
-pub second-flag : (m : Machine) (w : ℕ) → stepOf m (Second w) .machine .via ≡ raisedOf 1 (ticks w (m .via))
+pub second-flag : (m : Machine) (w : WaitTicks) → stepOf m (Second w) .machine .via ≡ raisedOf 1 (ticks (w .0) (m .via))
 unfolding stepOf actedOf itemWait
 second-flag m w = refl
 
 -- ---- reset and power
 
 -- RS: "IN and sense levels stay"; PW leaves them too; W-205: lines 5 and 6 are "kept over RS and PW".
-pub reset-levels : (m : Machine) (w : ℕ) → (stepOf m (Reset w) .machine .inputs ≡ m .inputs) × (stepOf m (Reset w) .machine .sense ≡ m .sense)
+pub reset-levels : (m : Machine) (w : WaitTicks) → (stepOf m (Reset w) .machine .inputs ≡ m .inputs) × (stepOf m (Reset w) .machine .sense ≡ m .sense)
 unfolding stepOf actedOf
 reset-levels m w = (refl, refl)
 
-pub power-levels : (m : Machine) (w s : ℕ) → (stepOf m (Power w s) .machine .inputs ≡ m .inputs) × (stepOf m (Power w s) .machine .sense ≡ m .sense)
+pub power-levels : (m : Machine) (w : WaitTicks) (s : ℕ) → (stepOf m (Power w s) .machine .inputs ≡ m .inputs) × (stepOf m (Power w s) .machine .sense ≡ m .sense)
 unfolding stepOf actedOf
 power-levels m w s = (refl, refl)

@@ -6,6 +6,7 @@ use mathlib.Core.List.{List, [], _∷_}
 use lib.Dec.{eqb}
 use types.Run.{OneOf, miss}
 use denote.Enum.Declared.{tagOf}
+use Rattle.units.specs.declared.WaitTicks.{WaitTicks}
 use Rattle.via.specs.declared.Ports.{Ports}
 use Rattle.via.proofs.Kept.{ticks-ports}
 use Rattle.clock_spec.specs.declared.Wires.{Wires}
@@ -60,6 +61,6 @@ kinds-unrefused m (Power w s) h = refl
 kinds-unrefused m (Disk w d i l b) h = absurd (miss unrefused-kinds 10 tt h)
 
 -- "Inserting where a disk is, or removing where none is, gets refusal 8."
-pub clash : (m : Machine) (w d i l b : ℕ) → placeRefused (eqb d 1) (eqb i 1) (m .drives) ≡ true → refusesOf m (Disk w d i l b) ≡ 8
+pub clash : (m : Machine) (w : WaitTicks) (d i l b : ℕ) → placeRefused (eqb d 1) (eqb i 1) (m .drives) ≡ true → refusesOf m (Disk w d i l b) ≡ 8
 unfolding refusesOf
 clash m w d i l b h = simp h

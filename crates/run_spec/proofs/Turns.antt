@@ -4,6 +4,7 @@ use mathlib.Core.Path.{_≡_, refl, _∙_}
 use mathlib.Core.Bool.{Bool, true, false, cond, true≢false}
 use mathlib.Core.List.{List}
 use lib.Dec.{eqb}
+use Rattle.units.specs.declared.WaitTicks.{WaitTicks}
 use Rattle.item_spec.specs.declared.Item.{Item}
 use Rattle.item_spec.specs.declared.Item.the-variants.{Disk}
 use Rattle.item_spec.specs.declared.Decoded.{Decoded}
@@ -44,7 +45,7 @@ refused-unchanged m s h = go (decodedOf s) h
         judge false h = refl
 
 -- DI where a disk is, or a removal where none is: refusal 8, and the machine as it was, its counters too.
-pub clash-refused : (m : Machine) (s : List ℕ) (w d i l b : ℕ) → decodedOf s ≡ Done (Disk w d i l b) → placeRefused (eqb d 1) (eqb i 1) (m .drives) ≡ true
+pub clash-refused : (m : Machine) (s : List ℕ) (w : WaitTicks) (d i l b : ℕ) → decodedOf s ≡ Done (Disk w d i l b) → placeRefused (eqb d 1) (eqb i 1) (m .drives) ≡ true
     → turnOf m s ≡ refusedTurn m 8
 unfolding turnOf
 clash-refused m s w d i l b e h = simp (e, clash m w d i l b h)

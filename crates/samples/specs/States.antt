@@ -5,6 +5,7 @@ use mathlib.Core.Path.{_≡_}
 use mathlib.Core.Bool.{Bool, true, false}
 use mathlib.Core.List.{List, [], _∷_, _++_}
 use lib.ListN.{take, drop}
+use Rattle.units.specs.Units.{forTicks}
 use Rattle.via.specs.Via.{freshVia}
 use Rattle.via.specs.Setters.{withFlags, withEnables}
 use Rattle.clock_spec.specs.declared.Target.the-variants.{Cell}
@@ -111,7 +112,7 @@ pub record StateSamples : Type 0 where
       ++ (0 ∷ 0 ∷ 0 ∷ 0 ∷ 0 ∷ 0 ∷ 0 ∷ 0 ∷ 0 ∷ [])
       ++ (0 ∷ 0 ∷ 0 ∷ 0 ∷ 0 ∷ [])
   -- RS keeps T1 and T2's counters and latches, register 10, the clock's store, IN and sense levels and the drives.
-  pub reset : imageOf (afterItem busy (Reset 0))
+  pub reset : imageOf (afterItem busy (Reset (forTicks 0)))
       ≡ (0x79 ∷ 0 ∷ 0x53 ∷ 0x54 ∷ [])
       ++ (0 ∷ 0 ∷ 0 ∷ 0 ∷ 0xe7 ∷ 0x5e ∷ 0x83 ∷ 0x94 ∷ 0 ∷ 0 ∷ 0xf8 ∷ 0xa2 ∷ 0xb9 ∷ 0 ∷ 0xc6 ∷ 0 ∷ 0 ∷ 0 ∷ 0 ∷ [])
       ++ (0 ∷ 0 ∷ 0 ∷ 0 ∷ [])
@@ -125,7 +126,7 @@ pub record StateSamples : Type 0 where
       ++ (0x2a ∷ 1 ∷ 1 ∷ 1 ∷ 0 ∷ 1 ∷ 0 ∷ 0 ∷ 0 ∷ [])
       ++ (0 ∷ 0 ∷ 0 ∷ 0 ∷ 0 ∷ [])
   -- PW keeps cells, seconds and time off, protect, test, IN and sense levels; it stops motors and drops the step.
-  pub power : imageOf (afterItem busy (Power 0 0x11223344))
+  pub power : imageOf (afterItem busy (Power (forTicks 0) 0x11223344))
       ≡ (0x79 ∷ 0 ∷ 0x53 ∷ 0x54 ∷ [])
       ++ (0 ∷ 0 ∷ 0 ∷ 0 ∷ 0 ∷ 0 ∷ 0 ∷ 0 ∷ 0 ∷ 0 ∷ 0 ∷ 0 ∷ 0 ∷ 0 ∷ 0 ∷ 0 ∷ 0 ∷ 0 ∷ 0 ∷ [])
       ++ (0 ∷ 0 ∷ 0 ∷ 0 ∷ [])

@@ -5,6 +5,7 @@ ghost use Prim.Native.Nat.{_<_};
 ghost use Rattle.via_timer.specs.Timer.{steps};
 ghost use Rattle.via.specs.Writes.{timer1Written, viaWritten};
 ghost use Rattle.via.specs.Via.{onlyCounts, freshVia, latchOf, counter1, counter2, ticks, resetOf};
+use units::WaitTicks;
 use via_timer::Counter;
 
 // Output bits and directions of ports B and A; a direction bit of 1 is an output.
@@ -131,10 +132,11 @@ fn run2(t: Timer2, still: bool, n: u16) -> Counter
 }
 
 impl Via {
-    // n VIA ticks, worked out from n.
-    pub fn wait(mut self, n: u16) -> Via
-        ensures { λ r. ⌜ r ≡ ticks n self ⌝ }
+    // The wait passes, worked out from its VIA ticks.
+    pub fn wait(mut self, wait: WaitTicks) -> Via
+        ensures { λ r. ⌜ r ≡ ticks (wait .0) self ⌝ }
     {
+        let n = units::tick_count(wait);
         let a = run1(self.t1, self.acr / 64 % 2 == 1, n);
         let b = run2(self.t2, self.acr / 32 % 2 == 1, n);
         self.t1.counter = a.value;
@@ -146,19 +148,21 @@ impl Via {
         self
     }
 
-    // Whether n VIA ticks do no more than take n from both counters: no load is due, T2 counts, and neither passes 0.
-    pub fn only_counts(self, n: u16) -> bool
-        ensures { λ r. ⌜ r ≡ onlyCounts n self ⌝ }
+    // Whether the wait does no more than take its VIA ticks from both counters: no load is due, T2 counts, and neither passes 0.
+    pub fn only_counts(self, wait: WaitTicks) -> bool
+        ensures { λ r. ⌜ r ≡ onlyCounts (wait .0) self ⌝ }
     {
+        let n = units::tick_count(wait);
         !self.t1.due
             & ((self.acr / 32 % 2 != 1) & ((n <= self.t1.counter) & (n <= self.t2.counter)))
     }
 
-    // n VIA ticks that do no more.
-    pub fn count(mut self, n: u16) -> Via
-        requires { ⌜ onlyCounts n self ≡ true ⌝ }
-        ensures { λ r. ⌜ r ≡ ticks n self ⌝ }
+    // A wait that does no more.
+    pub fn count(mut self, wait: WaitTicks) -> Via
+        requires { ⌜ onlyCounts (wait .0) self ≡ true ⌝ }
+        ensures { λ r. ⌜ r ≡ ticks (wait .0) self ⌝ }
     {
+        let n = units::tick_count(wait);
         let a = self.t1.counter - n;
         let b = self.t2.counter - n;
         self.t1.counter = a;
