@@ -12,7 +12,7 @@ use Rattle.octets.proofs.Laws.{le16-width, le32-width}
 use Rattle.item_spec.specs.Addresses.{foundOf}
 use Rattle.item_spec.specs.Items.{ofLength, atAddress, recordWait, readRecord, writeRecord, powerRecord, plainItem, plainRecord, ItemInRange, ItemInWidth}
 use Rattle.item_spec.specs.Ranged.{atMost, lineRecord, isRetired, senseRecord, diskRecord}
-use Rattle.item_spec.specs.Many.{countedRecord, manyAt, manyRecord, writeTo, single, ManyInRange, ManyInWidth}
+use Rattle.item_spec.specs.Many.{countedRecord, manyAt, manyRecord, placeOf, writeTo, single, ManyInRange, ManyInWidth}
 use Rattle.item_spec.specs.Kinds.{isKind, decodedOf}
 use Rattle.item_spec.specs.declared.Item.{Item}
 use Rattle.item_spec.specs.declared.Item.the-variants.{ReadVia, ReadIwm, WriteVia, WriteIwm}
@@ -69,11 +69,14 @@ module _ (P : Item → Type 0) (Q : Many → Type 0) where
           let k : getD s 8 0 ≡ 0 → ⊥ = eqb-false _ _ p in
           q (omega arith) (omega arith)
 
-  good-many : (s : List ℕ) → ((b : Bool) (n : ℕ) → n < 16 → 10 ≤ length s → length s ≤ 73 → Q (manyAt s b n)) → Good P Q (manyRecord s)
+  good-many : (s : List ℕ) → ((b : Bool) (n : ℕ) → foundOf (le32Of s 4) ≡ placeOf b n → n < 16 → 10 ≤ length s → length s ≤ 73 → Q (manyAt s b n)) → Good P Q (manyRecord s)
   unfolding manyRecord
-  good-many s q =
-      good-cond (ltb (length s) 9) _ _ tt
-      (good-placed (le32Of s 4) _ _ (λ r h. good-counted s (manyAt s false r) (q false r h)) (λ k h. good-counted s (manyAt s true k) (q true k h)))
+  good-many s q = good-cond (ltb (length s) 9) _ _ tt (go (foundOf (le32Of s 4)) refl)
+    where
+      go : (x : Found) → foundOf (le32Of s 4) ≡ x → Good P Q (atAddress x (λ r. countedRecord s (manyAt s false r)) (λ k. countedRecord s (manyAt s true k)))
+      go (Via r) e = good-counted s (manyAt s false r) (q false r e (found-via (le32Of s 4) r e .0))
+      go (Iwm k) e = good-counted s (manyAt s true k) (q true k e (found-iwm (le32Of s 4) k e .0))
+      go Nowhere e = tt
 
   -- the table of kinds, once for every P and Q
   good-all : (s : List ℕ) → Good P Q (readRecord s) → Good P Q (writeRecord s) → ((k : Plain) → Good P Q (plainRecord s k)) → Good P Q (lineRecord s) → Good P Q (senseRecord s) → Good P Q (powerRecord s)
@@ -108,7 +111,7 @@ in-range s =
     (good-sized ItemInRange (ManyInRange s) s 8 _ tt)
     (good-sized ItemInRange (ManyInRange s) s 8 _
     (good-upTo ItemInRange (ManyInRange s) (getD s 4 0) 1 _ (λ a. good-upTo ItemInRange (ManyInRange s) (getD s 5 0) 1 _ (λ b. good-upTo ItemInRange (ManyInRange s) (getD s 6 0) 1 _ (λ c. good-upTo ItemInRange (ManyInRange s) (getD s 7 0) 1 _ (λ d. (omega arith, omega arith, omega arith, omega arith)))))))
-    (good-many ItemInRange (ManyInRange s) s (λ b n h l u. (h, l, u)))
+    (good-many ItemInRange (ManyInRange s) s (λ b n e h l u. record { wait = refl; found = e; number = h; least = l; most = u }))
 
 -- every item that the decoder lets through is in range
 pub decoded-range : (s : List ℕ) (x : Item) → decodedOf s ≡ Done x → ItemInRange x
@@ -136,7 +139,7 @@ in-width s bs =
     (good-sized ItemInWidth ManyInWidth s 8 _ (w, le32-width s 4 bs))
     (good-sized ItemInWidth ManyInWidth s 8 _
     (good-upTo ItemInWidth ManyInWidth (getD s 4 0) 1 _ (λ a. good-upTo ItemInWidth ManyInWidth (getD s 5 0) 1 _ (λ b. good-upTo ItemInWidth ManyInWidth (getD s 6 0) 1 _ (λ c. good-upTo ItemInWidth ManyInWidth (getD s 7 0) 1 _ (λ d. w))))))
-    (good-many ItemInWidth ManyInWidth s (λ b n h l u. w))
+    (good-many ItemInWidth ManyInWidth s (λ b n e h l u. w))
 
 -- of a record of bytes, the item's wait, value and seconds are within their widths
 pub decoded-width : (s : List ℕ) (x : Item) → Bytes s → decodedOf s ≡ Done x → ItemInWidth x

@@ -1,5 +1,6 @@
 -- Many writes in one item: request W-211.
 use Prim.Native.Nat.{ℕ, _+_, _≤_, _<_}
+use mathlib.Core.Path.{_≡_}
 use mathlib.Core.Bool.{Bool, true, false, cond}
 use mathlib.Core.List.{List, [], _∷_}
 use lib.ListN.{length, getD, drop}
@@ -7,6 +8,8 @@ use lib.Dec.{ltb, eqb}
 use Rattle.octets.specs.Octets.{le32Of}
 use Rattle.item_spec.specs.Addresses.{foundOf}
 use Rattle.item_spec.specs.Items.{ofLength, atAddress, recordWait}
+use Rattle.item_spec.specs.declared.Found.{Found}
+use Rattle.item_spec.specs.declared.Found.the-variants.{Via, Iwm}
 use Rattle.item_spec.specs.declared.Item.{Item}
 use Rattle.item_spec.specs.declared.Item.the-variants.{WriteVia, WriteIwm}
 use Rattle.item_spec.specs.declared.Many.{Many}
@@ -54,9 +57,29 @@ singlesAfter x w (v ∷ vs) = single x w v ∷ singlesAfter x 0 vs
 abbrev pub singlesOf : Many → List ℕ → List Item
 singlesOf x s = singlesAfter x (x .wait) (valuesOf s)
 
--- Its place is one of the sixteen, and its record s has 1 to 64 values.
-abbrev pub ManyInRange : List ℕ → Many → Type 0
-ManyInRange s x = (x .number < 16) × (10 ≤ length s) × (length s ≤ 73)
+-- A single WR record, as its bytes after the length: the MW record's own address, a wait of two bytes, a value. W is 87, R 82.
+abbrev pub singleBytes : List ℕ → ℕ → ℕ → ℕ → List ℕ
+singleBytes s a b v = 87 ∷ 82 ∷ a ∷ b ∷ getD s 4 0 ∷ getD s 5 0 ∷ getD s 6 0 ∷ getD s 7 0 ∷ v ∷ []
+
+abbrev pub singleRecordsAfter : List ℕ → ℕ → ℕ → List ℕ → List (List ℕ)
+singleRecordsAfter s a b [] = []
+singleRecordsAfter s a b (v ∷ vs) = singleBytes s a b v ∷ singleRecordsAfter s 0 0 vs
+
+-- The single WR records of an MW record s, the first first, which has its wait; the others wait no tick.
+abbrev pub singleRecords : List ℕ → List (List ℕ)
+singleRecords s = singleRecordsAfter s (getD s 2 0) (getD s 3 0) (valuesOf s)
+
+-- What an MW has of its record s: the wait, and the address, which is one of the 32; and s has 1 to 64 values.
+abbrev pub placeOf : Bool → ℕ → Found
+placeOf false n = Via n
+placeOf true n = Iwm n
+
+pub record ManyInRange (s : List ℕ) (x : Many) : Type 0 where
+  pub wait : x .wait ≡ recordWait s
+  pub found : foundOf (le32Of s 4) ≡ placeOf (x .iwm) (x .number)
+  pub number : x .number < 16
+  pub least : 10 ≤ length s
+  pub most : length s ≤ 73
 
 -- Its wait is within two bytes.
 abbrev pub ManyInWidth : Many → Type 0
