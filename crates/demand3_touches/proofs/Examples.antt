@@ -26,6 +26,7 @@ use Rattle.item_spec.specs.Record.{frameOf}
 use Rattle.item_spec.specs.Addresses.{placeFrom, foundOf}
 use Rattle.item_spec.specs.Items.{readRecord, writeRecord, plainRecord, powerRecord}
 use Rattle.item_spec.specs.Ranged.{lineRecord}
+use Rattle.item_spec.specs.Many.{countedRecord, manyRecord}
 use Rattle.item_spec.specs.Kinds.{isKind, decodedOf}
 use Rattle.machine_spec.specs.Pins.{wiresOf}
 use Rattle.machine_spec.specs.Machine.{acceptedOf, freshMachine}
@@ -37,8 +38,8 @@ use Rattle.run_spec.specs.Turn.{turnOf}
 use Rattle.run_spec.specs.Outcome.{cut, piecesFrom, onto, onPiece, runPieces, runOf}
 use Rattle.history.specs.Items.{stateAfter}
 use Rattle.demand3.specs.Runs.{answeredAfter}
-use Rattle.samples.specs.Lists.{rd, wr, access, rs, se, begin, select, sent, byte}
-use Rattle.demand3_touches.specs.Touches.{Touch, portB, directionB, reset, tick, powerCut, touchesOf, touchesOfPieces, touches}
+use Rattle.samples.specs.Lists.{rd, wr, access, location, mwTo, mw, rs, se, begin, select, sent, byte}
+use Rattle.demand3_touches.specs.Touches.{Touch, portB, directionB, reset, tick, powerCut, touchesOf, touchesOfItems, touchesOfPieces, touches}
 
 -- ---- lists
 
@@ -102,14 +103,17 @@ pub record Examples (k : Chip) : Type 0 where
   pub waits : sequence k (wr 3 2 4 ++ wr 1 0 6 ++ rsAfter 2 ++ seAfter 3 ++ power 1 5) ≡ powerCut 5 ∷ tick ∷ reset ∷ portB 6 ∷ directionB 4 ∷ []
   -- Reads, VB, IN, accesses of the IWM, writes to other registers and refused records leave it as it is.
   pub others : sequence k (rd 3 0 ++ blank 2 ++ seAfter 1 ++ line ++ access 1 3 ++ wr 2 1 7 ++ wr 2 3 7 ++ unknown ++ wr 3 0 3) ≡ portB 3 ∷ tick ∷ []
+  -- W-211: an MW counts as its single writes, to registers 0 and 2 and to no other.
+  pub many : sequence k (mw 3 2 (4 ∷ 7 ∷ []) ++ mw 1 3 (9 ∷ 8 ∷ []) ++ mwTo 0 (location 9) (1 ∷ []) ++ mw 0 0 (6 ∷ 2 ∷ 6 ∷ [])) ≡ portB 6 ∷ portB 2 ∷ portB 6 ∷ directionB 7 ∷ directionB 4 ∷ []
+  pub single : sequence k (wr 0 2 4 ++ wr 3 2 7 ++ wr 0 0 6 ++ wr 0 0 2 ++ wr 0 0 6) ≡ portB 6 ∷ portB 2 ∷ portB 6 ∷ directionB 7 ∷ directionB 4 ∷ []
   -- No room for the second answer: the second item is not carried out.
   pub noRoom : touches (freshMachine k) (se ++ se) 15 ≡ tick ∷ []
 
 pub examples : (k : Chip) → Examples k
 unfolding allBelow le16Of le32Of replace freshVia latchOf tickOf ticks raisedOf resetOf acceptedVia registerRead viaWritten portsWritten meant secondMeant unusedClear fetch put act
     between hear shownLevel acceptedPhase next acts stepWires linesOff afterAccess acceptedDrive acceptedStrobe acceptedDrives frameOf placeFrom foundOf readRecord writeRecord
-    plainRecord powerRecord lineRecord isKind decodedOf wiresOf acceptedOf viaRead iwmRead actedOf itemWait refusesOf stepOf turnOf cut piecesFrom onto onPiece runPieces runOf
-    stateAfter answeredAfter sent touchesOf touchesOfPieces
+    plainRecord powerRecord lineRecord countedRecord manyRecord isKind decodedOf wiresOf acceptedOf viaRead iwmRead actedOf itemWait refusesOf stepOf turnOf cut piecesFrom onto onPiece runPieces runOf
+    stateAfter answeredAfter sent touchesOf touchesOfItems touchesOfPieces
 examples First =
     record {
       ofPortB = (refl, refl, refl);
@@ -120,6 +124,8 @@ examples First =
       allFive = refl;
       waits = refl;
       others = refl;
+      many = refl;
+      single = refl;
       noRoom = refl;
     }
 examples Later =
@@ -132,5 +138,7 @@ examples Later =
       allFive = refl;
       waits = refl;
       others = refl;
+      many = refl;
+      single = refl;
       noRoom = refl;
     }

@@ -8,12 +8,13 @@ use item_spec::Found;
 use item_spec::Item;
 use item_spec::Plain;
 
-// The refusal's number; 0 of an item.
+// The refusal's number; 0 of an item and of many writes.
 pub fn refusal(d: Decoded) -> u8
     ensures { λ r. ⌜ r ≡ refusalOf d ⌝ }
 {
     match d {
         Decoded::Done(_) => 0,
+        Decoded::Many(_) => 0,
         Decoded::Refused(n) => n,
     }
 }

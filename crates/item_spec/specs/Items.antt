@@ -16,9 +16,10 @@ use Rattle.item_spec.specs.Addresses.{foundOf}
 use Rattle.item_spec.specs.declared.Found.{Found}
 use Rattle.item_spec.specs.declared.Found.the-variants.{Via, Iwm, Nowhere}
 
--- "For an answer that is an enum, a definition gives this paper's number": the refusal's number, 0 of an item.
+-- "For an answer that is an enum, a definition gives this paper's number": the refusal's number, 0 of an item and of many writes.
 abbrev pub refusalOf : Decoded → ℕ
 refusalOf (Done x) = 0
+refusalOf (Decoded.Many x) = 0
 refusalOf (Refused n) = n
 
 -- Refusal 3, "length wrong for the kind".
@@ -26,9 +27,9 @@ abbrev pub ofLength : List ℕ → ℕ → Decoded → Decoded
 ofLength s n x = cond (eqb (length s) n) x (Refused 3)
 
 -- Refusal 4, "address is none of the 32".
-abbrev pub atAddress : Found → (ℕ → Item) → (ℕ → Item) → Decoded
-atAddress (Via r) f g = Done (f r)
-atAddress (Iwm k) f g = Done (g k)
+abbrev pub atAddress : Found → (ℕ → Decoded) → (ℕ → Decoded) → Decoded
+atAddress (Via r) f g = f r
+atAddress (Iwm k) f g = g k
 atAddress Nowhere f g = Refused 4
 
 -- "Every item's body begins with a wait in VIA ticks (2 bytes)."
@@ -37,12 +38,12 @@ recordWait s = forTicks (le16Of s 2)
 
 -- RD, 8: "address (4): read".
 unfoldable pub readRecord : List ℕ → Decoded
-readRecord s = ofLength s 8 (atAddress (foundOf (le32Of s 4)) (λ r. ReadVia (recordWait s) r) (λ k. ReadIwm (recordWait s) k))
+readRecord s = ofLength s 8 (atAddress (foundOf (le32Of s 4)) (λ r. Done (ReadVia (recordWait s) r)) (λ k. Done (ReadIwm (recordWait s) k)))
 
 -- WR, 9: "address (4), value (1)".
 unfoldable pub writeRecord : List ℕ → Decoded
 writeRecord s =
-    ofLength s 9 (atAddress (foundOf (le32Of s 4)) (λ r. WriteVia (recordWait s) r (getD s 8 0)) (λ k. WriteIwm (recordWait s) k (getD s 8 0)))
+    ofLength s 9 (atAddress (foundOf (le32Of s 4)) (λ r. Done (WriteVia (recordWait s) r (getD s 8 0))) (λ k. Done (WriteIwm (recordWait s) k (getD s 8 0))))
 
 -- PW, 8: "power cut: seconds off (4)".
 unfoldable pub powerRecord : List ℕ → Decoded

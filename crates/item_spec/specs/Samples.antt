@@ -1,14 +1,17 @@
 -- Records and answers in samples: each kind with bytes that differ, each number of a refusal at the edges of its range. A record's bytes come after its length.
-use Prim.Native.Nat.{ℕ}
+use Prim.Native.Nat.{ℕ, zero, suc}
 use mathlib.Core.Path.{_≡_}
-use mathlib.Core.Bool.{true}
+use mathlib.Core.Bool.{true, false}
 use mathlib.Core.List.{List, [], _∷_}
 use Rattle.units.specs.Units.{forTicks}
 use Rattle.item_spec.specs.Record.{frameOf, answerBytes, noOf}
 use Rattle.item_spec.specs.Items.{refusalOf}
+use Rattle.item_spec.specs.Many.{singlesOf}
 use Rattle.item_spec.specs.Kinds.{decodedOf}
 use Rattle.item_spec.specs.declared.Item.{Item}
 use Rattle.item_spec.specs.declared.Item.the-variants.{ReadVia, ReadIwm, WriteVia, WriteIwm, Line, Sense, Power, Disk}
+use Rattle.item_spec.specs.declared.Many.{Many}
+use Rattle.item_spec.specs.declared.Decoded.{Decoded}
 use Rattle.item_spec.specs.declared.Decoded.the-variants.{Done}
 use Rattle.item_spec.specs.declared.Framed.the-variants.{Whole, Cut}
 
@@ -16,6 +19,15 @@ use Rattle.item_spec.specs.declared.Framed.the-variants.{Whole, Cut}
 abbrev pub numbers : List (List ℕ) → List ℕ
 numbers [] = []
 numbers (s ∷ ss) = refusalOf (decodedOf s) ∷ numbers ss
+
+-- So many bytes $A7.
+abbrev pub values : ℕ → List ℕ
+values zero = []
+values (suc n) = 0xa7 ∷ values n
+
+-- MW after 513 VIA ticks to VIA register 9 ($EFF3FE), with this count and so many values.
+abbrev pub manyBytes : ℕ → ℕ → List ℕ
+manyBytes count n = 0x4d ∷ 0x57 ∷ 1 ∷ 2 ∷ 0xfe ∷ 0xf3 ∷ 0xef ∷ 0 ∷ count ∷ values n
 
 pub record Samples : Type 0 where
   -- S2 and S4: RD $EFE1FE, WR $81 to $EFFDFE
@@ -40,6 +52,14 @@ pub record Samples : Type 0 where
   -- DI: drive, insert, locked, double-sided
   pub insert : decodedOf (0x44 ∷ 0x49 ∷ 1 ∷ 2 ∷ 0 ∷ 1 ∷ 1 ∷ 0 ∷ []) ≡ Done (Disk (forTicks 513) 0 1 1 0)
   pub remove : decodedOf (0x44 ∷ 0x49 ∷ 1 ∷ 2 ∷ 1 ∷ 0 ∷ 0 ∷ 1 ∷ []) ≡ Done (Disk (forTicks 513) 1 0 0 1)
+  -- MW: address, count, values; to VIA register 9 and to IWM location 6
+  pub manyVia : decodedOf (0x4d ∷ 0x57 ∷ 1 ∷ 2 ∷ 0xfe ∷ 0xf3 ∷ 0xef ∷ 0 ∷ 2 ∷ 0xa7 ∷ 0x5c ∷ []) ≡ Decoded.Many (record { wait = forTicks 513; iwm = false; number = 9 })
+  pub manyIwm : decodedOf (0x4d ∷ 0x57 ∷ 1 ∷ 2 ∷ 0xff ∷ 0xed ∷ 0xdf ∷ 0 ∷ 1 ∷ 0xa7 ∷ []) ≡ Decoded.Many (record { wait = forTicks 513; iwm = true; number = 6 })
+  -- its single WR items: the first after the wait, the others with none
+  pub singlesVia : singlesOf (record { wait = forTicks 513; iwm = false; number = 9 }) (0x4d ∷ 0x57 ∷ 1 ∷ 2 ∷ 0xfe ∷ 0xf3 ∷ 0xef ∷ 0 ∷ 3 ∷ 0xa7 ∷ 0x5c ∷ 0x31 ∷ [])
+      ≡ WriteVia (forTicks 513) 9 0xa7 ∷ WriteVia (forTicks 0) 9 0x5c ∷ WriteVia (forTicks 0) 9 0x31 ∷ []
+  pub singlesIwm : singlesOf (record { wait = forTicks 513; iwm = true; number = 6 }) (0x4d ∷ 0x57 ∷ 1 ∷ 2 ∷ 0xff ∷ 0xed ∷ 0xdf ∷ 0 ∷ 2 ∷ 0xa7 ∷ 0x5c ∷ [])
+      ≡ WriteIwm (forTicks 513) 6 0xa7 ∷ WriteIwm (forTicks 0) 6 0x5c ∷ []
   -- ---- refusals
   -- 2: "ZZ", "rd", "RE", "WD", "BV", "ST", whatever their length
   pub kinds : numbers ((0x5a ∷ 0x5a ∷ 1 ∷ []) ∷ (0x72 ∷ 0x64 ∷ 0 ∷ 0 ∷ 0xfe ∷ 0xe1 ∷ 0xef ∷ 0 ∷ []) ∷ (0x52 ∷ 0x45 ∷ 0 ∷ 0 ∷ []) ∷ (0x57 ∷ 0x44 ∷ 0 ∷ 0 ∷ []) ∷ (0x42 ∷ 0x56 ∷ 0 ∷ 0 ∷ []) ∷ (0x53 ∷ 0x54 ∷ 0 ∷ 0 ∷ []) ∷ [])
@@ -67,6 +87,15 @@ pub record Samples : Type 0 where
   -- DI with 2 at each place, in a removal too
   pub diskRange : numbers ((0x44 ∷ 0x49 ∷ 0 ∷ 0 ∷ 1 ∷ 1 ∷ 1 ∷ 1 ∷ []) ∷ (0x44 ∷ 0x49 ∷ 0 ∷ 0 ∷ 2 ∷ 0 ∷ 0 ∷ 0 ∷ []) ∷ (0x44 ∷ 0x49 ∷ 0 ∷ 0 ∷ 0 ∷ 2 ∷ 0 ∷ 0 ∷ []) ∷ (0x44 ∷ 0x49 ∷ 0 ∷ 0 ∷ 0 ∷ 0 ∷ 2 ∷ 0 ∷ []) ∷ (0x44 ∷ 0x49 ∷ 0 ∷ 0 ∷ 0 ∷ 0 ∷ 0 ∷ 2 ∷ []) ∷ [])
       ≡ 0 ∷ 5 ∷ 5 ∷ 5 ∷ 5 ∷ []
+  -- ---- W-211's own order: 3, 4, 5, 3
+  -- length 2 and 8: 3 before 4; length 9 and 10 at $EFE1FF with count 0: 4 before 5
+  pub manyShort : numbers ((0x4d ∷ 0x57 ∷ []) ∷ (0x4d ∷ 0x57 ∷ 0 ∷ 0 ∷ 0xff ∷ 0xe1 ∷ 0xef ∷ 0 ∷ []) ∷ (0x4d ∷ 0x57 ∷ 0 ∷ 0 ∷ 0xff ∷ 0xe1 ∷ 0xef ∷ 0 ∷ 0 ∷ []) ∷ (0x4d ∷ 0x57 ∷ 0 ∷ 0 ∷ 0xff ∷ 0xe1 ∷ 0xef ∷ 0 ∷ 0 ∷ 1 ∷ []) ∷ [])
+      ≡ 3 ∷ 3 ∷ 4 ∷ 4 ∷ []
+  -- counts 0, 65 and 255 are 5, with the right length and with a wrong one; 1 and 64 are taken
+  pub manyCount : numbers (manyBytes 0 0 ∷ manyBytes 0 3 ∷ manyBytes 65 65 ∷ manyBytes 65 64 ∷ manyBytes 255 0 ∷ manyBytes 1 1 ∷ manyBytes 64 64 ∷ [])
+      ≡ 5 ∷ 5 ∷ 5 ∷ 5 ∷ 5 ∷ 0 ∷ 0 ∷ []
+  -- a value too many or too few is 3
+  pub manyLength : numbers (manyBytes 2 3 ∷ manyBytes 2 1 ∷ manyBytes 64 65 ∷ manyBytes 64 63 ∷ manyBytes 1 0 ∷ []) ≡ 3 ∷ 3 ∷ 3 ∷ 3 ∷ 3 ∷ []
   -- ---- framed, and answers
   -- The length counts what follows it, low byte first, and is 2 or more.
   pub whole : frameOf (3 ∷ 0 ∷ 1 ∷ 2 ∷ 3 ∷ 4 ∷ []) ≡ Whole 5

@@ -98,9 +98,20 @@ pub enum Item {
     },
 }
 
-// A record read whole: its item, or the number of its refusal.
+// MW: many writes to one address, each value a WR of its own. The values stay in the record, from byte 9 after its length on.
+pub struct Many {
+    // Before the first value, in VIA ticks.
+    pub wait: WaitTicks,
+    // Whether the address is that of an IWM location, else that of a VIA register.
+    pub iwm: bool,
+    // Which of the sixteen.
+    pub number: u8,
+}
+
+// A record read whole: its item, its many writes, or the number of its refusal.
 pub enum Decoded {
     Done(Item),
+    Many(Many),
     Refused(u8),
 }
 

@@ -32,8 +32,9 @@ pub refused-unchanged : (m : Machine) (s : List ℕ) → turnOf m s .answer .ok 
 unfolding turnOf answerOf
 refused-unchanged m s h = go (decodedOf s) h
   where
-    go : (d : Decoded) → turnBy m d .answer .ok ≡ false → turnBy m d .machine ≡ m
+    go : (d : Decoded) → turnBy m s d .answer .ok ≡ false → turnBy m s d .machine ≡ m
     go (Refused n) h = refl
+    go (Decoded.Many x) h = absurd (true≢false h)
     go (Done x) h = judge (eqb (refusesOf m x) 0) h
       where
         judge : (t : Bool) → (cond t (doneTurn (stepOf m x)) (refusedTurn m (refusesOf m x))) .answer .ok ≡ false

@@ -1,4 +1,5 @@
 pub mod Proved
+pub mod Many
 pub mod Registers
 pub mod Wiring
 pub mod Senses

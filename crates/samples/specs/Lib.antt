@@ -1,6 +1,7 @@
 pub mod Lists
 pub mod Samples
 pub mod Drives
+pub mod Many
 pub mod Steps
 pub mod Registers
 pub mod Wiring
