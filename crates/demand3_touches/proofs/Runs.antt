@@ -4,6 +4,7 @@ use mathlib.Core.Path.{_≡_, refl, sym, ap, ap₂, _∙_}
 use mathlib.Core.Bool.{Bool, true, false, cond}
 use mathlib.Core.List.{List, [], _∷_, _++_}
 use lib.Dec.{eqb}
+use Rattle.units.specs.declared.WaitTicks.{WaitTicks}
 use Rattle.units.specs.Units.{forTicks}
 use Rattle.clock_spec.specs.declared.Chip.{Chip}
 use Rattle.clock.specs.declared.Clock.{Clock}
@@ -33,7 +34,7 @@ use Rattle.demand3_touches.proofs.Seen.{Seen, seenOf, afterTouches, aft
 -- ---- one piece of the list
 
 -- An MW, by its single WR items.
-many-touches : (x : Many) → x .number < 16 → (vs : List ℕ) (m : Machine) (w : ℕ) → acceptedOf m ≡ true
+many-touches : (x : Many) → x .number < 16 → (vs : List ℕ) (m : Machine) (w : WaitTicks) → acceptedOf m ≡ true
     → seenOf (afterItems m (singlesAfter x w vs)) ≡ afterTouches (touchesOfItems (singlesAfter x w vs)) (seenOf m)
 unfolding touchesOfItems afterTouches
 many-touches x h [] m w a = refl
@@ -41,7 +42,7 @@ many-touches x h (v ∷ vs) m w a =
     let i : Item = single x w v in
     let n : Machine = stepOf m i .machine in
     let rest : List Touch = touchesOfItems (singlesAfter x (forTicks 0) vs) in
-    many-touches x h vs n 0 (step-keeps m i (single-range x h w v) a)
+    many-touches x h vs n (forTicks 0) (step-keeps m i (single-range x h w v) a)
     ∙ ap (afterTouches rest) (done m i (parts m a .phase))
     ∙ sym (after-append rest (touchesOf i) (seenOf m))
 

@@ -150,14 +150,14 @@ pub many-width : (s : List ℕ) (x : Many) → Bytes s → decodedOf s ≡ Decod
 many-width s x bs e = subst (Good ItemInWidth ManyInWidth) e (in-width s bs)
 
 -- each single WR of an MW is in range and in width where the MW is
-pub single-range : (x : Many) → x .number < 16 → (w v : ℕ) → ItemInRange (single x w v)
+pub single-range : (x : Many) → x .number < 16 → (w : WaitTicks) (v : ℕ) → ItemInRange (single x w v)
 single-range x h w v = go (x .iwm)
   where
     go : (b : Bool) → ItemInRange (writeTo b (x .number) w v)
     go true = h
     go false = h
 
-pub single-width : (x : Many) (w v : ℕ) → w < 65536 → v < 256 → ItemInWidth (single x w v)
+pub single-width : (x : Many) (w : WaitTicks) (v : ℕ) → w .0 < 65536 → v < 256 → ItemInWidth (single x w v)
 single-width x w v h k = go (x .iwm)
   where
     go : (b : Bool) → ItemInWidth (writeTo b (x .number) w v)
