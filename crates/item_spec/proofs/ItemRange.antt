@@ -11,7 +11,7 @@ use Rattle.octets.specs.Octets.{le32Of, Bytes}
 use Rattle.octets.proofs.Laws.{le16-width, le32-width}
 use Rattle.item_spec.specs.Addresses.{foundOf}
 use Rattle.item_spec.specs.Items.{ofLength, atAddress, recordWait, readRecord, writeRecord, powerRecord, plainItem, plainRecord, ItemInRange, ItemInWidth}
-use Rattle.item_spec.specs.Ranged.{atMost, lineRecord, isRetired, senseRecord, diskRecord}
+use Rattle.item_spec.specs.Ranged.{atMost, lineRecord, isRetired, senseRecord, diskRecord, pulseRecord}
 use Rattle.item_spec.specs.Kinds.{isKind, decodedOf}
 use Rattle.item_spec.specs.declared.Item.{Item}
 use Rattle.item_spec.specs.declared.Item.the-variants.{ReadVia, ReadIwm, WriteVia, WriteIwm}
@@ -52,9 +52,9 @@ module _ (P : Item → Type 0) where
 
   -- the table of kinds, once for every P
   good-all : (s : List ℕ) → Good P (readRecord s) → Good P (writeRecord s) → ((k : Plain) → Good P (plainRecord s k)) → Good P (lineRecord s) → Good P (senseRecord s) → Good P (powerRecord s)
-      → Good P (diskRecord s) → Good P (decodedOf s)
+      → Good P (diskRecord s) → Good P (pulseRecord s) → Good P (decodedOf s)
   unfolding decodedOf
-  good-all s rd wr plain line sn pw di =
+  good-all s rd wr plain line sn pw di kc =
       good-cond (isKind s (82 ∷ 68 ∷ [])) _ _ rd
       (good-cond (isKind s (87 ∷ 82 ∷ [])) _ _ wr
       (good-cond (isKind s (86 ∷ 66 ∷ [])) _ _ (plain Plain.Blank)
@@ -63,7 +63,8 @@ module _ (P : Item → Type 0) where
       (good-cond (isKind s (83 ∷ 78 ∷ [])) _ _ sn
       (good-cond (isKind s (82 ∷ 83 ∷ [])) _ _ (plain Plain.Reset)
       (good-cond (isKind s (80 ∷ 87 ∷ [])) _ _ pw
-      (good-cond (isKind s (68 ∷ 73 ∷ [])) _ _ di tt))))))))
+      (good-cond (isKind s (68 ∷ 73 ∷ [])) _ _ di
+      (good-cond (isKind s (75 ∷ 67 ∷ [])) _ _ kc tt)))))))))
 
 plain-range : (k : Plain) (w : ℕ) → ItemInRange (plainItem k w)
 plain-range Plain.Blank w = tt
@@ -71,7 +72,7 @@ plain-range Plain.Second w = tt
 plain-range Plain.Reset w = tt
 
 in-range : (s : List ℕ) → Good ItemInRange (decodedOf s)
-unfolding readRecord writeRecord lineRecord senseRecord powerRecord diskRecord plainRecord
+unfolding readRecord writeRecord lineRecord senseRecord powerRecord diskRecord pulseRecord plainRecord
 in-range s =
     good-all ItemInRange s
     (good-sized ItemInRange s 8 _ (good-placed ItemInRange (le32Of s 4) (λ r. ReadVia (recordWait s) r) (λ k. ReadIwm (recordWait s) k) (λ r h. h) (λ k h. h)))
@@ -82,6 +83,7 @@ in-range s =
     (good-sized ItemInRange s 8 _ tt)
     (good-sized ItemInRange s 8 _
     (good-upTo ItemInRange (getD s 4 0) 1 _ (λ a. good-upTo ItemInRange (getD s 5 0) 1 _ (λ b. good-upTo ItemInRange (getD s 6 0) 1 _ (λ c. good-upTo ItemInRange (getD s 7 0) 1 _ (λ d. (omega arith, omega arith, omega arith, omega arith)))))))
+    (good-sized ItemInRange s 5 _ (good-upTo ItemInRange (getD s 4 0) 1 _ (λ a. omega arith)))
 
 -- every item that the decoder lets through is in range
 pub decoded-range : (s : List ℕ) (x : Item) → decodedOf s ≡ Done x → ItemInRange x
@@ -93,7 +95,7 @@ plain-width Plain.Second w h = h
 plain-width Plain.Reset w h = h
 
 in-width : (s : List ℕ) → Bytes s → Good ItemInWidth (decodedOf s)
-unfolding readRecord writeRecord lineRecord senseRecord powerRecord diskRecord plainRecord
+unfolding readRecord writeRecord lineRecord senseRecord powerRecord diskRecord pulseRecord plainRecord
 in-width s bs =
     let w : recordWait s < 65536 = le16-width s 2 bs in
     good-all ItemInWidth s
@@ -105,6 +107,7 @@ in-width s bs =
     (good-sized ItemInWidth s 8 _ (w, le32-width s 4 bs))
     (good-sized ItemInWidth s 8 _
     (good-upTo ItemInWidth (getD s 4 0) 1 _ (λ a. good-upTo ItemInWidth (getD s 5 0) 1 _ (λ b. good-upTo ItemInWidth (getD s 6 0) 1 _ (λ c. good-upTo ItemInWidth (getD s 7 0) 1 _ (λ d. w))))))
+    (good-sized ItemInWidth s 5 _ (good-upTo ItemInWidth (getD s 4 0) 1 _ (λ a. w)))
 
 -- of a record of bytes, the item's wait, value and seconds are within their widths
 pub decoded-width : (s : List ℕ) (x : Item) → Bytes s → decodedOf s ≡ Done x → ItemInWidth x

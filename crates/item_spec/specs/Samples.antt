@@ -7,7 +7,7 @@ use Rattle.item_spec.specs.Record.{frameOf, answerBytes, noOf}
 use Rattle.item_spec.specs.Items.{refusalOf}
 use Rattle.item_spec.specs.Kinds.{decodedOf}
 use Rattle.item_spec.specs.declared.Item.{Item}
-use Rattle.item_spec.specs.declared.Item.the-variants.{ReadVia, ReadIwm, WriteVia, WriteIwm, Line, Sense, Power, Disk}
+use Rattle.item_spec.specs.declared.Item.the-variants.{ReadVia, ReadIwm, WriteVia, WriteIwm, Line, Sense, Power, Disk, Pulse}
 use Rattle.item_spec.specs.declared.Decoded.the-variants.{Done}
 use Rattle.item_spec.specs.declared.Framed.the-variants.{Whole, Cut}
 
@@ -39,6 +39,8 @@ pub record Samples : Type 0 where
   -- DI: drive, insert, locked, double-sided
   pub insert : decodedOf (0x44 ∷ 0x49 ∷ 1 ∷ 2 ∷ 0 ∷ 1 ∷ 1 ∷ 0 ∷ []) ≡ Done (Disk 513 0 1 1 0)
   pub remove : decodedOf (0x44 ∷ 0x49 ∷ 1 ∷ 2 ∷ 1 ∷ 0 ∷ 0 ∷ 1 ∷ []) ≡ Done (Disk 513 1 0 0 1)
+  -- KC: level
+  pub pulse : decodedOf (0x4b ∷ 0x43 ∷ 1 ∷ 2 ∷ 1 ∷ []) ≡ Done (Pulse 513 1)
   -- ---- refusals
   -- 2: "ZZ", "rd", "RE", "WD", "BV", "ST", whatever their length
   pub kinds : numbers ((0x5a ∷ 0x5a ∷ 1 ∷ []) ∷ (0x72 ∷ 0x64 ∷ 0 ∷ 0 ∷ 0xfe ∷ 0xe1 ∷ 0xef ∷ 0 ∷ []) ∷ (0x52 ∷ 0x45 ∷ 0 ∷ 0 ∷ []) ∷ (0x57 ∷ 0x44 ∷ 0 ∷ 0 ∷ []) ∷ (0x42 ∷ 0x56 ∷ 0 ∷ 0 ∷ []) ∷ (0x53 ∷ 0x54 ∷ 0 ∷ 0 ∷ []) ∷ [])
@@ -53,6 +55,7 @@ pub record Samples : Type 0 where
   pub senses : numbers ((0x53 ∷ 0x4e ∷ 0 ∷ 0 ∷ 2 ∷ 0 ∷ []) ∷ (0x53 ∷ 0x4e ∷ 0 ∷ 0 ∷ 2 ∷ 0 ∷ 0 ∷ 0 ∷ []) ∷ []) ≡ 3 ∷ 3 ∷ []
   pub powers : numbers ((0x50 ∷ 0x57 ∷ 0 ∷ 0 ∷ 0 ∷ 0 ∷ 0 ∷ []) ∷ (0x50 ∷ 0x57 ∷ 0 ∷ 0 ∷ 0 ∷ 0 ∷ 0 ∷ 0 ∷ 0 ∷ []) ∷ []) ≡ 3 ∷ 3 ∷ []
   pub disks : numbers ((0x44 ∷ 0x49 ∷ 0 ∷ 0 ∷ 2 ∷ 0 ∷ 0 ∷ []) ∷ (0x44 ∷ 0x49 ∷ 0 ∷ 0 ∷ 2 ∷ 0 ∷ 0 ∷ 0 ∷ 0 ∷ []) ∷ []) ≡ 3 ∷ 3 ∷ []
+  pub pulses : numbers ((0x4b ∷ 0x43 ∷ 0 ∷ 0 ∷ []) ∷ (0x4b ∷ 0x43 ∷ 0 ∷ 0 ∷ 2 ∷ 0 ∷ []) ∷ []) ≡ 3 ∷ 3 ∷ []
   -- 4: $EFE1FD, $EFE1FF, $EFDFFE, $F001FE, $01EFE1FE, and $DFE1FE, $DFDFFF, $E001FF
   pub addresses : numbers ((0x52 ∷ 0x44 ∷ 0 ∷ 0 ∷ 0xfd ∷ 0xe1 ∷ 0xef ∷ 0 ∷ []) ∷ (0x52 ∷ 0x44 ∷ 0 ∷ 0 ∷ 0xff ∷ 0xe1 ∷ 0xef ∷ 0 ∷ []) ∷ (0x52 ∷ 0x44 ∷ 0 ∷ 0 ∷ 0xfe ∷ 0xdf ∷ 0xef ∷ 0 ∷ []) ∷ (0x52 ∷ 0x44 ∷ 0 ∷ 0 ∷ 0xfe ∷ 0x01 ∷ 0xf0 ∷ 0 ∷ []) ∷ (0x52 ∷ 0x44 ∷ 0 ∷ 0 ∷ 0xfe ∷ 0xe1 ∷ 0xef ∷ 1 ∷ []) ∷ (0x57 ∷ 0x52 ∷ 0 ∷ 0 ∷ 0xfe ∷ 0xe1 ∷ 0xdf ∷ 0 ∷ 0 ∷ []) ∷ (0x57 ∷ 0x52 ∷ 0 ∷ 0 ∷ 0xff ∷ 0xdf ∷ 0xdf ∷ 0 ∷ 0 ∷ []) ∷ (0x57 ∷ 0x52 ∷ 0 ∷ 0 ∷ 0xff ∷ 0x01 ∷ 0xe0 ∷ 0 ∷ 0 ∷ []) ∷ [])
       ≡ 4 ∷ 4 ∷ 4 ∷ 4 ∷ 4 ∷ 4 ∷ 4 ∷ 4 ∷ []
@@ -66,6 +69,8 @@ pub record Samples : Type 0 where
   -- DI with 2 at each place, in a removal too
   pub diskRange : numbers ((0x44 ∷ 0x49 ∷ 0 ∷ 0 ∷ 1 ∷ 1 ∷ 1 ∷ 1 ∷ []) ∷ (0x44 ∷ 0x49 ∷ 0 ∷ 0 ∷ 2 ∷ 0 ∷ 0 ∷ 0 ∷ []) ∷ (0x44 ∷ 0x49 ∷ 0 ∷ 0 ∷ 0 ∷ 2 ∷ 0 ∷ 0 ∷ []) ∷ (0x44 ∷ 0x49 ∷ 0 ∷ 0 ∷ 0 ∷ 0 ∷ 2 ∷ 0 ∷ []) ∷ (0x44 ∷ 0x49 ∷ 0 ∷ 0 ∷ 0 ∷ 0 ∷ 0 ∷ 2 ∷ []) ∷ [])
       ≡ 0 ∷ 5 ∷ 5 ∷ 5 ∷ 5 ∷ []
+  -- KC with levels 0, 1, 2 and 255; "CK" is no kind
+  pub pulseRange : numbers ((0x4b ∷ 0x43 ∷ 0 ∷ 0 ∷ 0 ∷ []) ∷ (0x4b ∷ 0x43 ∷ 0 ∷ 0 ∷ 1 ∷ []) ∷ (0x4b ∷ 0x43 ∷ 0 ∷ 0 ∷ 2 ∷ []) ∷ (0x4b ∷ 0x43 ∷ 0 ∷ 0 ∷ 255 ∷ []) ∷ (0x43 ∷ 0x4b ∷ 0 ∷ 0 ∷ 0 ∷ []) ∷ []) ≡ 0 ∷ 0 ∷ 5 ∷ 5 ∷ 2 ∷ []
   -- ---- framed, and answers
   -- The length counts what follows it, low byte first, and is 2 or more.
   pub whole : frameOf (3 ∷ 0 ∷ 1 ∷ 2 ∷ 3 ∷ 4 ∷ []) ≡ Whole 5

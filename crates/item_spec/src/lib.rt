@@ -95,6 +95,11 @@ pub enum Item {
         locked: u8,
         sides: u8,
     },
+    // KC: one pulse of the keyboard's clock, with the level of its data line.
+    Pulse {
+        wait: u16,
+        level: u8,
+    },
 }
 
 // A record read whole: its item, or the number of its refusal.
