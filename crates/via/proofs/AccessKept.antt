@@ -18,3 +18,7 @@ written-ports r value v = refl
 
 pub pulse-ports : (level : ℕ) (v : Via) → pulseOf level v .via .ports ≡ v .ports
 pulse-ports level v = pulse-cases level v (λ u. u .ports ≡ v .ports) (λ x l. refl) (λ x. refl) refl
+
+-- a pulse moves neither T1 nor ACR
+pub pulse-timers : (level : ℕ) (v : Via) → (pulseOf level v .via .t1 ≡ v .t1) × (pulseOf level v .via .acr ≡ v .acr)
+pulse-timers level v = pulse-cases level v (λ u. (u .t1 ≡ v .t1) × (u .acr ≡ v .acr)) (λ x l. (refl, refl)) (λ x. (refl, refl)) (refl, refl)
