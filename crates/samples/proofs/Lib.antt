@@ -1,5 +1,6 @@
 pub mod Proved
 pub mod Registers
+pub mod Keyboard
 pub mod Wiring
 pub mod Senses
 pub mod Clock

@@ -3,6 +3,7 @@ pub mod Samples
 pub mod Drives
 pub mod Steps
 pub mod Registers
+pub mod Keyboard
 pub mod Wiring
 pub mod Senses
 pub mod Clock
