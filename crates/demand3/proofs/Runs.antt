@@ -24,7 +24,7 @@ use Rattle.disk_spec.specs.Sense.{acceptedDrive}
 use Rattle.disk_spec.specs.Strobe.{acceptedStrobe}
 use Rattle.disk_spec.specs.Drives.{acceptedDrives}
 use Rattle.item_spec.specs.declared.Item.{Item}
-use Rattle.item_spec.specs.declared.Item.the-variants.{ReadVia, ReadIwm, WriteVia, WriteIwm, Blank, Second, Line, Sense, Reset, Power, Disk}
+use Rattle.item_spec.specs.declared.Item.the-variants.{ReadVia, ReadIwm, WriteVia, WriteIwm, Blank, Second, Line, Sense, Reset, Power, Disk, Pulse}
 use Rattle.item_spec.specs.declared.Decoded.{Decoded}
 use Rattle.item_spec.specs.declared.Decoded.the-variants.{Done, Refused}
 use Rattle.item_spec.specs.Many.{singlesOf}
@@ -32,12 +32,14 @@ use Rattle.item_spec.specs.Kinds.{decodedOf}
 use Rattle.machine_spec.specs.declared.Machine.{Machine}
 use Rattle.machine_spec.specs.Pins.{pin, wiresOf}
 use Rattle.machine_spec.specs.Machine.{wires, acceptedOf, freshMachine}
-use Rattle.machine_spec.specs.Accesses.{viaRead, iwmRead}
+use Rattle.machine_spec.specs.Accesses.{viaRead, iwmRead, keyboardPulse}
 use Rattle.machine_spec.specs.Action.{eventOf, actedOf}
 use Rattle.machine_spec.specs.Stages.{itemWait, afterWait, refusesOf}
 use Rattle.machine_spec.specs.Step.{stepOf, afterItems}
 use Rattle.machine_spec.proofs.MachineLaws.{parts}
 use Rattle.machine_spec.proofs.Drives.{disk-wires}
+use Rattle.machine_spec.proofs.Stages.{waited-wires}
+use Rattle.machine_spec.proofs.Step.{pulse-quiet}
 use Rattle.run_spec.specs.Turn.{refusedTurn, doneTurn, turnBy, turnOf}
 use Rattle.run_spec.specs.Outcome.{Piece, whole, broken, pieces, halt, onto, onPiece, runPieces, runOf}
 use Rattle.history.specs.History.{wiresAt}
@@ -52,7 +54,7 @@ use Rattle.history.proofs.Driven.{wires-append, clock-append, machine3}
 
 -- Before the wires are compared an item has moved the clock's seconds by its event, and nothing else of the clock.
 acted-clock : (m : Machine) (i : Item) → actedOf m i .machine .clock ≡ withStore (m .clock) (withEvent (eventOf i) (m .clock .store))
-unfolding actedOf eventOf viaRead iwmRead
+unfolding actedOf eventOf viaRead iwmRead keyboardPulse
 acted-clock m (ReadVia w r) = refl
 acted-clock m (ReadIwm w k) = refl
 acted-clock m (WriteVia w r v) = refl
@@ -64,6 +66,7 @@ acted-clock m (Sense w d r v) = refl
 acted-clock m (Reset w) = refl
 acted-clock m (Power w s) = refl
 acted-clock m (Disk w d i l b) = refl
+acted-clock m (Pulse w l) = refl
 
 -- The step by the wires with the data line as it was shown before is the step by the wires as they are after.
 settled-wires : (p : Ports) (c : Clock) (w : Wires)
@@ -84,6 +87,12 @@ pub disk-still : (m : Machine) (w : WaitTicks) (d i l b : ℕ) → Accepted (m .
 unfolding stepOf itemWait actedOf
 disk-still m w d i l b ok =
     ap (stepWires (m .clock) (wires m)) (disk-wires m w d i l b) ∙ step-still (m .clock) (wires m) ok
+
+-- And so does a KC.
+pub pulse-still : (m : Machine) (w l : ℕ) → Accepted (m .clock) (wires m) → stepOf m (Pulse w l) .machine .clock ≡ m .clock
+unfolding stepOf itemWait actedOf keyboardPulse
+pulse-still m w l ok =
+    ap (stepWires (m .clock) (wires m)) (pulse-quiet w l (afterWait w m) .0 ∙ waited-wires w m) ∙ step-still (m .clock) (wires m) ok
 
 -- A refused one leaves all as it is.
 refused-is : (m : Machine) → Accepted (m .clock) (wires m) → m .clock ≡ stepClock quiet (m .clock) (wires m) (wires m)

@@ -14,9 +14,10 @@ use Rattle.via.specs.Via.{freshVia, raisedOf, resetOf}
 use Rattle.via.specs.Writes.{viaWritten, portsWritten}
 use Rattle.via.specs.Registers.{registerRead}
 use Rattle.via.proofs.Kept.{ticks-ports}
+use Rattle.via.proofs.AccessKept.{pulse-ports}
 use Rattle.clock_spec.proofs.CommandRange.{cond-case}
 use Rattle.item_spec.specs.declared.Item.{Item}
-use Rattle.item_spec.specs.declared.Item.the-variants.{ReadVia, ReadIwm, WriteVia, WriteIwm, Blank, Second, Line, Sense, Reset, Power, Disk}
+use Rattle.item_spec.specs.declared.Item.the-variants.{ReadVia, ReadIwm, WriteVia, WriteIwm, Blank, Second, Line, Sense, Reset, Power, Disk, Pulse}
 use Rattle.item_spec.specs.declared.Many.{Many}
 use Rattle.item_spec.specs.declared.Decoded.{Decoded}
 use Rattle.item_spec.specs.declared.Decoded.the-variants.{Done, Refused}
@@ -28,7 +29,7 @@ use Rattle.item_spec.specs.Kinds.{decodedOf}
 use Rattle.item_spec.specs.Record.{frameOf}
 use Rattle.item_spec.proofs.ItemRange.{decoded-width, many-width, single-width}
 use Rattle.machine_spec.specs.declared.Machine.{Machine}
-use Rattle.machine_spec.specs.Accesses.{viaRead, iwmRead}
+use Rattle.machine_spec.specs.Accesses.{viaRead, iwmRead, keyboardPulse}
 use Rattle.machine_spec.specs.Action.{actedOf}
 use Rattle.machine_spec.specs.Stages.{itemWait, afterWait, refusesOf}
 use Rattle.machine_spec.specs.Step.{stepOf, afterItems}
@@ -47,7 +48,7 @@ waited-narrow : (n : ℕ) (m : Machine) → Narrow m → Narrow (afterWait n m)
 waited-narrow n m l = subst (λ (p : Ports). p .dirb < 256) (sym (ticks-ports n (m .via))) l
 
 acted-narrow : (x : Item) (m : Machine) → ItemInWidth x → Narrow m → Narrow (actedOf m x .machine)
-unfolding actedOf viaRead registerRead iwmRead viaWritten portsWritten raisedOf resetOf freshVia
+unfolding actedOf viaRead registerRead iwmRead keyboardPulse viaWritten portsWritten raisedOf resetOf freshVia
 acted-narrow (ReadVia w r) m i l = l
 acted-narrow (ReadIwm w k) m i l = l
 acted-narrow (WriteVia w r v) m i l = cond-case (λ (d : ℕ). d < 256) (eqb r 2) (λ e. i .1) (λ e. l)
@@ -59,6 +60,7 @@ acted-narrow (Sense w d r v) m i l = l
 acted-narrow (Reset w) m i l = omega arith
 acted-narrow (Power w s) m i l = omega arith
 acted-narrow (Disk w d i l b) m i′ l′ = l′
+acted-narrow (Pulse w n) m i l = subst (λ (p : Ports). p .dirb < 256) (sym (pulse-ports n (m .via))) l
 
 step-narrow : (x : Item) (m : Machine) → ItemInWidth x → Narrow m → Narrow (stepOf m x .machine)
 unfolding stepOf

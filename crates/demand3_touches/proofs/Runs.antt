@@ -9,7 +9,7 @@ use Rattle.units.specs.Units.{forTicks}
 use Rattle.clock_spec.specs.declared.Chip.{Chip}
 use Rattle.clock.specs.declared.Clock.{Clock}
 use Rattle.item_spec.specs.declared.Item.{Item}
-use Rattle.item_spec.specs.declared.Item.the-variants.{ReadVia, ReadIwm, WriteVia, WriteIwm, Blank, Second, Line, Sense, Reset, Power, Disk}
+use Rattle.item_spec.specs.declared.Item.the-variants.{ReadVia, ReadIwm, WriteVia, WriteIwm, Blank, Second, Line, Sense, Reset, Power, Disk, Pulse}
 use Rattle.item_spec.specs.declared.Many.{Many}
 use Rattle.item_spec.specs.declared.Decoded.{Decoded}
 use Rattle.item_spec.specs.declared.Decoded.the-variants.{Done, Refused}
@@ -99,6 +99,7 @@ unrefused m (Line w l v) = refl
 unrefused m (Sense w d r v) = refl
 unrefused m (Reset w) = refl
 unrefused m (Power w s) = refl
+unrefused m (Pulse w l) = refl
 unrefused m (Disk w d i l b) = go (eqb (refusesOf m (Disk w d i l b)) 0)
   where
     go : (t : Bool) → _≡_ {A = List Touch} (cond t [] []) []

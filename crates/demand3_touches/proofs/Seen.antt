@@ -8,10 +8,11 @@ use lib.Dec.{eqb}
 use borrow.Author.Tests.{eqb-true}
 use Rattle.units.specs.declared.WaitTicks.{WaitTicks}
 use Rattle.via.specs.declared.Ports.{Ports}
-use Rattle.via.specs.Via.{freshVia, raisedOf, resetOf}
+use Rattle.via.specs.Via.{freshVia, ticks, raisedOf, resetOf}
 use Rattle.via.specs.Registers.{registerRead}
 use Rattle.via.specs.Writes.{viaWritten, portsWritten}
 use Rattle.via.proofs.Kept.{ticks-ports}
+use Rattle.via.proofs.AccessKept.{pulse-ports}
 use Rattle.clock_spec.specs.declared.Wires.{Wires}
 use Rattle.clock_spec.specs.Shared.{Event, quiet, second, off}
 use Rattle.clock_spec.specs.Store.{withEvent}
@@ -20,11 +21,11 @@ use Rattle.clock.specs.declared.Clock.{Clock}
 use Rattle.clock.specs.Step.{withStore, stepWires, stepClock}
 use Rattle.clock.proofs.Keep.{still}
 use Rattle.item_spec.specs.declared.Item.{Item}
-use Rattle.item_spec.specs.declared.Item.the-variants.{ReadVia, ReadIwm, WriteVia, WriteIwm, Blank, Second, Line, Sense, Reset, Power, Disk}
+use Rattle.item_spec.specs.declared.Item.the-variants.{ReadVia, ReadIwm, WriteVia, WriteIwm, Blank, Second, Line, Sense, Reset, Power, Disk, Pulse}
 use Rattle.machine_spec.specs.declared.Machine.{Machine}
 use Rattle.machine_spec.specs.Pins.{wiresOf}
 use Rattle.machine_spec.specs.Machine.{wires}
-use Rattle.machine_spec.specs.Accesses.{viaRead, iwmRead}
+use Rattle.machine_spec.specs.Accesses.{viaRead, iwmRead, keyboardPulse}
 use Rattle.machine_spec.specs.Action.{eventOf, actedOf}
 use Rattle.machine_spec.specs.Stages.{itemWait, afterWait}
 use Rattle.machine_spec.specs.Step.{stepOf}
@@ -80,7 +81,7 @@ afterAction m i = actedOf (afterWait (itemWait i) m) i .machine
 
 -- Before the wires are compared an item has moved the clock's seconds by its event, and nothing else of the clock.
 acted-clock : (m : Machine) (i : Item) → actedOf m i .machine .clock ≡ withStore (m .clock) (withEvent (eventOf i) (m .clock .store))
-unfolding actedOf eventOf viaRead iwmRead
+unfolding actedOf eventOf viaRead iwmRead keyboardPulse
 acted-clock m (ReadVia w r) = refl
 acted-clock m (ReadIwm w k) = refl
 acted-clock m (WriteVia w r v) = refl
@@ -92,6 +93,7 @@ acted-clock m (Sense w d r v) = refl
 acted-clock m (Reset w) = refl
 acted-clock m (Power w s) = refl
 acted-clock m (Disk w d i l b) = refl
+acted-clock m (Pulse w l) = refl
 
 -- The step is the move of port B with the item's event.
 step-move : (m : Machine) (i : Item) (o d : ℕ) → PortB (afterAction m i) o d → seenOf (stepOf m i .machine) ≡ afterMove o d (eventOf i) (seenOf m)
@@ -142,7 +144,7 @@ wrote m w r v h = go (eqb r 0) (eqb r 2) refl refl
 
 -- Every item that is done.
 pub done : (m : Machine) (i : Item) → Fits m → seenOf (stepOf m i .machine) ≡ afterTouches (touchesOf i) (seenOf m)
-unfolding touchesOf actedOf itemWait eventOf viaRead iwmRead registerRead raisedOf resetOf freshVia
+unfolding touchesOf actedOf itemWait eventOf viaRead iwmRead keyboardPulse registerRead raisedOf resetOf freshVia
 done m (ReadVia w r) h = left m (ReadVia w r) h (waited-port m (w .0)) refl
 done m (ReadIwm w k) h = left m (ReadIwm w k) h (waited-port m (w .0)) refl
 done m (WriteVia w r v) h = wrote m w r v h
@@ -154,3 +156,6 @@ done m (Sense w d r v) h = left m (Sense w d r v) h (waited-port m (w .0)) refl
 done m (Reset w) h = step-move m (Reset w) 0 0 (refl, refl)
 done m (Power w s) h = step-move m (Power w s) 0 0 (refl, refl)
 done m (Disk w d i l b) h = left m (Disk w d i l b) h (waited-port m (w .0)) refl
+done m (Pulse w l) h =
+    let e = pulse-ports l (ticks (w .0) (m .via)) in
+    left m (Pulse w l) h (ap (λ (p : Ports). p .outb) e ∙ waited-port m (w .0) .0, ap (λ (p : Ports). p .dirb) e ∙ waited-port m (w .0) .1) refl

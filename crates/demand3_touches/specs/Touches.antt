@@ -7,7 +7,7 @@ use mathlib.Core.List.{List, [], _∷_, _++_}
 use lib.Dec.{eqb}
 use Rattle.clock.specs.declared.Clock.{Clock}
 use Rattle.item_spec.specs.declared.Item.{Item}
-use Rattle.item_spec.specs.declared.Item.the-variants.{ReadVia, ReadIwm, WriteVia, WriteIwm, Blank, Second, Line, Sense, Reset, Power, Disk}
+use Rattle.item_spec.specs.declared.Item.the-variants.{ReadVia, ReadIwm, WriteVia, WriteIwm, Blank, Second, Line, Sense, Reset, Power, Disk, Pulse}
 use Rattle.item_spec.specs.declared.Decoded.{Decoded}
 use Rattle.item_spec.specs.declared.Decoded.the-variants.{Done, Refused}
 use Rattle.item_spec.specs.Many.{singlesOf}
@@ -47,6 +47,7 @@ touchesOf (Sense w d r v) = []
 touchesOf (Reset w) = reset ∷ []
 touchesOf (Power w s) = powerCut s ∷ []
 touchesOf (Disk w d i l b) = []
+touchesOf (Pulse w l) = []
 
 -- The entries of items one after the other. W-211's MW counts as its single WR items.
 unfoldable pub touchesOfItems : List Item → List Touch

@@ -1,8 +1,8 @@
-// The items whose bytes have ranges, their bodies read: IN, SN, DI.
+// The items whose bytes have ranges, their bodies read: IN, SN, DI, KC.
 ghost use mathlib.Core.Path.{_≡_};
 ghost use Prim.Native.Nat.{_≤_};
 ghost use lib.ListN.{length};
-ghost use Rattle.item_spec.specs.Ranged.{lineRecord, senseRecord, isRetired, diskRecord};
+ghost use Rattle.item_spec.specs.Ranged.{lineRecord, senseRecord, isRetired, diskRecord, pulseRecord};
 use item_spec::Decoded;
 use item_spec::Item;
 
@@ -79,5 +79,23 @@ pub fn disk_item(s: &[u8]) -> Decoded
         insert,
         locked,
         sides,
+    })
+}
+
+// KC
+pub fn pulse_item(s: &[u8]) -> Decoded
+    requires { ⌜ 2 ≤ length (now s) ⌝ }
+    ensures { λ r. ⌜ r ≡ pulseRecord (now (s .entry)) ⌝ }
+{
+    if s.len() != 5 {
+        return Decoded::Refused(3);
+    }
+    let level = s[4];
+    if 1 < level {
+        return Decoded::Refused(5);
+    }
+    Decoded::Done(Item::Pulse {
+        wait: octets::le16(s, 2),
+        level,
     })
 }

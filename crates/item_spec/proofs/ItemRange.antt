@@ -12,7 +12,7 @@ use Rattle.units.specs.declared.WaitTicks.{WaitTicks}
 use Rattle.octets.proofs.Laws.{le16-width, le32-width}
 use Rattle.item_spec.specs.Addresses.{foundOf}
 use Rattle.item_spec.specs.Items.{ofLength, atAddress, recordWait, readRecord, writeRecord, powerRecord, plainItem, plainRecord, ItemInRange, ItemInWidth}
-use Rattle.item_spec.specs.Ranged.{atMost, lineRecord, isRetired, senseRecord, diskRecord}
+use Rattle.item_spec.specs.Ranged.{atMost, lineRecord, isRetired, senseRecord, diskRecord, pulseRecord}
 use Rattle.item_spec.specs.Many.{countedRecord, manyAt, manyRecord, placeOf, writeTo, single, ManyInRange, ManyInWidth}
 use Rattle.item_spec.specs.Kinds.{isKind, decodedOf}
 use Rattle.item_spec.specs.declared.Item.{Item}
@@ -81,9 +81,9 @@ module _ (P : Item → Type 0) (Q : Many → Type 0) where
 
   -- the table of kinds, once for every P and Q
   good-all : (s : List ℕ) → Good P Q (readRecord s) → Good P Q (writeRecord s) → ((k : Plain) → Good P Q (plainRecord s k)) → Good P Q (lineRecord s) → Good P Q (senseRecord s) → Good P Q (powerRecord s)
-      → Good P Q (diskRecord s) → Good P Q (manyRecord s) → Good P Q (decodedOf s)
+      → Good P Q (diskRecord s) → Good P Q (manyRecord s) → Good P Q (pulseRecord s) → Good P Q (decodedOf s)
   unfolding decodedOf
-  good-all s rd wr plain line sn pw di mw =
+  good-all s rd wr plain line sn pw di mw kc =
       good-cond (isKind s (82 ∷ 68 ∷ [])) _ _ rd
       (good-cond (isKind s (87 ∷ 82 ∷ [])) _ _ wr
       (good-cond (isKind s (86 ∷ 66 ∷ [])) _ _ (plain Plain.Blank)
@@ -93,7 +93,8 @@ module _ (P : Item → Type 0) (Q : Many → Type 0) where
       (good-cond (isKind s (82 ∷ 83 ∷ [])) _ _ (plain Plain.Reset)
       (good-cond (isKind s (80 ∷ 87 ∷ [])) _ _ pw
       (good-cond (isKind s (68 ∷ 73 ∷ [])) _ _ di
-      (good-cond (isKind s (77 ∷ 87 ∷ [])) _ _ mw tt)))))))))
+      (good-cond (isKind s (77 ∷ 87 ∷ [])) _ _ mw
+      (good-cond (isKind s (75 ∷ 67 ∷ [])) _ _ kc tt))))))))))
 
 plain-range : (k : Plain) (w : WaitTicks) → ItemInRange (plainItem k w)
 plain-range Plain.Blank w = tt
@@ -101,7 +102,7 @@ plain-range Plain.Second w = tt
 plain-range Plain.Reset w = tt
 
 in-range : (s : List ℕ) → Good ItemInRange (ManyInRange s) (decodedOf s)
-unfolding readRecord writeRecord lineRecord senseRecord powerRecord diskRecord plainRecord
+unfolding readRecord writeRecord lineRecord senseRecord powerRecord diskRecord pulseRecord plainRecord
 in-range s =
     good-all ItemInRange (ManyInRange s) s
     (good-sized ItemInRange (ManyInRange s) s 8 _ (good-placed ItemInRange (ManyInRange s) (le32Of s 4) (λ r. Done (ReadVia (recordWait s) r)) (λ k. Done (ReadIwm (recordWait s) k)) (λ r h. h) (λ k h. h)))
@@ -113,6 +114,7 @@ in-range s =
     (good-sized ItemInRange (ManyInRange s) s 8 _
     (good-upTo ItemInRange (ManyInRange s) (getD s 4 0) 1 _ (λ a. good-upTo ItemInRange (ManyInRange s) (getD s 5 0) 1 _ (λ b. good-upTo ItemInRange (ManyInRange s) (getD s 6 0) 1 _ (λ c. good-upTo ItemInRange (ManyInRange s) (getD s 7 0) 1 _ (λ d. (omega arith, omega arith, omega arith, omega arith)))))))
     (good-many ItemInRange (ManyInRange s) s (λ b n e h l u. record { wait = refl; found = e; number = h; least = l; most = u }))
+    (good-sized ItemInRange (ManyInRange s) s 5 _ (good-upTo ItemInRange (ManyInRange s) (getD s 4 0) 1 _ (λ a. omega arith)))
 
 -- every item that the decoder lets through is in range
 pub decoded-range : (s : List ℕ) (x : Item) → decodedOf s ≡ Done x → ItemInRange x
@@ -128,7 +130,7 @@ plain-width Plain.Second w h = h
 plain-width Plain.Reset w h = h
 
 in-width : (s : List ℕ) → Bytes s → Good ItemInWidth ManyInWidth (decodedOf s)
-unfolding readRecord writeRecord lineRecord senseRecord powerRecord diskRecord plainRecord
+unfolding readRecord writeRecord lineRecord senseRecord powerRecord diskRecord pulseRecord plainRecord
 in-width s bs =
     let w : recordWait s .0 < 65536 = le16-width s 2 bs in
     good-all ItemInWidth ManyInWidth s
@@ -141,6 +143,7 @@ in-width s bs =
     (good-sized ItemInWidth ManyInWidth s 8 _
     (good-upTo ItemInWidth ManyInWidth (getD s 4 0) 1 _ (λ a. good-upTo ItemInWidth ManyInWidth (getD s 5 0) 1 _ (λ b. good-upTo ItemInWidth ManyInWidth (getD s 6 0) 1 _ (λ c. good-upTo ItemInWidth ManyInWidth (getD s 7 0) 1 _ (λ d. w))))))
     (good-many ItemInWidth ManyInWidth s (λ b n e h l u. w))
+    (good-sized ItemInWidth ManyInWidth s 5 _ (good-upTo ItemInWidth ManyInWidth (getD s 4 0) 1 _ (λ a. w)))
 
 -- of a record of bytes, the item's wait, value and seconds are within their widths
 pub decoded-width : (s : List ℕ) (x : Item) → Bytes s → decodedOf s ≡ Done x → ItemInWidth x

@@ -8,7 +8,7 @@ use Rattle.octets.specs.Octets.{le16Of, le32Of}
 use Rattle.units.specs.Units.{forTicks}
 use Rattle.units.specs.declared.WaitTicks.{WaitTicks}
 use Rattle.item_spec.specs.declared.Item.{Item}
-use Rattle.item_spec.specs.declared.Item.the-variants.{ReadVia, ReadIwm, WriteVia, WriteIwm, Line, Sense, Power, Disk}
+use Rattle.item_spec.specs.declared.Item.the-variants.{ReadVia, ReadIwm, WriteVia, WriteIwm, Line, Sense, Power, Disk, Pulse}
 use Rattle.item_spec.specs.declared.Decoded.{Decoded}
 use Rattle.item_spec.specs.declared.Decoded.the-variants.{Done, Refused}
 use Rattle.item_spec.specs.declared.Plain.{Plain}
@@ -71,6 +71,7 @@ ItemInRange (Sense w d r v) = (d < 2) × (r < 16) × (v < 2)
 ItemInRange (Item.Reset w) = Unit {0}
 ItemInRange (Power w t) = Unit {0}
 ItemInRange (Disk w d i l b) = (d < 2) × (i < 2) × (l < 2) × (b < 2)
+ItemInRange (Pulse w l) = l < 2
 
 -- The numbers of an item are within their widths: a wait of two bytes, a value of one, seconds of four.
 abbrev pub ItemInWidth : Item → Type 0
@@ -85,3 +86,4 @@ ItemInWidth (Sense w d r v) = w .0 < 65536
 ItemInWidth (Item.Reset w) = w .0 < 65536
 ItemInWidth (Power w t) = (w .0 < 65536) × (t < 4294967296)
 ItemInWidth (Disk w d i l b) = w .0 < 65536
+ItemInWidth (Pulse w l) = w .0 < 65536

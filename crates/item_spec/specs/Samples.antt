@@ -9,7 +9,7 @@ use Rattle.item_spec.specs.Items.{refusalOf}
 use Rattle.item_spec.specs.Many.{singlesOf}
 use Rattle.item_spec.specs.Kinds.{decodedOf}
 use Rattle.item_spec.specs.declared.Item.{Item}
-use Rattle.item_spec.specs.declared.Item.the-variants.{ReadVia, ReadIwm, WriteVia, WriteIwm, Line, Sense, Power, Disk}
+use Rattle.item_spec.specs.declared.Item.the-variants.{ReadVia, ReadIwm, WriteVia, WriteIwm, Line, Sense, Power, Disk, Pulse}
 use Rattle.item_spec.specs.declared.Many.{Many}
 use Rattle.item_spec.specs.declared.Decoded.{Decoded}
 use Rattle.item_spec.specs.declared.Decoded.the-variants.{Done}
@@ -60,6 +60,8 @@ pub record Samples : Type 0 where
       ≡ WriteVia (forTicks 513) 9 0xa7 ∷ WriteVia (forTicks 0) 9 0x5c ∷ WriteVia (forTicks 0) 9 0x31 ∷ []
   pub singlesIwm : singlesOf (record { wait = forTicks 513; iwm = true; number = 6 }) (0x4d ∷ 0x57 ∷ 1 ∷ 2 ∷ 0xff ∷ 0xed ∷ 0xdf ∷ 0 ∷ 2 ∷ 0xa7 ∷ 0x5c ∷ [])
       ≡ WriteIwm (forTicks 513) 6 0xa7 ∷ WriteIwm (forTicks 0) 6 0x5c ∷ []
+  -- KC: level
+  pub pulse : decodedOf (0x4b ∷ 0x43 ∷ 1 ∷ 2 ∷ 1 ∷ []) ≡ Done (Pulse (forTicks 513) 1)
   -- ---- refusals
   -- 2: "ZZ", "rd", "RE", "WD", "BV", "ST", whatever their length
   pub kinds : numbers ((0x5a ∷ 0x5a ∷ 1 ∷ []) ∷ (0x72 ∷ 0x64 ∷ 0 ∷ 0 ∷ 0xfe ∷ 0xe1 ∷ 0xef ∷ 0 ∷ []) ∷ (0x52 ∷ 0x45 ∷ 0 ∷ 0 ∷ []) ∷ (0x57 ∷ 0x44 ∷ 0 ∷ 0 ∷ []) ∷ (0x42 ∷ 0x56 ∷ 0 ∷ 0 ∷ []) ∷ (0x53 ∷ 0x54 ∷ 0 ∷ 0 ∷ []) ∷ [])
@@ -74,6 +76,7 @@ pub record Samples : Type 0 where
   pub senses : numbers ((0x53 ∷ 0x4e ∷ 0 ∷ 0 ∷ 2 ∷ 0 ∷ []) ∷ (0x53 ∷ 0x4e ∷ 0 ∷ 0 ∷ 2 ∷ 0 ∷ 0 ∷ 0 ∷ []) ∷ []) ≡ 3 ∷ 3 ∷ []
   pub powers : numbers ((0x50 ∷ 0x57 ∷ 0 ∷ 0 ∷ 0 ∷ 0 ∷ 0 ∷ []) ∷ (0x50 ∷ 0x57 ∷ 0 ∷ 0 ∷ 0 ∷ 0 ∷ 0 ∷ 0 ∷ 0 ∷ []) ∷ []) ≡ 3 ∷ 3 ∷ []
   pub disks : numbers ((0x44 ∷ 0x49 ∷ 0 ∷ 0 ∷ 2 ∷ 0 ∷ 0 ∷ []) ∷ (0x44 ∷ 0x49 ∷ 0 ∷ 0 ∷ 2 ∷ 0 ∷ 0 ∷ 0 ∷ 0 ∷ []) ∷ []) ≡ 3 ∷ 3 ∷ []
+  pub pulses : numbers ((0x4b ∷ 0x43 ∷ 0 ∷ 0 ∷ []) ∷ (0x4b ∷ 0x43 ∷ 0 ∷ 0 ∷ 2 ∷ 0 ∷ []) ∷ []) ≡ 3 ∷ 3 ∷ []
   -- 4: $EFE1FD, $EFE1FF, $EFDFFE, $F001FE, $01EFE1FE, and $DFE1FE, $DFDFFF, $E001FF
   pub addresses : numbers ((0x52 ∷ 0x44 ∷ 0 ∷ 0 ∷ 0xfd ∷ 0xe1 ∷ 0xef ∷ 0 ∷ []) ∷ (0x52 ∷ 0x44 ∷ 0 ∷ 0 ∷ 0xff ∷ 0xe1 ∷ 0xef ∷ 0 ∷ []) ∷ (0x52 ∷ 0x44 ∷ 0 ∷ 0 ∷ 0xfe ∷ 0xdf ∷ 0xef ∷ 0 ∷ []) ∷ (0x52 ∷ 0x44 ∷ 0 ∷ 0 ∷ 0xfe ∷ 0x01 ∷ 0xf0 ∷ 0 ∷ []) ∷ (0x52 ∷ 0x44 ∷ 0 ∷ 0 ∷ 0xfe ∷ 0xe1 ∷ 0xef ∷ 1 ∷ []) ∷ (0x57 ∷ 0x52 ∷ 0 ∷ 0 ∷ 0xfe ∷ 0xe1 ∷ 0xdf ∷ 0 ∷ 0 ∷ []) ∷ (0x57 ∷ 0x52 ∷ 0 ∷ 0 ∷ 0xff ∷ 0xdf ∷ 0xdf ∷ 0 ∷ 0 ∷ []) ∷ (0x57 ∷ 0x52 ∷ 0 ∷ 0 ∷ 0xff ∷ 0x01 ∷ 0xe0 ∷ 0 ∷ 0 ∷ []) ∷ [])
       ≡ 4 ∷ 4 ∷ 4 ∷ 4 ∷ 4 ∷ 4 ∷ 4 ∷ 4 ∷ []
@@ -87,6 +90,8 @@ pub record Samples : Type 0 where
   -- DI with 2 at each place, in a removal too
   pub diskRange : numbers ((0x44 ∷ 0x49 ∷ 0 ∷ 0 ∷ 1 ∷ 1 ∷ 1 ∷ 1 ∷ []) ∷ (0x44 ∷ 0x49 ∷ 0 ∷ 0 ∷ 2 ∷ 0 ∷ 0 ∷ 0 ∷ []) ∷ (0x44 ∷ 0x49 ∷ 0 ∷ 0 ∷ 0 ∷ 2 ∷ 0 ∷ 0 ∷ []) ∷ (0x44 ∷ 0x49 ∷ 0 ∷ 0 ∷ 0 ∷ 0 ∷ 2 ∷ 0 ∷ []) ∷ (0x44 ∷ 0x49 ∷ 0 ∷ 0 ∷ 0 ∷ 0 ∷ 0 ∷ 2 ∷ []) ∷ [])
       ≡ 0 ∷ 5 ∷ 5 ∷ 5 ∷ 5 ∷ []
+  -- KC with levels 0, 1, 2 and 255; "CK" is no kind
+  pub pulseRange : numbers ((0x4b ∷ 0x43 ∷ 0 ∷ 0 ∷ 0 ∷ []) ∷ (0x4b ∷ 0x43 ∷ 0 ∷ 0 ∷ 1 ∷ []) ∷ (0x4b ∷ 0x43 ∷ 0 ∷ 0 ∷ 2 ∷ []) ∷ (0x4b ∷ 0x43 ∷ 0 ∷ 0 ∷ 255 ∷ []) ∷ (0x43 ∷ 0x4b ∷ 0 ∷ 0 ∷ 0 ∷ []) ∷ []) ≡ 0 ∷ 0 ∷ 5 ∷ 5 ∷ 2 ∷ []
   -- ---- W-211's own order: 3, 4, 5, 3
   -- length 2 and 8: 3 before 4; length 9 and 10 at $EFE1FF with count 0: 4 before 5
   pub manyShort : numbers ((0x4d ∷ 0x57 ∷ []) ∷ (0x4d ∷ 0x57 ∷ 0 ∷ 0 ∷ 0xff ∷ 0xe1 ∷ 0xef ∷ 0 ∷ []) ∷ (0x4d ∷ 0x57 ∷ 0 ∷ 0 ∷ 0xff ∷ 0xe1 ∷ 0xef ∷ 0 ∷ 0 ∷ []) ∷ (0x4d ∷ 0x57 ∷ 0 ∷ 0 ∷ 0xff ∷ 0xe1 ∷ 0xef ∷ 0 ∷ 0 ∷ 1 ∷ []) ∷ [])

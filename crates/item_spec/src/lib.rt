@@ -96,6 +96,11 @@ pub enum Item {
         locked: u8,
         sides: u8,
     },
+    // KC: one pulse of the keyboard's clock, with the level of its data line.
+    Pulse {
+        wait: u16,
+        level: u8,
+    },
 }
 
 // MW: many writes to one address, each value a WR of its own. The values stay in the record, from byte 9 after its length on.

@@ -15,7 +15,7 @@ use Rattle.disk_spec.specs.Strobe.{noStrobe, afterBy, strobeAfter}
 use Rattle.disk_spec.proofs.Pulses.{reset-writes-nothing}
 use Rattle.disk_spec.specs.declared.Drives.{Drives}
 use Rattle.disk_spec.specs.Drives.{withStrobe, drivesTicks, drivesPowered, drivesWritten, drivesAfter}
-use Rattle.item_spec.specs.declared.Item.the-variants.{Reset, Power, Disk}
+use Rattle.item_spec.specs.declared.Item.the-variants.{Reset, Power, Disk, Pulse}
 use Rattle.machine_spec.specs.declared.Machine.{Machine}
 use Rattle.machine_spec.specs.Machine.{wires, strobeLevels}
 use Rattle.machine_spec.specs.Action.{actedOf}

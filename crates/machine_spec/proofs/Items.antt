@@ -17,7 +17,7 @@ use Rattle.disk_lines.specs.Lines.{afterAccess, senseAt}
 use Rattle.disk_spec.specs.Sense.{isDriveSense, senseShown}
 use Rattle.disk_spec.specs.Drives.{drivesShown}
 use Rattle.item_spec.specs.declared.Item.{Item}
-use Rattle.item_spec.specs.declared.Item.the-variants.{ReadVia, ReadIwm, WriteVia, WriteIwm, Blank, Second, Line, Sense, Reset, Power, Disk}
+use Rattle.item_spec.specs.declared.Item.the-variants.{ReadVia, ReadIwm, WriteVia, WriteIwm, Blank, Second, Line, Sense, Reset, Power, Disk, Pulse}
 use Rattle.machine_spec.specs.declared.Machine.{Machine}
 use Rattle.machine_spec.specs.Machine.{withInputs, withSense}
 use Rattle.machine_spec.specs.Accesses.{viaRead, iwmRead}
@@ -27,7 +27,7 @@ use Rattle.machine_spec.specs.Step.{stepOf}
 
 -- ---- the value
 
--- An RD.
+-- An RD, or a KC: W-210 gives its answer a value too.
 abbrev pub reads : Item → Bool
 reads (ReadVia w r) = true
 reads (ReadIwm w k) = true
@@ -40,8 +40,9 @@ reads (Sense w d r v) = false
 reads (Reset w) = false
 reads (Power w s) = false
 reads (Disk w d i l b) = false
+reads (Pulse w l) = true
 
--- "value read (0 unless RD)".
+-- "value read (0 unless RD)", and unless KC shifts out.
 pub unread : (m : Machine) (i : Item) → reads i ≡ false → stepOf m i .value ≡ 0
 unfolding stepOf actedOf
 unread m (ReadVia w r) h = absurd (true≢false h)
@@ -55,6 +56,7 @@ unread m (Sense w d r v) h = refl
 unread m (Reset w) h = refl
 unread m (Power w s) h = refl
 unread m (Disk w d i l b) h = refl
+unread m (Pulse w l) h = absurd (true≢false h)
 
 -- ---- what a read sees
 

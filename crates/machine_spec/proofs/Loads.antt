@@ -21,10 +21,11 @@ use Rattle.via.specs.Writes.{viaWritten}
 use Rattle.via.specs.Registers.{flagsByte, registerRead}
 use Rattle.via.proofs.Waits.{first, waits, ticks-add}
 use Rattle.via.proofs.FlagsExact.{flag-6}
+use Rattle.via.proofs.AccessKept.{pulse-timers}
 use Rattle.item_spec.specs.declared.Item.{Item}
-use Rattle.item_spec.specs.declared.Item.the-variants.{ReadVia, ReadIwm, WriteVia, WriteIwm, Blank, Second, Line, Sense, Reset, Power, Disk}
+use Rattle.item_spec.specs.declared.Item.the-variants.{ReadVia, ReadIwm, WriteVia, WriteIwm, Blank, Second, Line, Sense, Reset, Power, Disk, Pulse}
 use Rattle.machine_spec.specs.declared.Machine.{Machine}
-use Rattle.machine_spec.specs.Accesses.{viaRead, iwmRead}
+use Rattle.machine_spec.specs.Accesses.{viaRead, iwmRead, keyboardPulse}
 use Rattle.machine_spec.specs.Action.{actedOf}
 use Rattle.machine_spec.specs.Stages.{itemWait, afterWait}
 use Rattle.machine_spec.specs.Step.{stepOf, afterItems}
@@ -47,6 +48,7 @@ spares (Sense w d r v) = true
 spares (Reset w) = false
 spares (Power w s) = false
 spares (Disk w d i l b) = true
+spares (Pulse w l) = true
 
 abbrev pub allSpare : List Item → Bool
 allSpare [] = true
@@ -90,7 +92,7 @@ unwritten r value v h =
 
 spared : (m : Machine) (i : Item) → spares i ≡ true
     → (stepOf m i .machine .via .t1 ≡ ticks (itemWait i) (m .via) .t1) × (stepOf m i .machine .via .acr ≡ m .via .acr)
-unfolding stepOf actedOf itemWait viaRead registerRead iwmRead raisedOf
+unfolding stepOf actedOf itemWait viaRead registerRead iwmRead raisedOf keyboardPulse
 spared m (ReadVia w r) h = (refl, acr-waits (w .0) (m .via))
 spared m (ReadIwm w k) h = (refl, acr-waits (w .0) (m .via))
 spared m (WriteVia w r v) h =
@@ -104,6 +106,9 @@ spared m (Sense w d r v) h = (refl, acr-waits (w .0) (m .via))
 spared m (Reset w) h = no h
 spared m (Power w s) h = no h
 spared m (Disk w d i l b) h = (refl, acr-waits (w .0) (m .via))
+spared m (Pulse w l) h =
+    let e = pulse-timers l (ticks (w .0) (m .via)) in
+    (e .0, e .1 ∙ acr-waits (w .0) (m .via))
 
 -- T1 after such items is T1 after their VIA ticks alone.
 pub spared-items : (m : Machine) (is : List Item) → allSpare is ≡ true

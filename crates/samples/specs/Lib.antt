@@ -4,6 +4,7 @@ pub mod Drives
 pub mod Many
 pub mod Steps
 pub mod Registers
+pub mod Keyboard
 pub mod Wiring
 pub mod Senses
 pub mod Clock

@@ -49,6 +49,10 @@ pw = 8 ∷ 0 ∷ 80 ∷ 87 ∷ 0 ∷ 0 ∷ 0 ∷ 0 ∷ 0 ∷ 0 ∷ []
 abbrev pub se : List ℕ
 se = 4 ∷ 0 ∷ 83 ∷ 69 ∷ 0 ∷ 0 ∷ []
 
+-- KC with this level, after a wait in VIA ticks.
+abbrev pub kc : ℕ → ℕ → List ℕ
+kc wait level = 5 ∷ 0 ∷ 75 ∷ 67 ∷ wait % 256 ∷ wait / 256 ∷ level ∷ []
+
 -- Port B's bits 0 to 2 made outputs, with enable at 1 and data-clock at 0.
 abbrev pub begin : List ℕ
 begin = wr 0 0 4 ++ wr 0 2 7

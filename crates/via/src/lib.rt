@@ -1,9 +1,10 @@
-// The VIA: ports, two timers, registers written, reset; what is asked of its flags is in via_flags, reading in via_registers. The state goes in by value, and the next one comes out.
+// The VIA: ports, two timers, registers written, the shift register, reset; what is asked of its flags is in via_flags, reading in via_registers. The state goes in by value, and the next one comes out.
 ghost use mathlib.Core.Path.{_≡_};
 ghost use mathlib.Core.Bool.{cond, true, false};
 ghost use Prim.Native.Nat.{_<_};
 ghost use Rattle.via_timer.specs.Timer.{steps};
 ghost use Rattle.via.specs.Writes.{timer1Written, viaWritten};
+ghost use Rattle.via.specs.Shift.{countedOf, shiftedOf, pulseOf};
 ghost use Rattle.via.specs.Via.{onlyCounts, freshVia, latchOf, counter1, counter2, ticks, resetOf};
 use units::WaitTicks;
 use via_timer::Counter;
@@ -32,7 +33,7 @@ pub struct Timer2 {
     pub armed: bool,
 }
 
-// Flags and enables have bits 0 to 6.
+// Flags and enables have bits 0 to 6. The keyboard's pulses since the last eighth are 0 to 7.
 pub struct Via {
     pub ports: Ports,
     pub t1: Timer1,
@@ -42,6 +43,7 @@ pub struct Via {
     pub pcr: u8,
     pub flags: u8,
     pub enables: u8,
+    pub pulses: u8,
 }
 
 // The levels that the outside gives the lines of the two ports.
@@ -50,7 +52,7 @@ pub struct Inputs {
     pub a: u8,
 }
 
-// What a read gives: the VIA after it, and the value.
+// What a read or a pulse gives: the VIA after it, and the value.
 pub struct Access {
     pub via: Via,
     pub value: u8,
@@ -84,6 +86,7 @@ pub fn fresh() -> Via
         pcr: 0,
         flags: 0,
         enables: 0,
+        pulses: 0,
     }
 }
 
@@ -214,7 +217,11 @@ impl Via {
                 self.t2.armed = true;
                 self.flags = self.flags & !32;
             },
-            10 => self.sr = value,
+            10 => {
+                self.sr = value;
+                self.flags = self.flags & !4;
+                self.pulses = 0;
+            },
             11 => self.acr = value,
             12 => self.pcr = value,
             13 => self.flags = self.flags & !(value % 128),
@@ -222,5 +229,52 @@ impl Via {
             _ => self.ports.outa = value,
         }
         self
+    }
+
+    // A pulse counts: each eighth sets flag 2, and the count is 0 again.
+    fn counted(mut self) -> Via
+        ensures { λ r. ⌜ r ≡ countedOf self ⌝ }
+    {
+        if self.pulses < 7 {
+            self.pulses = self.pulses + 1;
+        } else {
+            self.flags = self.flags | 4;
+            self.pulses = 0;
+        }
+        self
+    }
+
+    // Register 10 moves up one bit and takes the level as bit 0.
+    fn shifted(mut self, level: u8) -> Via
+        requires { ⌜ level < 2 ⌝ }
+        ensures { λ r. ⌜ r ≡ shiftedOf level self ⌝ }
+    {
+        self.sr = self.sr % 128 * 2 + level;
+        self.counted()
+    }
+
+    // One pulse of the keyboard's clock, with this level on its data line.
+    pub fn pulse(self, level: u8) -> Access
+        requires { ⌜ level < 2 ⌝ }
+        ensures { λ r. ⌜ r ≡ pulseOf level self ⌝ }
+    {
+        let mode = self.acr / 4 % 8;
+        if mode == 3 {
+            return Access {
+                via: self.shifted(level),
+                value: 0,
+            };
+        }
+        if mode == 7 {
+            let bit = self.sr / 128;
+            return Access {
+                via: self.shifted(bit),
+                value: bit,
+            };
+        }
+        Access {
+            via: self,
+            value: 0,
+        }
     }
 }

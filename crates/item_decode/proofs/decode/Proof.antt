@@ -14,6 +14,7 @@ use Rattle.item_plain.proofs.read_item.Reads as read-item-reads
 use Rattle.item_ranged.proofs.sense_item.Reads as sense-item-reads
 use Rattle.item_plain.proofs.write_item.Reads as write-item-reads
 use Rattle.item_many.proofs.many_item.Reads as many-item-reads
+use Rattle.item_ranged.proofs.pulse_item.Reads as pulse-item-reads
 
 is-requires : tie.Need-is-requires
 is-requires c κs = search needs
