@@ -89,10 +89,10 @@ disk-still m w d i l b ok =
     ap (stepWires (m .clock) (wires m)) (disk-wires m w d i l b) ∙ step-still (m .clock) (wires m) ok
 
 -- And so does a KC.
-pub pulse-still : (m : Machine) (w l : ℕ) → Accepted (m .clock) (wires m) → stepOf m (Pulse w l) .machine .clock ≡ m .clock
+pub pulse-still : (m : Machine) (w : WaitTicks) (l : ℕ) → Accepted (m .clock) (wires m) → stepOf m (Pulse w l) .machine .clock ≡ m .clock
 unfolding stepOf itemWait actedOf keyboardPulse
 pulse-still m w l ok =
-    ap (stepWires (m .clock) (wires m)) (pulse-quiet w l (afterWait w m) .0 ∙ waited-wires w m) ∙ step-still (m .clock) (wires m) ok
+    ap (stepWires (m .clock) (wires m)) (pulse-quiet w l (afterWait (w .0) m) .0 ∙ waited-wires (w .0) m) ∙ step-still (m .clock) (wires m) ok
 
 -- A refused one leaves all as it is.
 refused-is : (m : Machine) → Accepted (m .clock) (wires m) → m .clock ≡ stepClock quiet (m .clock) (wires m) (wires m)

@@ -95,7 +95,7 @@ pub fn pulse_item(s: &[u8]) -> Decoded
         return Decoded::Refused(5);
     }
     Decoded::Done(Item::Pulse {
-        wait: octets::le16(s, 2),
+        wait: item_wait::wait_of(s),
         level,
     })
 }

@@ -98,7 +98,7 @@ pub enum Item {
     },
     // KC: one pulse of the keyboard's clock, with the level of its data line.
     Pulse {
-        wait: u16,
+        wait: WaitTicks,
         level: u8,
     },
 }

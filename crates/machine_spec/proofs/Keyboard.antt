@@ -2,6 +2,7 @@
 use Prim.Native.Nat.{ℕ}
 use mathlib.Core.Path.{_≡_, refl, ap, _∙_}
 use mathlib.Core.List.{List, [], _∷_}
+use Rattle.units.specs.Units.{forTicks}
 use Rattle.via.specs.declared.Via.{Via}
 use Rattle.via.specs.Via.{ticks}
 use Rattle.via.specs.Shift.{pulseOf}
@@ -20,13 +21,13 @@ pulses-via : (m : Machine) (ws ls : List ℕ) → afterItems m (pulseItems ws ls
 unfolding pulseItems pulsed stepOf actedOf itemWait keyboardPulse
 pulses-via m [] ls = refl
 pulses-via m (w ∷ ws) [] = refl
-pulses-via m (w ∷ ws) (l ∷ ls) = pulses-via (stepOf m (Pulse w l) .machine) ws ls
+pulses-via m (w ∷ ws) (l ∷ ls) = pulses-via (stepOf m (Pulse (forTicks w) l) .machine) ws ls
 
 pulses-values : (m : Machine) (ws ls : List ℕ) → valuesOf m (pulseItems ws ls) ≡ given ws ls (m .via)
 unfolding pulseItems valuesOf given stepOf actedOf itemWait keyboardPulse
 pulses-values m [] ls = refl
 pulses-values m (w ∷ ws) [] = refl
-pulses-values m (w ∷ ws) (l ∷ ls) = ap (λ (x : List ℕ). pulseOf l (ticks w (m .via)) .value ∷ x) (pulses-values (stepOf m (Pulse w l) .machine) ws ls)
+pulses-values m (w ∷ ws) (l ∷ ls) = ap (λ (x : List ℕ). pulseOf l (ticks w (m .via)) .value ∷ x) (pulses-values (stepOf m (Pulse (forTicks w) l) .machine) ws ls)
 
 pub keyboard : (m : Machine) → Keyboard m
 unfolding actedOf itemWait

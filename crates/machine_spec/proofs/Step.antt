@@ -6,6 +6,7 @@ use mathlib.Core.Bool.{Bool, true, false, cond}
 use mathlib.Core.List.{List, [], _∷_}
 use types.Run.{OneOf, miss}
 use denote.Enum.Declared.{tagOf}
+use Rattle.units.specs.declared.WaitTicks.{WaitTicks}
 use Rattle.via.specs.declared.Ports.{Ports}
 use Rattle.via.specs.declared.Via.{Via}
 use Rattle.via.specs.Via.{raisedOf, asking, levelOf}
@@ -45,7 +46,7 @@ met m m₁ i d w p q e a =
 abbrev pub Quiet : Item → Type 0
 Quiet i = (m : Machine) → (wires (actedOf m i .machine) ≡ wires m) × (strobeLevels (actedOf m i .machine) ≡ strobeLevels m)
 
-pub pulse-quiet : (w level : ℕ) → Quiet (Pulse w level)
+pub pulse-quiet : (w : WaitTicks) (level : ℕ) → Quiet (Pulse w level)
 unfolding actedOf keyboardPulse
 pulse-quiet w level m =
     let e = pulse-ports level (m .via) in

@@ -4,6 +4,8 @@ use mathlib.Core.Path.{_≡_}
 use mathlib.Core.Bool.{true}
 use mathlib.Core.List.{List, [], _∷_}
 use lib.ListN.{length}
+use Rattle.units.specs.Units.{forTicks}
+use Rattle.units.specs.declared.WaitTicks.{WaitTicks}
 use Rattle.via.specs.Setters.{withSr}
 use Rattle.via.specs.EightPulses.{bitsOf, total, flagged}
 use Rattle.item_spec.specs.declared.Item.{Item}
@@ -14,9 +16,9 @@ use Rattle.machine_spec.specs.Accesses.{keyboardPulse}
 use Rattle.machine_spec.specs.Stages.{afterWait}
 use Rattle.machine_spec.specs.Step.{stepOf, afterItems}
 
--- KC items with these waits and levels.
+-- KC items with these waits, in VIA ticks, and levels.
 unfoldable pub pulseItems : List ℕ → List ℕ → List Item
-pulseItems (w ∷ ws) (l ∷ ls) = Pulse w l ∷ pulseItems ws ls
+pulseItems (w ∷ ws) (l ∷ ls) = Pulse (forTicks w) l ∷ pulseItems ws ls
 pulseItems (w ∷ ws) [] = []
 pulseItems [] ls = []
 
@@ -27,7 +29,7 @@ valuesOf m (i ∷ is) = stepOf m i .value ∷ valuesOf (stepOf m i .machine) is
 
 pub record Keyboard (m : Machine) : Type 0 where
   -- A KC is its wait and its pulse: the clock and the drives see no line move.
-  pub alone : (w level : ℕ) → acceptedOf m ≡ true → stepOf m (Pulse w level) ≡ keyboardPulse level (afterWait w m)
+  pub alone : (w : WaitTicks) (level : ℕ) → acceptedOf m ≡ true → stepOf m (Pulse w level) ≡ keyboardPulse level (afterWait (w .0) m)
   -- Eight KC in, from a count of 0, with the bits of a byte as levels, high-order first: register 10 holds the byte and flag 2 is set.
   pub byteIn : (ws : List ℕ) (x : ℕ) → length ws ≡ 8 → m .via .pulses ≡ 0 → m .via .acr / 4 % 8 ≡ 3 → x < 256
       → (afterItems m (pulseItems ws (bitsOf x)) .via ≡ withSr (flagged (total ws) (m .via)) x) × (valuesOf m (pulseItems ws (bitsOf x)) ≡ 0 ∷ 0 ∷ 0 ∷ 0 ∷ 0 ∷ 0 ∷ 0 ∷ 0 ∷ [])

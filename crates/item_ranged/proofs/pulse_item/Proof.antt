@@ -5,7 +5,7 @@ use Rattle.item_ranged.proofs.pulse_item.Statement.{statement}
 use Rattle.item_ranged.proofs.pulse_item.Tie as tie
 use Rattle.item_ranged.proofs.pulse_item.Reads as reads
 use Rattle.item_ranged.proofs.pulse_item.Lts as lts
-use Rattle.octets.proofs.le16.Reads as le16-reads
+use Rattle.item_wait.proofs.wait_of.Reads as wait-of-reads
 
 returns : tie.Need-returns
 unfolding pulseRecord
@@ -18,13 +18,13 @@ returns-2 : tie.Need-returns-2
 unfolding pulseRecord
 returns-2 c = simp (eq-eqb _ _ (c .before .before .if1 .left), lt-ltb _ _ (c .if2 .taken))
 
-le16-requires : tie.Need-le16-requires
-le16-requires c κs = search needs
+wait-of-requires : tie.Need-wait-of-requires
+wait-of-requires c κs = search needs
 
 returns-3 : tie.Need-returns-3
 unfolding pulseRecord
-returns-3 c = simp (eq-eqb _ _ (c .before .before .before .if1 .left), le-ltb _ _ (c .before .if2 .left), ← c .le16 .ensures)
+returns-3 c = simp (eq-eqb _ _ (c .before .before .before .if1 .left), le-ltb _ _ (c .before .if2 .left), ← c .wait-of .ensures)
 
 pub pulse-item-spec : {M : Type 1} → statement M
 pulse-item-spec =
-    tie.close (tie.spec returns shared-slice-read-level returns-2 le16-requires returns-3)
+    tie.close (tie.spec returns shared-slice-read-level returns-2 wait-of-requires returns-3)
