@@ -75,7 +75,10 @@ fn command(chip: Chip, target: Target, read: bool) -> Option<Vec<u8>> {
     pairs.next().map(|(first, second)| vec![first, second])
 }
 
-/// The bytes of a transaction for the state of an image, in so much room, or the refusal.
+/// The bytes of a transaction for the state of an image, in so much room.
+///
+/// # Errors
+/// The refusal: 7, 5, 10 or 6, in this order.
 pub fn transaction(
     image: &[u8],
     ask: u8,

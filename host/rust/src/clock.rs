@@ -165,7 +165,7 @@ impl Machine {
     fn ask(&mut self, ask: Ask) -> Result<u8, ClockError> {
         let list = self.transaction(ask)?;
         let mut byte = 0;
-        for exchange in self.run_items(&list).iter() {
+        for exchange in &self.run_items(&list) {
             let seen = exchange.answer.result().expect("an item of a transaction is done");
             if matches!(exchange.item, Ok(timed) if matches!(timed.item, Item::Read(_))) {
                 byte = byte << 1 | seen.value & 1;
