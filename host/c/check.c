@@ -150,7 +150,7 @@ static void refusals(void)
         const char *words = swarmtempo_refusal((uint8_t)i);
         expect(words != NULL && *words, "words");
         expect((strcmp(words, unknown) == 0) == (i > SWARMTEMPO_REFUSED_KEY), "numbers that have words");
-        for (unsigned j = 0; j < i && j <= SWARMTEMPO_REFUSED_RETIRED; j++)
+        for (unsigned j = 0; j < i && j <= SWARMTEMPO_REFUSED_KEY; j++)
             expect(strcmp(words, swarmtempo_refusal((uint8_t)j)) != 0, "words of two numbers");
     }
 }
