@@ -35,7 +35,7 @@ requestOf ask number value = cond (eqb ask 5) (Known (WriteProtect value)) (cond
 
 -- ---- what is answered, from a state and from an image
 
--- What nothing is asked for by is refused as a cell that the chip does not have.
+-- Numbers that ask for nothing are refused like a cell that the chip does not have.
 unfoldable pub answerOf : Machine → Request → ℕ → TransactionResult
 answerOf m (Known a) room = writerAnswer m a room
 answerOf m Unknown room = Refused 5

@@ -9,6 +9,7 @@ use super::words::Given;
 use super::{image, source};
 use std::ffi::OsString;
 use std::fs;
+use swarmtempo::describe::date;
 use swarmtempo::{ClockError, Machine, Seconds};
 
 const FORMS: &str =
@@ -100,10 +101,10 @@ impl Wish {
                 machine.write_cell(cell(number)?, byte)?;
                 format!("cell {number}: ${byte:02X}")
             }
-            Wish::Seconds => format!("seconds: {}", machine.seconds()?.0),
+            Wish::Seconds => dated(machine.seconds()?),
             Wish::SetSeconds(seconds) => {
                 machine.set_seconds(Seconds(seconds))?;
-                format!("seconds: {seconds}")
+                dated(Seconds(seconds))
             }
             Wish::Protect(on) => {
                 machine.protect(on)?;
@@ -111,6 +112,11 @@ impl Wish {
             }
         })
     }
+}
+
+/// Seconds, and the date that they are.
+fn dated(seconds: Seconds) -> String {
+    format!("seconds: {} ({})", seconds.0, date(seconds.0))
 }
 
 /// A refusal in words: the image is as it was.

@@ -31,11 +31,14 @@ fn written_and_read_back() {
         let before = folder.get("state");
         assert_eq!(told(&format!("state read {cell}")), format!("cell {cell}: $AA\n"));
         assert_eq!(told("state read 0x03"), "cell 3: $12\n");
-        assert_eq!(told("state seconds"), "seconds: 0\n");
+        assert_eq!(told("state seconds"), "seconds: 0 (1904-01-01 00:00:00)\n");
         // A read leaves the file as it is.
         assert_eq!(folder.get("state"), before);
-        assert_eq!(told("state set-seconds 2000000000s"), "swarmtempo: seconds: 2000000000\n");
-        assert_eq!(told("state seconds"), "seconds: 2000000000\n");
+        assert_eq!(
+            told("state set-seconds 2000000000s"),
+            "swarmtempo: seconds: 2000000000 (1967-05-18 03:33:20)\n"
+        );
+        assert_eq!(told("state seconds"), "seconds: 2000000000 (1967-05-18 03:33:20)\n");
         assert_eq!(told("state protect on"), "swarmtempo: write-protect: on\n");
         let before = folder.get("state");
         for write in ["write 3 $55", "write 3 18", "set-seconds 5"] {
@@ -106,6 +109,29 @@ fn refusals() {
         assert!(err.contains(says), "{words}: {err}");
         assert_eq!((folder.names(), folder.get("first"), folder.get("down")), before, "{words}");
     }
+}
+
+/// A link is followed; a file that may not be written, and a folder, are refused.
+#[test]
+fn places() {
+    let folder = Folder::new("clock_places");
+    let file = folder.put("state", Machine::fresh(Chip::First).image());
+    std::os::unix::fs::symlink("state", folder.path("link")).expect("a link");
+    let (status, _, err) = run(&folder, "link write 3 7");
+    assert_eq!(status, 0, "{err}");
+    assert!(fs::symlink_metadata(folder.path("link")).expect("there").is_symlink());
+    let machine = Machine::from_image(&folder.get("state")).expect("accepted");
+    assert_eq!(machine.state().cells[3], 7);
+    fs::set_permissions(&file, fs::Permissions::from_mode(0o440)).expect("a mode");
+    let before = folder.get("state");
+    let (status, _, err) = run(&folder, "state write 3 8");
+    assert_eq!((status, folder.get("state")), (74, before), "{err}");
+    assert!(err.contains("read-only"), "{err}");
+    let (status, _, err) = run(&folder, "state write 3 8 --save missing/new");
+    assert_eq!(status, 74, "{err}");
+    let (status, _, err) = run(&folder, ". write 3 8");
+    assert_eq!(status, 64, "{err}");
+    assert_eq!(folder.names(), ["link", "state"]);
 }
 
 #[test]
