@@ -159,7 +159,36 @@ static void null_buffers(const uint8_t *state, size_t state_len, const uint8_t *
     uint8_t answered = 81, answer = 82;
     if (swarmtempo_keyboard_fresh(NULL, 0, 3) != SWARMTEMPO_REFUSED_ROOM) fail("a fresh keyboard at NULL");
     if (swarmtempo_keyboard_wait(NULL, 0, 1, &answered, &answer) != SWARMTEMPO_REFUSED_STATE || answered || answer) fail("a keyboard at NULL");
-    calls += 7;
+    if (swarmtempo_transaction(NULL, 0, SWARMTEMPO_READ_CELL, 0, 0, NULL, 0, &written) != SWARMTEMPO_REFUSED_STATE || written) fail("a transaction at NULL");
+    written = 83;
+    if (swarmtempo_transaction(state, state_len, SWARMTEMPO_READ_CELL, 0, 0, NULL, 0, &written) != SWARMTEMPO_REFUSED_ROOM || written) fail("a transaction to NULL");
+    calls += 9;
+}
+
+/* Transactions of each kind with rooms about their length, images whole and cut. */
+static void transactions(const uint8_t *state, size_t state_len)
+{
+    static const uint8_t blank[704];
+    for (uint8_t ask = 0; ask <= 6; ask++)
+        for (uint32_t number = 0; number <= 300; number += 1 + number / 4 * 5)
+            for (size_t room = 0; room <= sizeof blank; room += room % 88 > 80 || !room ? 1 : 7)
+                for (int at_end = 0; at_end < 2; at_end++) {
+                    uint64_t counts[3] = {~0ull, 77, ~0ull};
+                    size_t len = room % 5 == 4 ? state_len - 1 : state_len;
+                    place(&image, state, len, at_end);
+                    place(&answers, blank, room, at_end);
+                    memset(answers.at, 0xC3, room);
+                    uint8_t stop = swarmtempo_transaction(image.at, len, ask, number, 0x5A, answers.at, room, &counts[1]);
+                    calls++;
+                    guards_hold(&image);
+                    guards_hold(&answers);
+                    if (counts[0] != ~0ull || counts[2] != ~0ull) fail("a byte beside the count was written");
+                    if (memcmp(image.at, state, len)) fail("the image was written");
+                    if ((len != state_len) != (stop == SWARMTEMPO_REFUSED_STATE)) fail("an image of another length");
+                    if (counts[1] > room || (stop && counts[1]) || (!stop && counts[1] < SWARMTEMPO_WRITE_LEN)) fail("a transaction's count");
+                    for (size_t i = counts[1]; i < room; i++)
+                        if (answers.at[i] != 0xC3) fail("bytes past the transaction changed");
+                }
 }
 
 /* Sheets of every length, sound and cut, with every room. */
@@ -238,6 +267,7 @@ int main(int argc, char **argv)
         size_t state_len = (size_t)swarmtempo_image_len(cells[i]);
         if (swarmtempo_fresh(state, sizeof state, cells[i])) fail("fresh");
         null_buffers(state, state_len, items, len);
+        transactions(state, state_len);
         runs(state, state_len, items, len, rounds);
     }
     printf("%lu calls\n", calls);

@@ -141,7 +141,7 @@ static void version(void)
     expect(strcmp(numbers, SWARMTEMPO_VERSION) == 0, "numbers of the version");
 }
 
-/* Words for every number that a run or an answer has, all different; the same ones for all others. */
+/* Words for every number of a refusal, 0 to 11, all different; the same ones for all others. */
 static void refusals(void)
 {
     const char *unknown = swarmtempo_refusal(255);
@@ -149,8 +149,8 @@ static void refusals(void)
     for (unsigned i = 0; i < 256; i++) {
         const char *words = swarmtempo_refusal((uint8_t)i);
         expect(words != NULL && *words, "words");
-        expect((strcmp(words, unknown) == 0) == (i > SWARMTEMPO_REFUSED_RETIRED && i != SWARMTEMPO_REFUSED_KEY), "numbers that have words");
-        for (unsigned j = 0; j < i && j <= SWARMTEMPO_REFUSED_RETIRED; j++)
+        expect((strcmp(words, unknown) == 0) == (i > SWARMTEMPO_REFUSED_KEY), "numbers that have words");
+        for (unsigned j = 0; j < i && j <= SWARMTEMPO_REFUSED_KEY; j++)
             expect(strcmp(words, swarmtempo_refusal((uint8_t)j)) != 0, "words of two numbers");
     }
 }

@@ -139,6 +139,47 @@ uint8_t swarmtempo_fresh(uint8_t *image, size_t image_len, uint32_t cells);
 uint8_t swarmtempo_convert(const uint8_t *list, size_t list_len, uint8_t *out, size_t out_len,
                            uint64_t *written, uint64_t *count);
 
+/*
+ * ---- Transactions with the clock chip, written as items.
+ */
+/* What is asked for. */
+#define SWARMTEMPO_WRITE_CELL 1u    /* number: the cell; value: the byte */
+#define SWARMTEMPO_READ_CELL 2u     /* number: the cell */
+#define SWARMTEMPO_WRITE_SECONDS 3u /* number: the seconds byte, 0 (lowest) to 3; value: the byte */
+#define SWARMTEMPO_READ_SECONDS 4u  /* number: the seconds byte */
+#define SWARMTEMPO_WRITE_PROTECT 5u /* value: 0x80 sets write-protect, 0 clears it; its bit 7 alone counts */
+
+/* Bytes of a transaction, and its items: of cells 20 to 255 (FAR), and of all else. */
+#define SWARMTEMPO_WRITE_LEN 396
+#define SWARMTEMPO_WRITE_ITEMS 36
+#define SWARMTEMPO_READ_LEN 487
+#define SWARMTEMPO_READ_ITEMS 45
+#define SWARMTEMPO_WRITE_FAR_LEN 572
+#define SWARMTEMPO_WRITE_FAR_ITEMS 52
+#define SWARMTEMPO_READ_FAR_LEN 663
+#define SWARMTEMPO_READ_FAR_ITEMS 61
+/* Of the longest. */
+#define SWARMTEMPO_TRANSACTION_MAX 663
+#define SWARMTEMPO_TRANSACTION_ITEMS_MAX 61
+
+/* The clock's enable line is down: a transaction is under way. */
+#define SWARMTEMPO_REFUSED_ENABLE 10u
+
+/*
+ * Writes the items of one whole transaction with the clock chip of the state in `image` to `out`, each
+ * wait 0 VIA ticks; `*written` is their number of bytes. The image is only read. A run of them on this
+ * image, with SWARMTEMPO_ANSWER_LEN bytes for each item, ends with 0, does what was asked for unless
+ * write-protect forbids it, and changes nothing else but bits 0 to 2 of port B's outputs and directions.
+ * swarmtempo_transaction_byte takes the byte of a read from the answers.
+ *
+ * Returns 0, or the first of: 7 where no accepted state has this image; 5 where the chip has no such cell or
+ * seconds byte, or `ask` is none of the five; 10 where enable is down; 6 where out_len is too little. On
+ * these nothing is written and `*written` is 0. `value` is not looked at in a read, `number` is not where
+ * write-protect is written. Bytes past those written keep their contents.
+ */
+uint8_t swarmtempo_transaction(const uint8_t *image, size_t image_len, uint8_t ask, uint32_t number, uint8_t value,
+                               uint8_t *out, size_t out_len, uint64_t *written);
+
 /* Microseconds as VIA ticks, rounded up: 12,000 gives 9,401. One wait takes 65,535 ticks at most. */
 uint32_t swarmtempo_ticks_of_micros(uint32_t micros);
 
@@ -361,6 +402,21 @@ static inline uint8_t swarmtempo_answer_lines(const uint8_t *at)
 static inline uint8_t swarmtempo_answer_sel(const uint8_t *at)
 {
     return swarmtempo_answer_done(at) ? at[7] : 0;
+}
+
+/*
+ * The byte that a read transaction got, of `items` answers, SWARMTEMPO_READ_ITEMS or
+ * SWARMTEMPO_READ_FAR_ITEMS of them: bit 0 of its eight looks, the high bit first. The looks are every
+ * third item of the 25 at the end.
+ */
+static inline uint8_t swarmtempo_transaction_byte(const uint8_t *answers, size_t items)
+{
+    uint8_t byte = 0;
+    for (size_t k = 0; k < 8; k++) {
+        const uint8_t *at = answers + (items - 24 + 3 * k) * SWARMTEMPO_ANSWER_LEN;
+        byte = (uint8_t)(byte << 1 | (swarmtempo_answer_value(at) & 1));
+    }
+    return byte;
 }
 
 #ifdef __cplusplus

@@ -13,6 +13,7 @@ use clock_spec::Chip;
 use units::Micros;
 
 pub mod keyboard_calls;
+pub mod transaction_calls;
 
 // The numbers of cells that a machine can be made with.
 const FIRST: u32 = clock_command::FIRST_CELLS as u32;

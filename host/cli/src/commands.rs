@@ -141,7 +141,7 @@ pub const GROUPS: [Group; 1] = [Group {
 }];
 
 /// All commands.
-pub const COMMANDS: [Command; 19] = [
+pub const COMMANDS: [Command; 20] = [
     Command {
         name: "run",
         operand: "LIST",
@@ -245,6 +245,26 @@ pub const COMMANDS: [Command; 19] = [
         about: "Shows the state in an image that run --save wrote, all cells of its clock chip too. An image of no accepted state is refused\n\
                 with the first field that is out of its range: its name, offset and value.",
         flags: &[],
+    },
+    Command {
+        name: "clock",
+        operand: "IMAGE ASK..",
+        brief: "reads or writes the clock of a state image",
+        about: "Asks the clock chip of an image, by the transactions that a bench would run:\n\
+                \n  \
+                read CELL             shows a cell, 0 to 19 or 0 to 255\n  \
+                write CELL BYTE       writes one\n  \
+                seconds               shows the seconds, counted from 1 January 1904\n  \
+                set-seconds SECONDS   writes them\n  \
+                protect on, or off    sets or clears write-protect\n\
+                \n\
+                Numbers are decimal, or hexadecimal as $AA or 0xAA. What is written takes the place of IMAGE,\n\
+                whole or not at all; read and seconds leave it as it is. Beside what is asked for, a write changes\n\
+                nothing of the state but bits 0 to 2 of port B's outputs and directions.\n\
+                \n\
+                Exit status: 2 write-protect is set, 5 the chip has no such cell, 7 the image is none of an\n\
+                accepted state, 10 the clock's enable line is down; then nothing is written.",
+        flags: &[Flag { name: "--save", value: "FILE", help: "writes the image to FILE and leaves IMAGE as it is" }],
     },
     Command {
         name: "keyboard",
@@ -400,7 +420,8 @@ pub const STATUSES: &str = "\
 Exit status of run: 0 at the end of the list, 1 a record is cut, 6 no room for an answer, 7 the image
 is none of an accepted state; with --strict the number of the first refusal. Of convert: 1 a
 record is cut. Of cut and join: 1 a record is cut. Of touches: 1 two captures do not agree, or a
-record is cut. Of sheet: 1 a sheet is broken, 2 a setting is not set, 6 too little room. Of all commands: 64 wrong words, 65 an error in a
+record is cut. Of clock: 2 write-protect is set, 5 no such
+cell, 10 enable is down. Of sheet: 1 a sheet is broken, 2 a setting is not set, 6 too little room. Of all commands: 64 wrong words, 65 an error in a
 text or a file of another kind, 74 a file cannot be read or written.";
 
 /// The group of a word.

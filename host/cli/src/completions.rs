@@ -25,7 +25,9 @@ enum Values {
 
 fn values(name: &str) -> Values {
     match name.trim_matches(['[', ']', '.']) {
-        "CAPTURE" | "EVENTS" | "FILE" | "LIST" | "OLD" | "SHEET" | "TEXT" => Values::Files,
+        "CAPTURE" | "EVENTS" | "FILE" | "IMAGE ASK" | "LIST" | "OLD" | "SHEET" | "TEXT" => {
+            Values::Files
+        }
         "WHEN" => Values::Words(vec!["always", "never", "auto"]),
         "CELLS" => Values::Words(vec!["20", "256"]),
         "SHELL" => Values::Words(SHELLS.to_vec()),

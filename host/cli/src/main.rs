@@ -2,6 +2,7 @@
 
 mod assemble;
 mod bench;
+mod clock;
 mod commands;
 mod completions;
 mod conflicts;
@@ -113,6 +114,7 @@ fn act(command: &str, given: &Given) -> Result<u8, Failure> {
             let machine = image::read(&input, source::open(&input)?)?;
             print(&describe::image(&machine)).map(|()| 0)
         }
+        "clock" => clock::clock(given),
         "keyboard" => keyboard::keyboard(given),
         "sheet get" => sheet::get(given),
         "sheet list" => sheet::list(given),

@@ -8,7 +8,7 @@ use std::process::Command;
 use swarmtempo::text::assemble;
 use swarmtempo::{Chip, Machine, CHUNK_LEN};
 
-const COMMANDS: [&str; 19] = [
+const COMMANDS: [&str; 20] = [
     "run",
     "asm",
     "disasm",
@@ -17,6 +17,7 @@ const COMMANDS: [&str; 19] = [
     "join",
     "touches",
     "image",
+    "clock",
     "keyboard",
     "sheet get",
     "sheet list",

@@ -184,7 +184,7 @@ fn images() {
 fn the_program() {
     let folder = Folder::new("robust");
     folder.put("nothing", b"");
-    let commands: [&[&str]; 22] = [
+    let commands: [&[&str]; 24] = [
         &["run", "file"],
         &["run", "file", "--text"],
         &["run", "file", "--records", "--vcd", "vcd", "--quiet"],
@@ -203,6 +203,8 @@ fn the_program() {
         &["sheet", "get", "7", "--bench", "file"],
         &["sheet", "get", "7", "--text", "--house", "file"],
         &["sheet", "list"],
+        &["clock", "file", "read", "3"],
+        &["clock", "-", "write", "3", "$AA", "--save", "out"],
         &["keyboard", "--save", "out"],
         &["keyboard", "--image", "file", "nothing"],
         &["sheet", "make", "file", "-o", "out"],
@@ -230,6 +232,9 @@ fn the_program() {
         let told = String::from_utf8_lossy(&folder.get("told")).into_owned();
         assert!(!told.contains("panicked"), "{words:?} on {file}: {told}");
         let status = ended.code().unwrap_or(-1);
-        assert!([0, 1, 2, 3, 4, 5, 6, 7, 8, 9, 65].contains(&status), "{words:?} {status}: {told}");
+        assert!(
+            [0, 1, 2, 3, 4, 5, 6, 7, 8, 9, 10, 65].contains(&status),
+            "{words:?} {status}: {told}"
+        );
     });
 }

@@ -15,6 +15,7 @@ mod keyboard;
 mod machine;
 mod run;
 pub mod sheet;
+mod transaction;
 mod via;
 
 pub use clock::{
@@ -29,6 +30,7 @@ pub use keyboard::{
 };
 pub use machine::{Machine, Wires};
 pub use run::{frame, Run};
+pub use transaction::{transaction, ENABLE_DOWN};
 pub use via::{Timer1, Timer2, Via};
 
 /// Refusal and stop numbers.

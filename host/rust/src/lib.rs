@@ -24,6 +24,8 @@
 //!   memory: [`Chunks`].
 //! - Runs: [`Machine::step`] for one item, [`Machine::run_items`] for items with their answers,
 //!   [`Machine::run`] and [`Machine::run_in`] for answers as bytes, which [`answers`] reads.
+//! - The clock, with no word of its wires: [`Machine::read_cell`], [`Machine::write_cell`],
+//!   [`Machine::seconds`], [`Machine::set_seconds`], [`Machine::protect`]; as items: [`Machine::transaction`].
 //! - States: [`Machine::image`] to save and [`Machine::from_image`] to restore; [`State`] to look at.
 //! - For people: [`table`], [`vcd`], [`describe`], and `Display` of nearly everything.
 //! - Captures from before SN retired on the drives' own registers: [`convert`].
@@ -45,6 +47,7 @@ mod address;
 mod answer;
 mod chip;
 mod chunks;
+mod clock;
 mod command;
 mod convert;
 pub mod describe;
@@ -74,6 +77,7 @@ pub use answer::{
 };
 pub use chip::Chip;
 pub use chunks::{pieces, Chunks, Piece, Pieces, CHUNK_LEN};
+pub use clock::{Ask, ClockError, TRANSACTION_MAX};
 pub use command::{Command, Target};
 pub use convert::{convert, convert_in, Conversion};
 pub use error::ParseError;

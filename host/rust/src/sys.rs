@@ -47,6 +47,16 @@ extern "C" {
         out_len: usize,
         written: *mut u64,
     ) -> u8;
+    fn swarmtempo_transaction(
+        image: *const c_uchar,
+        image_len: usize,
+        ask: u8,
+        number: u32,
+        value: u8,
+        out: *mut c_uchar,
+        out_len: usize,
+        written: *mut u64,
+    ) -> u8;
     fn swarmtempo_keyboard_len() -> u64;
     fn swarmtempo_keyboard_fresh(image: *mut c_uchar, image_len: usize, model: u8) -> u8;
     fn swarmtempo_keyboard_command(
@@ -120,6 +130,35 @@ pub fn ticks_of_micros(micros: u32) -> u32 {
 pub fn fresh(image: &mut [u8], cells: u32) -> u8 {
     // SAFETY: a slice that lives through the call, and a number.
     unsafe { swarmtempo_fresh(image.as_mut_ptr(), image.len(), cells) }
+}
+
+/// What a writer reports, as numbers.
+#[derive(Clone, Copy, Debug, PartialEq, Eq)]
+pub struct Transaction {
+    /// 0, or 7, 5, 10 or 6.
+    pub refusal: u8,
+    /// Bytes written.
+    pub written: u64,
+}
+
+/// Writes a transaction with the clock of the state of an image, asked for by numbers.
+pub fn transaction(image: &[u8], ask: u8, number: u32, value: u8, out: &mut [u8]) -> Transaction {
+    let mut written = u64::MAX;
+    // SAFETY: two slices, of which the first is only read, and a number that live through the call and
+    // do not overlap.
+    let refusal = unsafe {
+        swarmtempo_transaction(
+            image.as_ptr(),
+            image.len(),
+            ask,
+            number,
+            value,
+            out.as_mut_ptr(),
+            out.len(),
+            &raw mut written,
+        )
+    };
+    Transaction { refusal, written }
 }
 
 /// What a conversion reports, as numbers.

@@ -7,10 +7,11 @@ use std::fmt::{Debug, Display};
 use std::str::FromStr;
 use swarmtempo::text::{LineError, TextError};
 use swarmtempo::{
-    answers, items, sys, table, vcd, Address, Answer, Chip, DiskLine, Drive, InLine, Item,
-    KeyboardFull, Lines, List, Machine, Micros, NoAnswer, ParseError, Phase, Refusal, Register,
-    Seconds, Seen, SenseRegister, Setting, State, TickCount, Timed, TooLong, UnknownRefusal,
-    ViaTicks, ANSWER_LEN, INQUIRY_TICKS, KEYBOARD_LEN, SETTING_MAX, TICKS_PER_SECOND,
+    answers, items, sys, table, vcd, Address, Answer, Ask, Chip, ClockError, DiskLine, Drive,
+    InLine, Item, KeyboardFull, Lines, List, Machine, Micros, NoAnswer, ParseError, Phase, Refusal,
+    Register, Seconds, Seen, SenseRegister, Setting, State, TickCount, Timed, TooLong,
+    UnknownRefusal, ViaTicks, ANSWER_LEN, INQUIRY_TICKS, KEYBOARD_LEN, SETTING_MAX,
+    TICKS_PER_SECOND, TRANSACTION_MAX,
 };
 
 const NOW: ViaTicks = ViaTicks(0);
@@ -340,10 +341,13 @@ fn states_in_words() {
 
 #[test]
 fn errors_are_errors() {
-    let errors: [Box<dyn Error + Send + Sync>; 7] = [
+    let errors: [Box<dyn Error + Send + Sync>; 10] = [
         Box::new(Refusal::Range),
         Box::new(UnknownRefusal(77)),
         Box::new(NoAnswer),
+        Box::new(ClockError::Range),
+        Box::new(ClockError::Enable),
+        Box::new(ClockError::Protected),
         Box::new(TooLong(TickCount(65_536))),
         Box::new("5".parse::<ViaTicks>().unwrap_err()),
         Box::new("5 SE".parse::<Timed>().unwrap_err()),
@@ -407,6 +411,31 @@ fn the_header_has_the_same_numbers() {
         let found = sys::sheet_get(bench, house, 0);
         assert_eq!(number_of(&format!("SHEET_{name}")), u32::from(found.sheet));
     }
+    for (name, ask) in [
+        ("WRITE_CELL", Ask::WriteCell(0, 0)),
+        ("READ_CELL", Ask::ReadCell(0)),
+        ("WRITE_SECONDS", Ask::WriteSeconds(0, 0)),
+        ("READ_SECONDS", Ask::ReadSeconds(0)),
+        ("WRITE_PROTECT", Ask::WriteProtect(0)),
+    ] {
+        assert_eq!(number_of(name), u32::from(ask.numbers().0));
+    }
+    let mut longest = (0, 0);
+    for (name, ask) in [
+        ("WRITE", Ask::WriteCell(19, 0)),
+        ("READ", Ask::ReadCell(19)),
+        ("WRITE_FAR", Ask::WriteCell(20, 0)),
+        ("READ_FAR", Ask::ReadCell(20)),
+    ] {
+        let list = Machine::fresh(Chip::Later).transaction(ask).expect("enable is up");
+        let long = (list.as_bytes().len(), list.iter().count());
+        assert_eq!(number_of(&format!("{name}_LEN")) as usize, long.0);
+        assert_eq!(number_of(&format!("{name}_ITEMS")) as usize, long.1);
+        longest = longest.max(long);
+    }
+    assert_eq!(number_of("TRANSACTION_MAX") as usize, longest.0);
+    assert_eq!(number_of("TRANSACTION_ITEMS_MAX") as usize, longest.1);
+    assert_eq!(TRANSACTION_MAX, longest.0);
     // Every kind has its writer.
     for kind in Item::KINDS {
         let letters = std::str::from_utf8(kind).unwrap().to_lowercase();
@@ -418,8 +447,12 @@ fn the_header_has_the_same_numbers() {
 fn refusals_have_the_same_numbers_and_words_in_c() {
     let words = include_str!("../../c/words.c");
     let cases = words.lines().filter(|line| line.trim_start().starts_with("case "));
-    // None, those of lists and images, and the keyboard's.
-    assert_eq!(cases.count(), 1 + Refusal::ALL.len() + 1);
+    // None, those of lists and images, the keyboard's, and the writer's own.
+    assert_eq!(cases.count(), 1 + Refusal::ALL.len() + 2);
+    let enable = ClockError::Enable;
+    assert_eq!(enable.number(), u8::try_from(number_of("REFUSED_ENABLE")).ok());
+    assert!(words.contains(&format!("case SWARMTEMPO_REFUSED_ENABLE: return \"{enable}\";")));
+    assert_eq!(ClockError::Range.number(), Some(Refusal::Range.number()));
     assert_eq!(number_of("REFUSED_KEY"), u32::from(KeyboardFull::NUMBER));
     assert!(words.contains(&format!("case SWARMTEMPO_REFUSED_KEY: return \"{KeyboardFull}\";")));
     for refusal in Refusal::ALL {

@@ -8,6 +8,8 @@
 mod laws;
 #[path = "differential/touches.rs"]
 mod touches;
+#[path = "differential/transactions.rs"]
+mod transactions;
 
 use swarmtempo::text::disassemble;
 use swarmtempo::{sys, Address, Chip, DiskLine, Machine, Register};
