@@ -27,6 +27,7 @@ use disk_spec::Drives;
 use item_spec::Item;
 use machine_pins::Board;
 use machine_spec::Machine;
+use units::WaitTicks;
 use via::Ports;
 
 // What an item changes on the board or in the sense registers: at most one thing.
@@ -73,9 +74,9 @@ pub fn whole_machine(b: Board, k: Core, cells: [u8; 256], d: Drives, sense: [u8;
     }
 }
 
-// The item's wait, in VIA ticks.
-pub fn wait_of(item: Item) -> u16
-    ensures { λ r. ⌜ r ≡ itemWait item ⌝ }
+// The item's wait.
+pub fn wait_of(item: Item) -> WaitTicks
+    ensures { λ r. ⌜ r .0 ≡ itemWait item ⌝ }
 {
     match item {
         Item::ReadVia { wait, .. } => wait,

@@ -56,14 +56,14 @@ pub fn run_accepted(m: Machine, list: &[u8], answers: &mut [u8]) -> Ran
         let mut answer = item_record::no(item_plain::refusal(d));
         if let Decoded::Done(item) = d {
             let before = machine_pins::watched(board);
-            let ticks = machine_act::wait_of(item);
-            if board.via.only_counts(ticks) {
-                board.via = board.via.count(ticks);
+            let wait = machine_act::wait_of(item);
+            if board.via.only_counts(wait) {
+                board.via = board.via.count(wait);
             } else {
-                board.via = board.via.wait(ticks);
+                board.via = board.via.wait(wait);
             }
             if disk_drives::busy(drives) {
-                drives = disk_drives::wait(drives, ticks);
+                drives = disk_drives::wait(drives, wait);
             }
             let a = machine_act::act(board, core, drives, item, &sense, &mut cells);
             let disk = a.disk;
