@@ -35,9 +35,9 @@ keyboard m =
     record {
       alone = λ w l a. quiet-step m (Pulse w l) a (pulse-quiet w l);
       byteIn = λ ws x n z e h.
-        let q = eight-pulses (m .via) .shiftIn ws x n z e h in
-        (pulses-via m ws (bitsOf x) ∙ q .0, pulses-values m ws (bitsOf x) ∙ q .1);
+          let q = eight-pulses (m .via) .shiftIn ws x n z e h in
+          (pulses-via m ws (bitsOf x) ∙ q .0, pulses-values m ws (bitsOf x) ∙ q .1);
       byteOut = λ ws ls n k z e h.
-        let q = eight-pulses (m .via) .shiftOut ws ls n k z e h in
-        (pulses-via m ws ls ∙ q .0, pulses-values m ws ls ∙ q .1);
+          let q = eight-pulses (m .via) .shiftOut ws ls n k z e h in
+          (pulses-via m ws ls ∙ q .0, pulses-values m ws ls ∙ q .1);
     }

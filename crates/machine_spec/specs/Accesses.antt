@@ -29,5 +29,5 @@ iwmRead k m =
 -- KC: in shift out register 10's bit 7 is "the answer's value"; elsewhere it is 0.
 unfoldable pub keyboardPulse : ℕ → Machine → Did
 keyboardPulse level m =
-    let a = pulseOf level (m .via) in
-    record { machine = withVia m (a .via); value = a .value }
+    let p = pulseOf level (m .via) in
+    record { machine = withVia m (p .via); value = p .value }
