@@ -19,6 +19,12 @@ fn kc(b: &mut Bench, level: u8) -> [u8; 4] {
     b.ok(&record(b"KC", 0, &[level]))
 }
 
+fn pulses(b: &mut Bench, count: usize, level: u8) {
+    for _ in 0..count {
+        kc(b, level);
+    }
+}
+
 /// A machine in a mode, with this byte in register 10.
 fn in_mode(acr: u8, sr: u8) -> Bench {
     let mut b = Bench::new();
@@ -80,16 +86,16 @@ fn other_modes_do_nothing() {
 #[test]
 fn in_and_out_share_the_count() {
     let mut b = in_mode(IN, 0);
-    (0..3).for_each(|_| drop(kc(&mut b, 1)));
+    pulses(&mut b, 3, 1);
     for acr in [0x00, 0x10, 0x04, OUT] {
         b.wr(0, via(ACR), acr);
         assert_eq!(b.0.via.pulses, 3, "a change of mode keeps it");
         if acr != OUT {
-            (0..9).for_each(|_| drop(kc(&mut b, 1)));
+            pulses(&mut b, 9, 1);
             assert_eq!((b.0.via.pulses, b.0.via.flags, b.0.via.sr), (3, 0, 7), "no pulse counts");
         }
     }
-    (0..4).for_each(|_| drop(kc(&mut b, 0)));
+    pulses(&mut b, 4, 0);
     assert_eq!((b.0.via.flags, b.0.via.pulses), (0, 7));
     kc(&mut b, 0);
     assert_eq!((b.0.via.flags, b.0.via.pulses, b.0.via.sr), (SHIFT, 0, 0xE0));
@@ -99,7 +105,7 @@ fn in_and_out_share_the_count() {
 fn register_10_starts_the_count_anew() {
     for write in [false, true] {
         let mut b = in_mode(IN, 0);
-        (0..8 + 3).for_each(|_| drop(kc(&mut b, 1)));
+        pulses(&mut b, 8 + 3, 1);
         assert_eq!((b.0.via.flags, b.0.via.pulses), (SHIFT, 3));
         if write {
             b.wr(0, via(SR), 0x55);
@@ -107,7 +113,7 @@ fn register_10_starts_the_count_anew() {
             assert_eq!(b.value(SR), 0xFF);
         }
         assert_eq!((b.0.via.flags, b.0.via.pulses), (0, 0));
-        (0..7).for_each(|_| drop(kc(&mut b, 0)));
+        pulses(&mut b, 7, 0);
         assert_eq!(b.0.via.flags, 0);
         kc(&mut b, 0);
         assert_eq!((b.0.via.flags, b.0.via.sr), (SHIFT, 0));
@@ -119,14 +125,14 @@ fn register_10_starts_the_count_anew() {
 fn other_registers_keep_the_count() {
     for register in (0..16).filter(|&register| register != SR) {
         let mut b = in_mode(IN, 0);
-        (0..8 + 5).for_each(|_| drop(kc(&mut b, 1)));
+        pulses(&mut b, 8 + 5, 1);
         b.rd(0, via(register));
         assert_eq!((b.0.via.flags, b.0.via.pulses), (SHIFT, 5), "register {register} read");
         b.wr(0, via(register), if register == ACR { IN } else { SHIFT });
         let flags = if register == IFR { 0 } else { SHIFT };
         assert_eq!((b.0.via.flags, b.0.via.pulses), (flags, 5), "register {register} written");
         b.wr(0, via(IFR), 0x7F);
-        (0..2).for_each(|_| drop(kc(&mut b, 1)));
+        pulses(&mut b, 2, 1);
         assert_eq!(b.0.via.flags, 0);
         kc(&mut b, 1);
         assert_eq!(b.0.via.flags, SHIFT);
@@ -136,14 +142,14 @@ fn other_registers_keep_the_count() {
 #[test]
 fn reset_and_power_start_the_count_anew() {
     let mut b = in_mode(IN, 0x40);
-    (0..3).for_each(|_| drop(kc(&mut b, 1)));
+    pulses(&mut b, 3, 1);
     let mut cut = b.clone();
     b.ok(&record(b"RS", 0, &[]));
     assert_eq!((b.0.via.pulses, b.0.via.sr, b.0.via.acr), (0, 0x07, 0), "register 10 is kept");
     cut.ok(&record(b"PW", 0, &[0; 4]));
     assert_eq!((cut.0.via.pulses, cut.0.via.sr), (0, 0));
     b.wr(0, via(ACR), IN);
-    (0..7).for_each(|_| drop(kc(&mut b, 1)));
+    pulses(&mut b, 7, 1);
     assert_eq!(b.0.via.flags, 0);
 }
 
@@ -171,7 +177,8 @@ fn a_pulse_moves_no_wire_of_the_clock() {
         b.byte(0x41);
         b.bit(1);
         let (phase, wires) = (b.0.clock.phase.clone(), b.0.wires());
-        (0..9).for_each(|i| drop(kc(&mut b, i & 1)));
+        pulses(&mut b, 5, 1);
+        pulses(&mut b, 4, 0);
         assert_eq!((&b.0.clock.phase, b.0.wires()), (&phase, wires));
     }
 }
