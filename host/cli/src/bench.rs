@@ -286,6 +286,22 @@ fn summary(word: &str, digits: usize, ratios: &[(&str, f64)]) -> String {
     )
 }
 
+/// The library's quickest time for each list of [`PAIRS`], in seconds. The two of a pair take turns.
+fn paired(records: usize) -> Vec<(&'static str, f64)> {
+    let mut times = Vec::new();
+    for lists in pairs(records).as_chunks::<2>().0 {
+        let mut runs = lists.each_ref().map(|(name, list)| Run::new(name, list, records));
+        let mut quickest = [Duration::MAX; 2];
+        for _ in 0..ROUNDS {
+            for (run, quickest) in runs.iter_mut().zip(&mut quickest) {
+                *quickest = timed(|| run.library(Chip::First)).min(*quickest);
+            }
+        }
+        times.extend(lists.iter().zip(quickest).map(|(list, time)| (list.0, time.as_secs_f64())));
+    }
+    times
+}
+
 /// A line for scripts: of each pair, the library's figure for a value of an MW by that for its WR.
 fn by_value(figures: &[(&str, f64)]) -> String {
     let of = |name: &str| figures.iter().find(|r| r.0 == name).map_or(f64::NAN, |r| r.1);
@@ -313,7 +329,7 @@ pub fn bench(records: usize) -> Result<(), Failure> {
         "{:<18} {:>17} {each:>21} {each:>21} {:>7} {each:>23} {:>10}\n",
         "list", "a second", "ratio", "by 20"
     ))?;
-    let (mut ratios, mut by_cells, mut figures) = (Vec::new(), Vec::new(), Vec::new());
+    let (mut ratios, mut by_cells) = (Vec::new(), Vec::new());
     for (name, list) in lists(records) {
         let [library, model, later] = best(name, &list, records)
             .map(|time: Duration| time.as_secs_f64() * 1e9 / records as f64);
@@ -324,12 +340,11 @@ pub fn bench(records: usize) -> Result<(), Failure> {
         ))?;
         ratios.push((name, ratio));
         by_cells.push((name, by_first));
-        figures.push((name, library));
     }
     print("ratio: time of the library by time of the model; below 1 the library is quicker\n")?;
     print("256 cells by 20: time of the library with 256 cells by its time with 20\n")?;
     print("x64: a record is a value; values: the library's time for a value of an MW by that for its WR\n")?;
-    print(&by_value(&figures))?;
+    print(&by_value(&paired(records)))?;
     print(&summary("cells", 3, &by_cells))?;
     print(&summary("summary", 2, &ratios))
 }
