@@ -756,6 +756,19 @@ fn some_case(seed: u64) -> Case {
     Case { image, parts, room }
 }
 
+/// A sound MW of two values or more, without one of them.
+fn without_value(part: &[u8], value: usize) -> Option<Vec<u8>> {
+    let count = part.len().checked_sub(11)?;
+    if part[2..4] != *b"MW" || count < 2 || usize::from(part[10]) != count || value >= count {
+        return None;
+    }
+    let mut less = part.to_vec();
+    less.remove(11 + value);
+    less[0] -= 1;
+    less[10] -= 1;
+    Some(less)
+}
+
 /// The smallest case found that still differs.
 fn shrink(mut case: Case, differs: impl Fn(&Case) -> bool) -> Case {
     let later = case.image.get(3) == Some(&b'X');
@@ -778,6 +791,19 @@ fn shrink(mut case: Case, differs: impl Fn(&Case) -> bool) -> Case {
                 at += 1;
             }
             width /= 2;
+        }
+        // Values left out of an MW, one by one.
+        let places = (0..case.parts.len()).flat_map(|part| (0..64).map(move |value| (part, value)));
+        for (at, value) in places {
+            if better.is_none() {
+                better = without_value(&case.parts[at], value)
+                    .map(|part| {
+                        let mut less = case.clone();
+                        less.parts[at] = part;
+                        less
+                    })
+                    .filter(&differs);
+            }
         }
         // Bytes made 0, one by one, waits first.
         for at in 0..if better.is_none() { case.parts.len() } else { 0 } {
@@ -941,5 +967,17 @@ fn a_difference_is_made_small() {
     let image = Machine::fresh(Chip::First).image().to_vec();
     let small = shrink(Case { image, room: 4000, parts }, differs);
     assert!(small.parts.len() <= 34, "{}", disassemble(&small.parts.concat()));
+    assert!(differs(&small));
+    // The same in one MW, with values that do nothing.
+    let mut maker = Maker { random: &mut random, chip: model::Chip::First, parts: Vec::new() };
+    maker.wr(0, Register::DDRB, 7);
+    let bits = (0..16).rev().map(|i| (0x41AA >> i & 1) as u8);
+    let values: Vec<u8> = [0; 20].into_iter().chain(bits.flat_map(|bit| [bit, bit | 2])).collect();
+    maker.mw(9, Address::Via(Register::ORB), &values);
+    let parts = maker.parts;
+    let image = Machine::fresh(Chip::First).image().to_vec();
+    let small = shrink(Case { image, room: 4000, parts }, differs);
+    let lengths: Vec<usize> = small.parts.iter().map(Vec::len).collect();
+    assert!(lengths.len() == 2 && lengths[1] <= 11 + 32, "{lengths:?}");
     assert!(differs(&small));
 }
