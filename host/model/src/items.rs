@@ -12,52 +12,24 @@ pub const STRIDE: u32 = 512;
 /// Values of an MW at most.
 pub const VALUES_MOST: u8 = 64;
 
-/// What an item does after its wait. The values of an MW stay in its record.
+/// What an item does after its wait. `Many` is MW, a write for each value, the first after the wait and the
+/// others with none; the values stay in the record. `Pulse` is KC, a pulse of the keyboard's clock with the
+/// level of its data line.
 #[derive(Clone, Debug, PartialEq, Eq)]
 pub enum Item<'a> {
-    ReadVia {
-        register: u8,
-    },
-    ReadIwm {
-        location: u8,
-    },
-    WriteVia {
-        register: u8,
-        value: u8,
-    },
-    WriteIwm {
-        location: u8,
-    },
-    /// MW: a write for each value, the first after the wait and the others with none.
-    Many {
-        place: Place,
-        values: &'a [u8],
-    },
+    ReadVia { register: u8 },
+    ReadIwm { location: u8 },
+    WriteVia { register: u8, value: u8 },
+    WriteIwm { location: u8 },
+    Many { place: Place, values: &'a [u8] },
     Blank,
     Second,
-    Line {
-        line: u8,
-        level: bool,
-    },
-    Sense {
-        drive: u8,
-        register: u8,
-        level: bool,
-    },
-    Disk {
-        drive: u8,
-        insert: bool,
-        locked: bool,
-        double_sided: bool,
-    },
+    Line { line: u8, level: bool },
+    Sense { drive: u8, register: u8, level: bool },
+    Disk { drive: u8, insert: bool, locked: bool, double_sided: bool },
     Reset,
-    Power {
-        seconds: u32,
-    },
-    /// KC: a pulse of the keyboard's clock, with the level of its data line.
-    Pulse {
-        level: bool,
-    },
+    Power { seconds: u32 },
+    Pulse { level: bool },
 }
 
 /// What an address stands for.
