@@ -14,6 +14,9 @@
 
 #define GUARD 0x5A
 
+/* Items of the list that is run. */
+enum { ITEMS = 8 };
+
 struct buffer {
     uint8_t *page; /* the page that may be touched, between two that may not */
     size_t size;   /* of the page, in bytes */
@@ -135,7 +138,7 @@ static void fresh_images(void)
 static void null_buffers(const uint8_t *state, size_t state_len, const uint8_t *items, size_t len)
 {
     for (int i = 0; i < 8; i++) {
-        uint8_t copy[SWARMTEMPO_IMAGE_LEN_LATER], room[64];
+        uint8_t copy[SWARMTEMPO_IMAGE_LEN_LATER], room[8 * ITEMS];
         uint64_t consumed = 77, written = 78;
         int no_image = i & 1, no_list = i >> 1 & 1, no_room = i >> 2 & 1;
         memcpy(copy, state, state_len);
@@ -146,7 +149,7 @@ static void null_buffers(const uint8_t *state, size_t state_len, const uint8_t *
         int runs = !no_image && !no_list && !no_room;
         calls++;
         if (stop != expected) fail("a stop with NULL");
-        if (consumed != (runs ? len : 0) || written != (runs ? 48u : 0)) fail("counts with NULL");
+        if (consumed != (runs ? len : 0) || written != (runs ? 8u * ITEMS : 0)) fail("counts with NULL");
         if (!runs && memcmp(copy, state, state_len)) fail("the image changed with NULL");
     }
     if (swarmtempo_fresh(NULL, 0, SWARMTEMPO_CELLS_FIRST) != SWARMTEMPO_REFUSED_ROOM) fail("fresh at NULL");
@@ -230,9 +233,9 @@ static void runs(const uint8_t *state, size_t state_len, const uint8_t *items, s
 {
     uint64_t seed = 1;
     for (int at_end = 0; at_end < 2; at_end++) {
-        for (size_t n = 0; n <= 2 * SWARMTEMPO_IMAGE_LEN_LATER; n++) call(state, n, items, len, 48, at_end);
+        for (size_t n = 0; n <= 2 * SWARMTEMPO_IMAGE_LEN_LATER; n++) call(state, n, items, len, 8 * ITEMS, at_end);
         for (size_t n = 0; n <= len; n++)
-            for (size_t room = 0; room <= 56; room += 1 + room % 3) call(state, state_len, items, n, room, at_end);
+            for (size_t room = 0; room <= 8 * ITEMS + 8; room += 1 + room % 3) call(state, state_len, items, n, room, at_end);
     }
     for (unsigned long i = 0; i < rounds; i++) {
         uint8_t odd_items[256], odd_state[SWARMTEMPO_IMAGE_LEN_LATER];
@@ -241,13 +244,14 @@ static void runs(const uint8_t *state, size_t state_len, const uint8_t *items, s
         memcpy(odd_state, state, state_len);
         odd_items[(seed >> 33) % len] = (uint8_t)(seed >> 56);
         if (seed >> 20 & 1) odd_state[(seed >> 41) % state_len] = (uint8_t)(seed >> 25);
-        call(odd_state, state_len, odd_items, (seed >> 13) % (len + 1), (seed >> 7) % 64, (int)(seed >> 62 & 1));
+        call(odd_state, state_len, odd_items, (seed >> 13) % (len + 1), (seed >> 7) % 96, (int)(seed >> 62 & 1));
     }
 }
 
 int main(int argc, char **argv)
 {
     static const uint32_t cells[] = {SWARMTEMPO_CELLS_FIRST, SWARMTEMPO_CELLS_LATER};
+    static const uint8_t values[] = {0x0C, 0x00, 0x1C};
     uint8_t items[256];
     unsigned long rounds = argc > 1 ? strtoul(argv[1], NULL, 10) : 20000;
     size_t len = 0;
@@ -258,6 +262,8 @@ int main(int argc, char **argv)
     len += swarmtempo_sn(items + len, 65535, 1, 15, 0);
     len += swarmtempo_pw(items + len, 0, 0xFFFFFFFF);
     len += swarmtempo_in(items + len, 0, 4, 0);
+    len += swarmtempo_mw(items + len, 3, SWARMTEMPO_VIA(11), values, sizeof values);
+    len += swarmtempo_kc(items + len, 4, 1);
     len += swarmtempo_rd(items + len, 0, SWARMTEMPO_IWM(14));
     sheets();
     for (int at_end = 0; at_end < 2; at_end++)

@@ -15,7 +15,7 @@ const char *swarmtempo_refusal(uint8_t number)
     case SWARMTEMPO_REFUSED_KIND: return "unknown kind";
     case SWARMTEMPO_REFUSED_LENGTH: return "length wrong for the kind";
     case SWARMTEMPO_REFUSED_ADDRESS: return "address is none of the 32";
-    case SWARMTEMPO_REFUSED_RANGE: return "line, drive, register or level out of range";
+    case SWARMTEMPO_REFUSED_RANGE: return "line, drive, register, level or count out of range";
     case SWARMTEMPO_REFUSED_ROOM: return "no room for an answer";
     case SWARMTEMPO_REFUSED_STATE: return "image is none of an accepted state";
     case SWARMTEMPO_REFUSED_DISK: return "a disk is there already, or none is";

@@ -28,9 +28,9 @@ extern "C" {
 #endif
 
 /* The version of this header; swarmtempo_version() has that of the library. */
-#define SWARMTEMPO_VERSION "0.2.0"
+#define SWARMTEMPO_VERSION "0.3.0"
 #define SWARMTEMPO_VERSION_MAJOR 0
-#define SWARMTEMPO_VERSION_MINOR 2
+#define SWARMTEMPO_VERSION_MINOR 3
 #define SWARMTEMPO_VERSION_PATCH 0
 
 /* VIA ticks a second. */
@@ -44,10 +44,12 @@ extern "C" {
  * Bytes of a state image of this version, with the first chip (kind ST) and with the later one (kind SX);
  * swarmtempo_image_len(cells) has those of the library.
  */
-#define SWARMTEMPO_IMAGE_LEN 123
-#define SWARMTEMPO_IMAGE_LEN_LATER 360
-/* Bytes of the longest item that the functions below write. */
-#define SWARMTEMPO_ITEM_MAX 11
+#define SWARMTEMPO_IMAGE_LEN 124
+#define SWARMTEMPO_IMAGE_LEN_LATER 361
+/* Values of a swarmtempo_mw at most. */
+#define SWARMTEMPO_VALUES_MAX 64
+/* Bytes of the longest item that the functions below write: a swarmtempo_mw. Of all others it is 11. */
+#define SWARMTEMPO_ITEM_MAX 75
 
 /* How a run stopped (0, 1, 6, 7), and the numbers of NO answers (1 to 5, 8, 9). swarmtempo_fresh has 5 and 6. */
 #define SWARMTEMPO_END 0u             /* the end of the list */
@@ -55,7 +57,7 @@ extern "C" {
 #define SWARMTEMPO_REFUSED_KIND 2u    /* unknown kind */
 #define SWARMTEMPO_REFUSED_LENGTH 3u  /* length wrong for the kind */
 #define SWARMTEMPO_REFUSED_ADDRESS 4u /* none of the 32 addresses */
-#define SWARMTEMPO_REFUSED_RANGE 5u   /* line, drive, register or level out of range */
+#define SWARMTEMPO_REFUSED_RANGE 5u   /* line, drive, register, level or count out of range */
 #define SWARMTEMPO_REFUSED_ROOM 6u    /* list bytes remain, fewer than 8 answer bytes left; the item is not done */
 #define SWARMTEMPO_REFUSED_STATE 7u   /* the image is none of an accepted state; no buffer is changed */
 #define SWARMTEMPO_REFUSED_DISK 8u    /* a disk inserted where one is, or removed where none is */
@@ -184,7 +186,7 @@ uint8_t swarmtempo_transaction(const uint8_t *image, size_t image_len, uint8_t a
 uint32_t swarmtempo_ticks_of_micros(uint32_t micros);
 
 /*
- * The version of the library, as "0.2.0". While its first number is 0, another second number may
+ * The version of the library, as "0.3.0". While its first number is 0, another second number may
  * have another image: a program asks that the first two are those of its header.
  */
 const char *swarmtempo_version(void);
@@ -299,6 +301,20 @@ static inline size_t swarmtempo_wr(uint8_t *at, uint16_t wait_via_ticks, uint32_
     return swarmtempo_item(at, 'W', 'R', wait_via_ticks, 5);
 }
 
+/*
+ * Writes so many bytes to one address, the first after the wait and the others with none; it has one answer,
+ * that of the last write. Returns 0, and writes nothing at `at`, where count is 0 or above
+ * SWARMTEMPO_VALUES_MAX; else 11 + count.
+ */
+static inline size_t swarmtempo_mw(uint8_t *at, uint16_t wait_via_ticks, uint32_t address, const uint8_t *values, size_t count)
+{
+    if (count == 0 || count > SWARMTEMPO_VALUES_MAX) return 0;
+    swarmtempo_long(at + 6, address);
+    at[10] = (uint8_t)count;
+    for (size_t i = 0; i < count; i++) at[11 + i] = values[i];
+    return swarmtempo_item(at, 'M', 'W', wait_via_ticks, 5 + count);
+}
+
 /* Vertical blanking. */
 static inline size_t swarmtempo_vb(uint8_t *at, uint16_t wait_via_ticks)
 {
@@ -341,6 +357,17 @@ static inline size_t swarmtempo_di(uint8_t *at, uint16_t wait_via_ticks, uint8_t
     return swarmtempo_item(at, 'D', 'I', wait_via_ticks, 4);
 }
 
+/*
+ * A pulse of the keyboard's clock, with level 0 or 1 on its data line. Where ACR bits 4 to 2 are 011 it shifts
+ * the level into register 10; where they are 111 it shifts a bit out, which is the answer's value; else it
+ * does nothing. Each eighth pulse of either sets flag 2.
+ */
+static inline size_t swarmtempo_kc(uint8_t *at, uint16_t wait_via_ticks, uint8_t level)
+{
+    at[6] = level;
+    return swarmtempo_item(at, 'K', 'C', wait_via_ticks, 1);
+}
+
 /* Reset. */
 static inline size_t swarmtempo_rs(uint8_t *at, uint16_t wait_via_ticks)
 {
@@ -377,7 +404,7 @@ static inline int swarmtempo_answer_done(const uint8_t *at)
     return swarmtempo_answer_refusal(at) == SWARMTEMPO_END;
 }
 
-/* The value read; 0 unless the item reads. */
+/* The value read, or of swarmtempo_kc the bit shifted out; else 0. */
 static inline uint8_t swarmtempo_answer_value(const uint8_t *at)
 {
     return swarmtempo_answer_done(at) ? at[4] : 0;

@@ -229,10 +229,11 @@ pub const COMMANDS: [Command; 20] = [
         operand: "CAPTURE..",
         brief: "what of a capture can touch the clock; whether two agree",
         about: "Shows the items of a capture that can touch the clock chip: those carried out that write VIA\n\
-                registers 0 (ORB) and 2 (DDRB), resets, every SE (one second), power cuts, each with its byte\n\
-                offset and the VIA ticks waited until it acts. Of two captures it says whether they agree in these\n\
-                items, and where they first part; two that agree leave the same cells, seconds, protect, test\n\
-                and half-made command, whatever their waits and other items are. Both begin on one state.\n\
+                registers 0 (ORB) and 2 (DDRB), an MW as its single writes, resets, every SE (one second), power\n\
+                cuts, each with its byte offset and the VIA ticks waited until it acts. Of two captures it says\n\
+                whether they agree in these items, and where they first part; two that agree leave the same cells,\n\
+                seconds, protect, test and half-made command, whatever their waits and other items are. Both\n\
+                begin on one state.\n\
                 \n\
                 Exit status: of one capture 1 where a record is cut; what comes before it is shown. Of two 0\n\
                 where they agree, 1 where they do not.",
@@ -355,9 +356,10 @@ pub const COMMANDS: [Command; 20] = [
         operand: "",
         brief: "records a second, beside a plain model of the board",
         about: "Times lists on the library and on a plain model of the same board: each kind of item, refusals,\n\
-                transactions with the clock chip, long waits, a mix, and calls with one item; and on the library\n\
-                with 256 cells. The last lines are for scripts: the ratios of the mix, of the worst list, and of\n\
-                calls with one item.",
+                transactions with the clock chip, the same writes as WR and as MW of 64 values, long waits, a mix,\n\
+                and calls with one item; and on the library with 256 cells. The last lines are for scripts: the\n\
+                ratio of an MW's values to the same WR, and the ratios of the mix, of the worst list, and of calls\n\
+                with one item.",
         flags: &[
             Flag {
                 name: "--records",
@@ -407,7 +409,7 @@ pub const COMMANDS: [Command; 20] = [
 pub const TEXT_FORM: &str = "\
 12t WR VIA.ORB $41     0t RD $EFE1FE     12000us VB    0t SE     0t RS
 0t IN 3 1              0t SN internal 6 0              0t DI internal 1 0 1
-0t PW 5s               RAW 05 00                       ; comment
+0t MW VIA.ORB 0 2 4    0t KC 1           0t PW 5s      RAW 05 00     ; comment
 ";
 
 /// Units, in a sentence.

@@ -171,8 +171,9 @@ impl Runner {
             return self.step(chunk, buffer);
         }
         for piece in pieces(chunk) {
+            let before = self.machine.clone();
             self.step(piece.as_ref(), buffer)?;
-            self.watch(piece, buffer).map_err(|error| of_dump(options, error))?;
+            self.watch(piece, buffer, before).map_err(|error| of_dump(options, error))?;
             if self.stop.is_some() {
                 break;
             }
@@ -222,12 +223,12 @@ impl Runner {
         self.table.iter_mut().try_for_each(|table| table.put(rows.as_bytes()))
     }
 
-    /// A record and its answer, for the dump.
-    fn watch(&mut self, piece: Piece<'_>, answer: &[u8]) -> io::Result<()> {
+    /// A record, its answer and the machine before it, for the dump.
+    fn watch(&mut self, piece: Piece<'_>, answer: &[u8], before: Machine) -> io::Result<()> {
         let (Some(vcd), Some(answer)) = (&mut self.vcd, answer.first_chunk::<ANSWER_LEN>()) else {
             return Ok(());
         };
-        vcd.record(piece, answer, self.machine.state())
+        vcd.record(piece, answer, before, self.machine.state())
     }
 
     /// Files take their places; the summary.

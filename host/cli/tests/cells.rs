@@ -76,7 +76,7 @@ fn all_cells_in_words() {
     let said = stderr(&program(&words, b""));
     assert!(said.contains("cell 19: $00 before, $EC after; and 235 more\n"), "{said}");
     let words = stdout(&program(&["image", &save], b""));
-    assert!(words.starts_with("State image of kind SX, 360 bytes\n"), "{words}");
+    assert!(words.starts_with("State image of kind SX, 361 bytes\n"), "{words}");
     let at = words.find("  256 cells       0  1  2").expect("a heading");
     let rows: Vec<&str> = words[at..].lines().skip(1).take(16).collect();
     assert_eq!(rows[0], "            $00: FF FE FD FC FB FA F9 F8 F7 F6 F5 F4 F3 F2 F1 F0");

@@ -355,14 +355,14 @@ fn files_of_another_kind_are_named() {
 fn a_bad_image_has_a_field() {
     let folder = Folder::new("field");
     let mut image = Machine::fresh(Chip::First).image().to_vec();
-    image[100] = 80;
+    image[101] = 80;
     let bad = folder.put("bad.st", &image);
     let old = folder.put("old.st", &[&[96, 0, b'S', b'T'][..], &[0; 94]].concat());
     let list = folder.put("list", &SECOND);
     for output in [program(&["image", &bad], b""), program(&["run", &list, "--image", &bad], b"")] {
         assert_eq!(status(&output), 7);
         let said = "bad.st: not the image of an accepted state: the track of the internal drive, \
-                    at offset 100, is 80 ($50); accepted is 0 to 79 (refusal 7)\n";
+                    at offset 101, is 80 ($50); accepted is 0 to 79 (refusal 7)\n";
         assert!(stderr(&output).contains(said), "{}", stderr(&output));
     }
     let output = program(&["image", &old], b"");

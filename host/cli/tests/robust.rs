@@ -75,10 +75,11 @@ fn for_a_while(salt: u64, mut act: impl FnMut(&mut Random)) {
     println!("seed {seed}: {rounds} rounds");
 }
 
-const TEXTS: [&str; 4] = [
+const TEXTS: [&str; 5] = [
     include_str!("../../captures/first.txt"),
     include_str!("../../captures/seek.txt"),
     include_str!("../../captures/far.txt"),
+    include_str!("../../captures/many.txt"),
     "12t WR $EFE1FE 0x41\n83658us RD VIA.IFR\n0t IN 6 1\n0t SN external 15 1\n\
      0t DI external 1 1 1\n$FFFFt PW 4294967295s\nRAW 05 00 53 45 00 00 00\n",
 ];

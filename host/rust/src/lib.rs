@@ -81,7 +81,7 @@ pub use clock::{Ask, ClockError, TRANSACTION_MAX};
 pub use command::{Command, Target};
 pub use convert::{convert, convert_in, Conversion};
 pub use error::ParseError;
-pub use item::{Drive, InLine, Item, SenseRegister, Timed};
+pub use item::{Drive, InLine, Item, SenseRegister, Timed, Values};
 pub use keyboard::{Keyboard, KeyboardFull, KeyboardState, INQUIRY_TICKS, KEYBOARD_LEN};
 pub use list::{items, Items, List};
 pub use machine::{Exchange, Exchanges, Machine, Run, Transcript};

@@ -1,7 +1,8 @@
 //! Answers for people, as a table.
 //!
 //! A row has the item's number in the list, counted from 1; the VIA ticks that the waits of the items
-//! done so far come to; the record; and its answer.
+//! done so far come to; the record; and its answer. Of an MW with more than three values it has the
+//! first, and how many there are: `0t MW VIA.ORB $04 .. (36)`.
 //!
 //! ```
 //! use swarmtempo::table::{Table, HEAD};
@@ -43,10 +44,10 @@ impl Table {
         if let (Ok(timed), Ok(Answer::Ok(_))) = (item, answer) {
             self.ticks += u64::from(timed.wait.0);
         }
-        let record = item.map_or_else(|_| raw(piece.as_ref()), |timed| timed.to_string());
+        let record = item.map_or_else(|_| raw(piece.as_ref()), shown);
         let seen = match (item, answer) {
             (Ok(timed), Ok(Answer::Ok(seen))) => {
-                let read = matches!(timed.item, Item::Read(_));
+                let read = matches!(timed.item, Item::Read(_) | Item::Pulse(_));
                 let value = if read { format!("${:02X}", seen.value) } else { "-".into() };
                 let sel = u8::from(seen.sel);
                 format!("{value:>5}  {:>5}  {sel:>3}  {}", seen.level, seen.lines)
@@ -55,6 +56,19 @@ impl Table {
             (_, Err(bytes)) => format!("{bytes:02X?}"),
         };
         out.push_str(&format!("{:>8}  {:>13}  {record:<30} {seen}\n", self.item, self.ticks));
+    }
+}
+
+/// Values of an MW that are all shown.
+const VALUES_SHOWN: usize = 3;
+
+fn shown(timed: Timed) -> String {
+    match timed.item {
+        Item::WriteMany(address, values) if values.len() > VALUES_SHOWN => {
+            let (name, first, count) = (address.name(), values[0], values.len());
+            format!("{} MW {name} ${first:02X} .. ({count})", timed.wait)
+        }
+        _ => timed.to_string(),
     }
 }
 

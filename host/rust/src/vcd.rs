@@ -2,8 +2,8 @@
 //!
 //! A VIA tick is 1,276.55 nanoseconds. Items with no wait between them are drawn 10 nanoseconds apart,
 //! so that their order shows; where more than 127 come in one tick, what follows is late by that much.
-//! The state is taken after each item: what ends within a wait (a step of a drive, a timer) shows at
-//! its end.
+//! The state is taken after each item, of an MW after each of its values: what ends within a wait (a step
+//! of a drive, a timer) shows at its end.
 //!
 //! ```
 //! use swarmtempo::{vcd, Chip, List, Machine};
@@ -74,11 +74,12 @@ pub fn dump(machine: &mut Machine, list: &[u8], out: impl Write) -> io::Result<R
     let mut all = Run { stop: None, consumed: 0, written: 0 };
     for piece in pieces(list) {
         let mut answer = [0; ANSWER_LEN];
+        let before = machine.clone();
         let run = machine.run_in(piece.as_ref(), &mut answer);
         all.consumed += run.consumed;
         all.written += run.written;
         all.stop = run.stop;
-        vcd.record(piece, &answer, machine.state())?;
+        vcd.record(piece, &answer, before, machine.state())?;
         if all.stop.is_some() {
             break;
         }
@@ -154,7 +155,8 @@ impl<W: Write> Vcd<W> {
         Ok(vcd)
     }
 
-    /// After a record: its answer, and the state then.
+    /// After a record: its answer, the machine before it, and the state after it. The values of an MW are
+    /// written to that machine one by one, to see the wires after each; they are one item of the dump.
     ///
     /// # Errors
     /// Those of the output.
@@ -162,13 +164,29 @@ impl<W: Write> Vcd<W> {
         &mut self,
         piece: Piece<'_>,
         answer: &[u8; ANSWER_LEN],
+        before: Machine,
         after: State,
     ) -> io::Result<()> {
         match (Answer::read(answer), Timed::try_from(piece)) {
-            (Some(Answer::Ok(_)), Ok(timed)) => self.item(timed.wait, 0, after),
+            (Some(Answer::Ok(_)), Ok(timed)) => self.done(timed, before, after),
             (Some(Answer::No(refusal)), _) => self.item(ViaTicks(0), refusal.number(), after),
             _ => Ok(()),
         }
+    }
+
+    /// After an item that was done: a point for each single item that it stands for.
+    fn done(&mut self, timed: Timed, mut machine: Machine, after: State) -> io::Result<()> {
+        self.items += 1;
+        let mut singles = timed.singles().peekable();
+        while let Some(Timed { wait, item }) = singles.next() {
+            if singles.peek().is_none() {
+                return self.point(wait, 0, after);
+            }
+            // A write that an MW did is not refused.
+            let _ = machine.step(wait, item);
+            self.point(wait, 0, machine.state())?;
+        }
+        Ok(())
     }
 
     /// After an item: its wait (0 where it was refused), the refusal's number or 0, and the state then.
@@ -177,6 +195,11 @@ impl<W: Write> Vcd<W> {
     /// Those of the output.
     pub fn item(&mut self, wait: ViaTicks, refused: u8, after: State) -> io::Result<()> {
         self.items += 1;
+        self.point(wait, refused, after)
+    }
+
+    /// A point of the dump: so many VIA ticks after the one before, or a little later.
+    fn point(&mut self, wait: ViaTicks, refused: u8, after: State) -> io::Result<()> {
         self.ticks += u64::from(wait.0);
         let exact = u128::from(self.ticks) * 1_000_000_000 / u128::from(TICKS_PER_SECOND);
         self.nanoseconds = u64::try_from(exact)

@@ -10,11 +10,17 @@ use swarmtempo::{
     answers, items, sys, table, vcd, Address, Answer, Ask, Chip, ClockError, DiskLine, Drive,
     InLine, Item, KeyboardFull, Lines, List, Machine, Micros, NoAnswer, ParseError, Phase, Refusal,
     Register, Seconds, Seen, SenseRegister, Setting, State, TickCount, Timed, TooLong,
-    UnknownRefusal, ViaTicks, ANSWER_LEN, INQUIRY_TICKS, KEYBOARD_LEN, SETTING_MAX,
+    UnknownRefusal, Values, ViaTicks, ANSWER_LEN, INQUIRY_TICKS, KEYBOARD_LEN, SETTING_MAX,
     TICKS_PER_SECOND, TRANSACTION_MAX,
 };
 
 const NOW: ViaTicks = ViaTicks(0);
+
+/// As many values as there can be.
+fn many() -> Values {
+    let values: Vec<u8> = (0..Values::MAX).map(|i| 0xC1 ^ i as u8).collect();
+    Values::new(&values).expect("64 of them")
+}
 
 /// A sample of each kind. The match has no other arm, so a new kind has to come in here.
 fn samples() -> Vec<Item> {
@@ -22,11 +28,13 @@ fn samples() -> Vec<Item> {
     let all = vec![
         Item::Read(Address::Iwm(DiskLine::LSTRB, true)),
         Item::Write(Address::Via(Register::T1CH), 0xA5),
+        Item::WriteMany(Address::Via(Register::DDRB), many()),
         Item::Blank,
         Item::Second,
         Item::In(line, true),
         Item::Sense(Drive::External, register, true),
         Item::Disk { drive: Drive::External, insert: true, locked: false, double_sided: true },
+        Item::Pulse(true),
         Item::Reset,
         Item::Power(Seconds(0x8765_4321)),
     ];
@@ -34,11 +42,13 @@ fn samples() -> Vec<Item> {
         match item {
             Item::Read(_)
             | Item::Write(..)
+            | Item::WriteMany(..)
             | Item::Blank
             | Item::Second
             | Item::In(..)
             | Item::Sense(..)
             | Item::Disk { .. }
+            | Item::Pulse(_)
             | Item::Reset
             | Item::Power(_) => {}
         }
@@ -297,6 +307,88 @@ fn dumps() {
     assert!(vcd::dump(&mut Machine::fresh(Chip::First), &cut, Full).is_err());
 }
 
+/// An MW has a point for each value, all of them one item: the first after the wait, the others 10 ns
+/// apart. The wires are seen after each.
+#[test]
+fn dumps_of_many_writes() {
+    let many: List =
+        "1t WR VIA.ORB 4\n0t WR VIA.DDRB 7\n6t MW VIA.ORB 0 1 3 4\n2t SE".parse().unwrap();
+    let singles: List = many.iter().flat_map(|timed| timed.unwrap().singles()).collect();
+    let (mut dumped, mut single) = (Machine::fresh(Chip::First), Machine::fresh(Chip::First));
+    let (mut dump, mut other) = (Vec::new(), Vec::new());
+    assert!(vcd::dump(&mut dumped, many.as_ref(), &mut dump).unwrap().at_end());
+    assert!(vcd::dump(&mut single, singles.as_ref(), &mut other).unwrap().at_end());
+    assert_eq!(dumped, single);
+    let (dump, other) = (String::from_utf8(dump).unwrap(), String::from_utf8(other).unwrap());
+    let times: Vec<&str> = dump.lines().filter(|line| line.starts_with('#')).collect();
+    let expected = ["#0", "#1276", "#1286", "#8935", "#8945", "#8955", "#8965", "#11488", "#11498"];
+    assert_eq!(times, expected);
+    // The same but for the numbers of the items.
+    let code = dump.lines().find_map(|line| line.strip_suffix(" item $end")).unwrap();
+    let code = format!(" {}", code.split(' ').next_back().unwrap());
+    let but_items = |dump: &str| -> Vec<String> {
+        dump.lines().filter(|line| !line.ends_with(&code)).map(String::from).collect()
+    };
+    assert_eq!(but_items(&dump), but_items(&other));
+    let items: Vec<&str> =
+        dump.lines().filter(|line| line.starts_with('b') && line.ends_with(&code)).collect();
+    assert_eq!(items.len(), 5, "none, and four items: {items:?}");
+}
+
+/// The table has an MW's first value and their number, the bit that a KC shifts out, and one row each.
+#[test]
+fn tables_of_both_kinds() {
+    let list: List =
+        "5t MW VIA.SR 1 $80\n1t MW VIA.ACR 0 0 0 $1C\n0t KC 0\n0t KC 0\n0t WR VIA.ORB 1"
+            .parse()
+            .unwrap();
+    let table = Machine::fresh(Chip::First).run_items(&list).to_string();
+    let rows: Vec<&str> = table.lines().skip(1).collect();
+    for (row, part) in rows.iter().zip([
+        "       1              5  5t MW VIA.SR $01 $80               -      0    1  -",
+        "       2              6  1t MW VIA.ACR $00 .. (4)           -      0    1  -",
+        "       3              6  0t KC 0                          $01      0    1  -",
+        "       4              6  0t KC 0                          $00      0    1  -",
+        "       5              6  0t WR VIA.ORB $01                  -      0    1  -",
+    ]) {
+        assert_eq!(*row, part);
+    }
+    assert_eq!(rows.len(), 5);
+}
+
+/// Refusals of an MW in their order.
+#[test]
+fn refusals_of_many_writes() {
+    let read = |address: u32, count: u8, values: usize| {
+        let mut record = b"MW\x09\x00".to_vec();
+        record.extend(address.to_le_bytes());
+        record.push(count);
+        record.resize(9 + values, 7);
+        let (length, mut answer) = (record.len() as u16, [0; ANSWER_LEN]);
+        let list = [&length.to_le_bytes()[..], &record].concat();
+        Machine::fresh(Chip::First).run_in(&list, &mut answer);
+        let item = Item::read(&record).map(|(wait, item)| (wait.0, item.kind()));
+        assert_eq!(Answer::read(&answer).unwrap().result().err(), item.err(), "{record:02X?}");
+        item
+    };
+    let (right, wrong) = (0xDF_E1FF, 0xDF_E200);
+    assert_eq!(read(right, 64, 64), Ok((9, b"MW")));
+    assert_eq!(read(right, 1, 1), Ok((9, b"MW")));
+    for (count, values) in [(0, 0), (65, 65), (1, 2), (1, 1)] {
+        assert_eq!(read(wrong, count, values), Err(Refusal::Address));
+    }
+    for (count, values) in [(0, 0), (0, 1), (65, 65), (65, 64), (255, 255)] {
+        assert_eq!(read(right, count, values), Err(Refusal::Range));
+    }
+    for (count, values) in [(1, 0), (1, 2), (64, 63), (64, 65)] {
+        assert_eq!(read(right, count, values), Err(Refusal::Length));
+    }
+    let short = Item::read(b"MW\0\0\xFF\xE1\xDF\x01");
+    assert_eq!(short, Err(Refusal::Length), "a length of 8, whatever the address");
+    assert_eq!(Item::read(b"KC\0\0\x02"), Err(Refusal::Range));
+    assert_eq!(Item::read(b"KC\0\0"), Err(Refusal::Length));
+}
+
 /// Takes nothing.
 struct Full;
 
@@ -313,16 +405,18 @@ impl std::io::Write for Full {
 #[test]
 fn states_in_words() {
     let mut machine = Machine::fresh(Chip::First);
-    let text = "0t WR VIA.ORB 4\n0t WR VIA.DDRB 7\n0t WR VIA.ORB 0\n0t WR VIA.ORB 2\n0t DI external 1 1 1\n0t IN 5 1";
+    let text = "0t WR VIA.ORB 4\n0t WR VIA.DDRB 7\n0t WR VIA.ORB 0\n0t WR VIA.ORB 2\n0t DI external 1 1 1\n0t IN 5 1\n0t WR VIA.ACR $0C\n0t KC 1\n0t KC 0\n0t KC 1";
     machine.run(text.parse::<List>().unwrap(), &mut Vec::new());
     let state: State = machine.state();
     let inputs: [bool; 7] = state.inputs;
     assert_eq!((&state.cells[..], inputs[5]), (&[0; 20][..], true));
+    assert_eq!((state.sr, state.pulses), (0b101, 3));
     assert_eq!(state.phase, Phase::Listening { bits: 1, value: 0 });
     let words = machine.to_string();
     assert!(words.ends_with(&state.to_string()));
     for part in [
-        "State image of kind ST, 123 bytes",
+        "State image of kind ST, 124 bytes",
+        "shift     in by the keyboard's clock, 3 of 8 pulses counted",
         "IN 5      1 (serial chip asks)",
         "enable 0 (low active), data-clock 1, data 0",
         "half-made: 1 bit, 0 of the command taken",
@@ -390,6 +484,7 @@ fn the_header_has_the_same_numbers() {
         assert_eq!(number_of(length) as usize, chip.image_len());
         assert_eq!(sys::image_len(number_of(cells)), chip.image_len() as u64);
     }
+    assert_eq!(number_of("VALUES_MAX") as usize, Values::MAX);
     let longest =
         samples().into_iter().map(|item| Timed { wait: NOW, item }.to_bytes().len()).max();
     assert_eq!(Some(number_of("ITEM_MAX") as usize), longest);
