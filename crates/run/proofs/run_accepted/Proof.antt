@@ -58,10 +58,10 @@ use Rattle.via.proofs.Via.write.Reads as write-reads
 use Rattle.via.proofs.fresh.Reads as fresh-reads
 
 abbrev Inv-loop : tie.InvT-loop
-Inv-loop list answers₀ m₀ core₀ cells₀ drives₀ sense₀ stop₀ at₀ out₀ answers m core cells drives sense stop at out = Head list answers₀ m₀ answers (wholeMachine m core cells drives sense) at out × (stop ≡ 0)
+Inv-loop engine list answers₀ m₀ core₀ cells₀ drives₀ sense₀ stop₀ at₀ out₀ answers m core cells drives sense stop at out = Head list answers₀ m₀ answers (wholeMachine m core cells drives sense) at out × (stop ≡ 0)
 
 abbrev μ-loop : tie.MeasureT-loop
-μ-loop list answers₀ m₀ core₀ cells₀ drives₀ sense₀ stop₀ at₀ out₀ answers m core cells drives sense stop at out = length list - at
+μ-loop engine list answers₀ m₀ core₀ cells₀ drives₀ sense₀ stop₀ at₀ out₀ answers m core cells drives sense stop at out = length list - at
 
 -- where a wholeMachine record was found
 found : (c : tie.After-known-told Inv-loop μ-loop) → frameOf (drop (c .before .before .before .before .before .before .before .loop .at) (now (c .before .before .before .before .before .before .before .before .before .before .before .before .before .before .before .args .list))) ≡ Whole (c .before .n .given .0 .0)
@@ -109,26 +109,26 @@ struck c =
     let before = c .before .before .before .before .before .before .before .before .before .before .before .before .before .before .before .before .before .watched .ensures in
     let after = c .before .before .before .watched2 .ensures in
     ⊎-elim (λ w. w .2 ∙ w .1 .ensures ∙ ap₂ (λ (x y : Watched). drivesAfter x y (c .before .before .before .before .before .before .before .before .act .result .drives)) before after)
-    (λ w. w .1 ∙ turns.dark (c .before .before .before .before .before .before .before .before .before .before .before .before .before .before .before .before .before .before .before .before .before .before .before .before .before .before .before .before .before .before .before .before .loop .m) (c .before .before .before .before .before .before .before .before .before .before .before .before .before .before .before .before .before .before .before .before .before .before .before .before .before .before .before .before .before .before .before .before .loop .core) (c .before .before .before .before .before .before .before .before .before .before .before .before .before .before .before .before .before .before .before .before .before .before .before .before .before .before .before .before .before .before .before .before .loop .cells) (c .before .before .before .before .before .before .before .before .before .before .before .before .before .before .before .before .before .before .before .before .before .before .before .before .before .before .before .before .before .before .before .before .loop .drives) (c .before .before .before .before .before .before .before .before .before .before .before .before .before .before .before .before .before .before .before .before .before .before .before .before .before .before .before .before .before .before .before .before .loop .sense) (c .before .before .before .before .before .before .before .before .before .before .before .before .before .before .before .before .before .before .before .d .given .0 .0) (c .before .before .before .before .before .before .before .before .before .before .before .before .before .if2 .m) (counted (c .before .before .before .before .before .before .before .before .before .before .before .before .before)) (c .before .before .before .before .before .before .before .before .before .before .before .if3 .drives) (passed (c .before .before .before .before .before .before .before .before .before .before .before)) (c .before .before .before .before .before .before .before .before .act .result) (c .before .before .before .before .before .before .before .before .act .last .1 .1 .1 .1 .1 .0) (c .before .before .before .before .before .before .before .before .act .ensures .0) (c .before .before .before .before .match3 .m) (c .before .before .before .before .before .before .before .before .before .before .before .before .before .before .before .before .before .before .before .before .before .before .before .before .before .before .before .before .before .before .before .before .loop .inv .0 .ok)
+    (λ w. w .1 ∙ turns.dark (c .before .before .before .before .before .before .before .before .before .before .before .before .before .before .before .before .before .before .before .before .before .before .before .before .before .before .before .before .before .before .before .before .loop .m) (c .before .before .before .before .before .before .before .before .before .before .before .before .before .before .before .before .before .before .before .before .before .before .before .before .before .before .before .before .before .before .before .before .loop .core) (c .before .before .before .before .before .before .before .before .before .before .before .before .before .before .before .before .before .before .before .before .before .before .before .before .before .before .before .before .before .before .before .before .loop .cells) (c .before .before .before .before .before .before .before .before .before .before .before .before .before .before .before .before .before .before .before .before .before .before .before .before .before .before .before .before .before .before .before .before .loop .drives) (c .before .before .before .before .before .before .before .before .before .before .before .before .before .before .before .before .before .before .before .before .before .before .before .before .before .before .before .before .before .before .before .before .loop .sense) (c .before .before .before .before .before .before .before .before .before .before .before .before .before .before .before .before .before .before .before .d .given .0 .0) (c .before .before .before .before .before .before .before .before .before .before .before .before .before .if2 .m) (counted (c .before .before .before .before .before .before .before .before .before .before .before .before .before)) (c .before .before .before .before .before .before .before .before .before .before .before .if3 .drives) (passed (c .before .before .before .before .before .before .before .before .before .before .before)) (c .before .before .before .before .before .before .before .before .act .result) (c .before .before .before .before .before .before .before .before .act .last .1 .1 .1 .1 .1 .1 .0) (c .before .before .before .before .before .before .before .before .act .ensures .0) (c .before .before .before .before .match3 .m) (c .before .before .before .before .before .before .before .before .before .before .before .before .before .before .before .before .before .before .before .before .before .before .before .before .before .before .before .before .before .before .before .before .loop .inv .0 .ok)
     (sym (ap₂ (λ (x y : Watched). x .lstrb || y .lstrb) before after) ∙ w .0 .left)) (c .if4 .came)
 
 -- the item carried out
 stepped : (c : tie.Joined4 Inv-loop μ-loop)
-    → record { machine = wholeMachine (c .before .before .before .before .match3 .m) (c .before .before .before .before .before .before .before .before .act .result .core) (c .before .before .before .before .before .before .before .before .act .last .1 .1 .1 .1 .1 .0) (c .if4 .drives) (c .before .before .before .before .match3 .sense); value = c .before .before .before .before .before .before .before .before .act .result .value }
+    → record { machine = wholeMachine (c .before .before .before .before .match3 .m) (c .before .before .before .before .before .before .before .before .act .result .core) (c .before .before .before .before .before .before .before .before .act .last .1 .1 .1 .1 .1 .1 .0) (c .if4 .drives) (c .before .before .before .before .match3 .sense); value = c .before .before .before .before .before .before .before .before .act .result .value }
     ≡ stepOf (wholeMachine (c .before .before .before .before .before .before .before .before .before .before .before .before .before .before .before .before .before .before .before .before .before .before .before .before .before .before .before .before .before .before .before .before .loop .m) (c .before .before .before .before .before .before .before .before .before .before .before .before .before .before .before .before .before .before .before .before .before .before .before .before .before .before .before .before .before .before .before .before .loop .core) (c .before .before .before .before .before .before .before .before .before .before .before .before .before .before .before .before .before .before .before .before .before .before .before .before .before .before .before .before .before .before .before .before .loop .cells) (c .before .before .before .before .before .before .before .before .before .before .before .before .before .before .before .before .before .before .before .before .before .before .before .before .before .before .before .before .before .before .before .before .loop .drives) (c .before .before .before .before .before .before .before .before .before .before .before .before .before .before .before .before .before .before .before .before .before .before .before .before .before .before .before .before .before .before .before .before .loop .sense)) (c .before .before .before .before .before .before .before .before .before .before .before .before .before .before .before .before .before .before .before .d .given .0 .0)
 stepped c =
-    turns.stepped (c .before .before .before .before .before .before .before .before .before .before .before .before .before .before .before .before .before .before .before .before .before .before .before .before .before .before .before .before .before .before .before .before .loop .m) (c .before .before .before .before .before .before .before .before .before .before .before .before .before .before .before .before .before .before .before .before .before .before .before .before .before .before .before .before .before .before .before .before .loop .core) (c .before .before .before .before .before .before .before .before .before .before .before .before .before .before .before .before .before .before .before .before .before .before .before .before .before .before .before .before .before .before .before .before .loop .cells) (c .before .before .before .before .before .before .before .before .before .before .before .before .before .before .before .before .before .before .before .before .before .before .before .before .before .before .before .before .before .before .before .before .loop .drives) (c .before .before .before .before .before .before .before .before .before .before .before .before .before .before .before .before .before .before .before .before .before .before .before .before .before .before .before .before .before .before .before .before .loop .sense) (c .before .before .before .before .before .before .before .before .before .before .before .before .before .before .before .before .before .before .before .d .given .0 .0) (c .before .before .before .before .before .before .before .before .before .before .before .before .before .if2 .m) (counted (c .before .before .before .before .before .before .before .before .before .before .before .before .before)) (c .before .before .before .before .before .before .before .before .before .before .before .if3 .drives) (passed (c .before .before .before .before .before .before .before .before .before .before .before)) (c .before .before .before .before .before .before .before .before .act .result) (c .before .before .before .before .before .before .before .before .act .last .1 .1 .1 .1 .1 .0) (c .before .before .before .before .before .before .before .before .act .ensures .0) (c .before .before .before .before .before .before .before .before .act .ensures .1 .0) (c .before .before .before .before .match3 .m) (c .before .before .before .before .match3 .sense) (stored (c .before .before .before .before) .0) (stored (c .before .before .before .before) .1) (c .if4 .drives) (struck c)
+    turns.stepped (c .before .before .before .before .before .before .before .before .before .before .before .before .before .before .before .before .before .before .before .before .before .before .before .before .before .before .before .before .before .before .before .before .loop .m) (c .before .before .before .before .before .before .before .before .before .before .before .before .before .before .before .before .before .before .before .before .before .before .before .before .before .before .before .before .before .before .before .before .loop .core) (c .before .before .before .before .before .before .before .before .before .before .before .before .before .before .before .before .before .before .before .before .before .before .before .before .before .before .before .before .before .before .before .before .loop .cells) (c .before .before .before .before .before .before .before .before .before .before .before .before .before .before .before .before .before .before .before .before .before .before .before .before .before .before .before .before .before .before .before .before .loop .drives) (c .before .before .before .before .before .before .before .before .before .before .before .before .before .before .before .before .before .before .before .before .before .before .before .before .before .before .before .before .before .before .before .before .loop .sense) (c .before .before .before .before .before .before .before .before .before .before .before .before .before .before .before .before .before .before .before .d .given .0 .0) (c .before .before .before .before .before .before .before .before .before .before .before .before .before .if2 .m) (counted (c .before .before .before .before .before .before .before .before .before .before .before .before .before)) (c .before .before .before .before .before .before .before .before .before .before .before .if3 .drives) (passed (c .before .before .before .before .before .before .before .before .before .before .before)) (c .before .before .before .before .before .before .before .before .act .result) (c .before .before .before .before .before .before .before .before .act .last .1 .1 .1 .1 .1 .1 .0) (c .before .before .before .before .before .before .before .before .act .ensures .0) (c .before .before .before .before .before .before .before .before .act .ensures .1 .0) (c .before .before .before .before .match3 .m) (c .before .before .before .before .match3 .sense) (stored (c .before .before .before .before) .0) (stored (c .before .before .before .before) .1) (c .if4 .drives) (struck c)
 
 range : (c : tie.After-known-told2 Inv-loop μ-loop) → ItemInRange (c .before .d .given .0 .0)
 range c = subst JudgedInRange (c .before .d .given .1) (c .before .before .before .before .before .judge .ensures .1)
 
 -- its record
 did : (c : tie.After-answer Inv-loop μ-loop)
-    → record { machine = wholeMachine (c .before .before .before .before .before .match3 .m) (c .before .before .before .before .before .before .before .before .before .act .result .core) (c .before .before .before .before .before .before .before .before .before .act .last .1 .1 .1 .1 .1 .0) (c .before .if4 .drives) (c .before .before .before .before .before .match3 .sense); answer = c .answer .result }
+    → record { machine = wholeMachine (c .before .before .before .before .before .match3 .m) (c .before .before .before .before .before .before .before .before .before .act .result .core) (c .before .before .before .before .before .before .before .before .before .act .last .1 .1 .1 .1 .1 .1 .0) (c .before .if4 .drives) (c .before .before .before .before .before .match3 .sense); answer = c .answer .result }
     ≡ turnOf (wholeMachine (c .before .before .before .before .before .before .before .before .before .before .before .before .before .before .before .before .before .before .before .before .before .before .before .before .before .before .before .before .before .before .before .before .before .loop .m) (c .before .before .before .before .before .before .before .before .before .before .before .before .before .before .before .before .before .before .before .before .before .before .before .before .before .before .before .before .before .before .before .before .before .loop .core) (c .before .before .before .before .before .before .before .before .before .before .before .before .before .before .before .before .before .before .before .before .before .before .before .before .before .before .before .before .before .before .before .before .before .loop .cells) (c .before .before .before .before .before .before .before .before .before .before .before .before .before .before .before .before .before .before .before .before .before .before .before .before .before .before .before .before .before .before .before .before .before .loop .drives) (c .before .before .before .before .before .before .before .before .before .before .before .before .before .before .before .before .before .before .before .before .before .before .before .before .before .before .before .before .before .before .before .before .before .loop .sense)) (take (c .before .before .before .before .before .before .before .before .before .before .before .before .before .before .before .before .before .before .before .before .before .before .before .before .before .before .before .n .given .0 .0 - 2) (drop 2 (take (length (now (c .before .before .before .before .before .before .before .before .before .before .before .before .before .before .before .before .before .before .before .before .before .before .before .before .before .before .before .before .before .before .before .before .before .before .before .before .before .before .before .before .before .args .list)) - c .before .before .before .before .before .before .before .before .before .before .before .before .before .before .before .before .before .before .before .before .before .before .before .before .before .before .before .before .before .before .before .before .before .loop .at) (drop (c .before .before .before .before .before .before .before .before .before .before .before .before .before .before .before .before .before .before .before .before .before .before .before .before .before .before .before .before .before .before .before .before .before .loop .at) (now (c .before .before .before .before .before .before .before .before .before .before .before .before .before .before .before .before .before .before .before .before .before .before .before .before .before .before .before .before .before .before .before .before .before .before .before .before .before .before .before .before .before .args .list))))))
 unfolding turnJudged
 did c =
-    turns.done (c .before .before .before .before .before .before .before .before .before .before .before .before .before .before .before .before .before .before .before .before .before .before .before .before .before .before .before .before .before .before .before .before .before .loop .m) (c .before .before .before .before .before .before .before .before .before .before .before .before .before .before .before .before .before .before .before .before .before .before .before .before .before .before .before .before .before .before .before .before .before .loop .core) (c .before .before .before .before .before .before .before .before .before .before .before .before .before .before .before .before .before .before .before .before .before .before .before .before .before .before .before .before .before .before .before .before .before .loop .cells) (c .before .before .before .before .before .before .before .before .before .before .before .before .before .before .before .before .before .before .before .before .before .before .before .before .before .before .before .before .before .before .before .before .before .loop .drives) (c .before .before .before .before .before .before .before .before .before .before .before .before .before .before .before .before .before .before .before .before .before .before .before .before .before .before .before .before .before .before .before .before .before .loop .sense) (c .before .before .before .before .before .before .before .before .before .before .before .before .before .before .before .before .before .before .before .before .d .given .0 .0) (c .before .before .before .before .before .before .before .before .before .before .before .before .before .before .if2 .m) (counted (c .before .before .before .before .before .before .before .before .before .before .before .before .before .before)) (c .before .before .before .before .before .before .before .before .before .before .before .before .if3 .drives) (passed (c .before .before .before .before .before .before .before .before .before .before .before .before)) (c .before .before .before .before .before .before .before .before .before .act .result) (c .before .before .before .before .before .before .before .before .before .act .last .1 .1 .1 .1 .1 .0) (c .before .before .before .before .before .before .before .before .before .act .ensures .0) (c .before .before .before .before .before .before .before .before .before .act .ensures .1 .0) (c .before .before .before .before .before .match3 .m) (c .before .before .before .before .before .match3 .sense) (stored (c .before .before .before .before .before) .0) (stored (c .before .before .before .before .before) .1) (c .before .if4 .drives) (struck (c .before)) _
+    turns.done (c .before .before .before .before .before .before .before .before .before .before .before .before .before .before .before .before .before .before .before .before .before .before .before .before .before .before .before .before .before .before .before .before .before .loop .m) (c .before .before .before .before .before .before .before .before .before .before .before .before .before .before .before .before .before .before .before .before .before .before .before .before .before .before .before .before .before .before .before .before .before .loop .core) (c .before .before .before .before .before .before .before .before .before .before .before .before .before .before .before .before .before .before .before .before .before .before .before .before .before .before .before .before .before .before .before .before .before .loop .cells) (c .before .before .before .before .before .before .before .before .before .before .before .before .before .before .before .before .before .before .before .before .before .before .before .before .before .before .before .before .before .before .before .before .before .loop .drives) (c .before .before .before .before .before .before .before .before .before .before .before .before .before .before .before .before .before .before .before .before .before .before .before .before .before .before .before .before .before .before .before .before .before .loop .sense) (c .before .before .before .before .before .before .before .before .before .before .before .before .before .before .before .before .before .before .before .before .d .given .0 .0) (c .before .before .before .before .before .before .before .before .before .before .before .before .before .before .if2 .m) (counted (c .before .before .before .before .before .before .before .before .before .before .before .before .before .before)) (c .before .before .before .before .before .before .before .before .before .before .before .before .if3 .drives) (passed (c .before .before .before .before .before .before .before .before .before .before .before .before)) (c .before .before .before .before .before .before .before .before .before .act .result) (c .before .before .before .before .before .before .before .before .before .act .last .1 .1 .1 .1 .1 .1 .0) (c .before .before .before .before .before .before .before .before .before .act .ensures .0) (c .before .before .before .before .before .before .before .before .before .act .ensures .1 .0) (c .before .before .before .before .before .match3 .m) (c .before .before .before .before .before .match3 .sense) (stored (c .before .before .before .before .before) .0) (stored (c .before .before .before .before .before) .1) (c .before .if4 .drives) (struck (c .before)) _
     (c .before .before .before .before .before .before .before .before .before .before .before .before .before .before .before .before .before .before .before .before .before .before .before .before .judge .ensures .0 (wholeMachine (c .before .before .before .before .before .before .before .before .before .before .before .before .before .before .before .before .before .before .before .before .before .before .before .before .before .before .before .before .before .before .before .before .before .loop .m) (c .before .before .before .before .before .before .before .before .before .before .before .before .before .before .before .before .before .before .before .before .before .before .before .before .before .before .before .before .before .before .before .before .before .loop .core) (c .before .before .before .before .before .before .before .before .before .before .before .before .before .before .before .before .before .before .before .before .before .before .before .before .before .before .before .before .before .before .before .before .before .loop .cells) (c .before .before .before .before .before .before .before .before .before .before .before .before .before .before .before .before .before .before .before .before .before .before .before .before .before .before .before .before .before .before .before .before .before .loop .drives) (c .before .before .before .before .before .before .before .before .before .before .before .before .before .before .before .before .before .before .before .before .before .before .before .before .before .before .before .before .before .before .before .before .before .loop .sense)) refl ∙ ap (turnJudged (wholeMachine (c .before .before .before .before .before .before .before .before .before .before .before .before .before .before .before .before .before .before .before .before .before .before .before .before .before .before .before .before .before .before .before .before .before .loop .m) (c .before .before .before .before .before .before .before .before .before .before .before .before .before .before .before .before .before .before .before .before .before .before .before .before .before .before .before .before .before .before .before .before .before .loop .core) (c .before .before .before .before .before .before .before .before .before .before .before .before .before .before .before .before .before .before .before .before .before .before .before .before .before .before .before .before .before .before .before .before .before .loop .cells) (c .before .before .before .before .before .before .before .before .before .before .before .before .before .before .before .before .before .before .before .before .before .before .before .before .before .before .before .before .before .before .before .before .before .loop .drives) (c .before .before .before .before .before .before .before .before .before .before .before .before .before .before .before .before .before .before .before .before .before .before .before .before .before .before .before .before .before .before .before .before .before .loop .sense))) (c .before .before .before .before .before .before .before .before .before .before .before .before .before .before .before .before .before .before .before .before .d .given .1)) _ (c .answer .ensures)
 
 -- where the ways of the record meet: the parts together are the turn's machine
@@ -146,9 +146,9 @@ lengths c =
     ⊎-elim (λ w. ap length (w .1) ∙ h) (⊎-elim (λ w. ap length (w .2) ∙ h) (λ w. ap length (w .12) ∙ w .9 .kept .0 ∙ h)) (c .loop-test .came)
 
 -- where the ways out of the loop meet
-left : (c : tie.Left-loop Inv-loop μ-loop) → loop.Ret (now (c .before .before .before .before .before .before .before .before .before .args .list)) (now (c .before .before .before .before .before .before .before .before .before .args .answers)) (c .before .before .before .before .before .before .before .before .before .args .t1) (record { machine = (wholeMachine (c .before .loop .m) (c .before .loop .core) (c .before .loop .cells) (c .before .loop .drives) (c .before .loop .sense)); stop = c .loop-test .stop; consumed = c .before .loop .at; written = c .loop-test .out }) (c .loop-test .answers)
+left : (c : tie.Left-loop Inv-loop μ-loop) → loop.Ret (now (c .before .before .before .before .before .before .before .before .before .args .list)) (now (c .before .before .before .before .before .before .before .before .before .args .answers)) (c .before .before .before .before .before .before .before .before .before .args .t2) (record { machine = (wholeMachine (c .before .loop .m) (c .before .loop .core) (c .before .loop .cells) (c .before .loop .drives) (c .before .loop .sense)); stop = c .loop-test .stop; consumed = c .before .loop .at; written = c .loop-test .out }) (c .loop-test .answers)
 left c =
-    let l = now (c .before .before .before .before .before .before .before .before .before .args .list) in let a = now (c .before .before .before .before .before .before .before .before .before .args .answers) in let m = c .before .before .before .before .before .before .before .before .before .args .t1 in let h = c .before .loop in
+    let l = now (c .before .before .before .before .before .before .before .before .before .args .list) in let a = now (c .before .before .before .before .before .before .before .before .before .args .answers) in let m = c .before .before .before .before .before .before .before .before .before .args .t2 in let h = c .before .loop in
     ⊎-elim (λ w. simp (w .1, w .2, w .3) (loop.ended l a m (c .before .before .before .before .before .before .before .before .before .pre) (h .answers) (wholeMachine (c .before .loop .m) (c .before .loop .core) (c .before .loop .cells) (c .before .loop .drives) (c .before .loop .sense)) (h .at) (h .out) (h .inv .0) (h .stop) (h .inv .1) (w .0 .left)))
     (⊎-elim (λ w. simp (w .2, w .3, w .4) (loop.full l a m (c .before .before .before .before .before .before .before .before .before .pre) (h .answers) (wholeMachine (c .before .loop .m) (c .before .loop .core) (c .before .loop .cells) (c .before .loop .drives) (c .before .loop .sense)) (h .at) (h .out) (h .inv .0) (w .0 .taken) (w .1 .taken)))
     (λ w. simp (w .12, w .13, w .14) (loop.cutoff l a m (c .before .before .before .before .before .before .before .before .before .pre) (h .answers) (wholeMachine (c .before .loop .m) (c .before .loop .core) (c .before .loop .cells) (c .before .loop .drives) (c .before .loop .sense)) (h .at) (h .out) (h .inv .0) (w .0 .taken) (w .1 .left)
@@ -161,7 +161,7 @@ cells-of-requires : tie.Need-cells-of-requires Inv-loop μ-loop
 cells-of-requires c κs = search needs
 
 loop-holds : tie.Need-loop-holds Inv-loop μ-loop
-loop-holds c = (simp (c .before .before .cells-of .ensures) (subst (λ (x : Clock). Head (now (c .before .before .before .before .before .before .before .args .list)) (now (c .before .before .before .before .before .before .before .args .answers)) (c .before .before .before .before .before .before .before .args .t1) (now (c .before .before .before .before .before .before .before .args .answers)) (withClock (c .before .before .before .before .before .before .before .args .t1) x) 0 0) (sym (c .before .before .before .core-of .ensures)) (loop.head-first (now (c .before .before .before .before .before .before .before .args .list)) (now (c .before .before .before .before .before .before .before .args .answers)) (c .before .before .before .before .before .before .before .args .t1) (c .before .before .before .before .before .before .before .pre))), refl)
+loop-holds c = (simp (c .before .before .cells-of .ensures) (subst (λ (x : Clock). Head (now (c .before .before .before .before .before .before .before .args .list)) (now (c .before .before .before .before .before .before .before .args .answers)) (c .before .before .before .before .before .before .before .args .t2) (now (c .before .before .before .before .before .before .before .args .answers)) (withClock (c .before .before .before .before .before .before .before .args .t2) x) 0 0) (sym (c .before .before .before .core-of .ensures)) (loop.head-first (now (c .before .before .before .before .before .before .before .args .list)) (now (c .before .before .before .before .before .before .before .args .answers)) (c .before .before .before .before .before .before .before .args .t2) (c .before .before .before .before .before .before .before .pre))), refl)
 
 sub-if1 : tie.Need-sub-if1 Inv-loop μ-loop
 sub-if1 c = search needs
@@ -311,7 +311,7 @@ loop-less : tie.Need-loop-less Inv-loop μ-loop
 loop-less c = omega (arith, fits (c .before .before .before .before .before .before .before .before .before .before), c .before .before .before .before .before .before .before .before .before .before .before .before .before .before .before .before .loop-test .taken)
 
 loop-again : tie.Need-loop-again Inv-loop μ-loop
-loop-again c = (loop.again (now (c .before .before .before .before .before .before .before .before .before .before .before .before .before .before .before .before .before .before .before .before .before .before .before .before .before .args .list)) (now (c .before .before .before .before .before .before .before .before .before .before .before .before .before .before .before .before .before .before .before .before .before .before .before .before .before .args .answers)) (c .before .before .before .before .before .before .before .before .before .before .before .before .before .before .before .before .before .before .before .before .before .before .before .before .before .args .t1) (c .before .before .before .before .before .before .before .before .before .before .before .before .before .before .before .before .before .before .before .before .before .before .before .before .before .pre) (c .before .before .before .before .before .before .before .before .before .before .before .before .before .before .before .before .before .loop .answers) (wholeMachine (c .before .before .before .before .before .before .before .before .before .before .before .before .before .before .before .before .before .loop .m) (c .before .before .before .before .before .before .before .before .before .before .before .before .before .before .before .before .before .loop .core) (c .before .before .before .before .before .before .before .before .before .before .before .before .before .before .before .before .before .loop .cells) (c .before .before .before .before .before .before .before .before .before .before .before .before .before .before .before .before .before .loop .drives) (c .before .before .before .before .before .before .before .before .before .before .before .before .before .before .before .before .before .loop .sense)) (c .before .before .before .before .before .before .before .before .before .before .before .before .before .before .before .before .before .loop .at) (c .before .before .before .before .before .before .before .before .before .before .before .before .before .before .before .before .before .loop .out) (c .before .before .before .before .before .before .before .before .before .before .before .before .before .before .before .before .before .loop .inv .0) (c .before .before .before .before .before .before .before .before .before .before .before .before .before .before .before .before .loop-test .taken) (c .before .before .before .before .before .before .before .before .before .before .before .before .before .before .before .if1 .left) (c .before .before .before .before .before .before .before .before .before .before .before .n .given .0 .0) (found (c .before .before .before .before .before .before .before .before .before .before)) _ (met (c .before .before .before .before .before)) (c .before .before .before .answer-bytes2 .result) (c .before .before .before .answer-bytes2 .ensures) (c .before .before .put2 .last .0) (c .before .before .put2 .ensures), c .before .before .before .before .before .before .before .before .before .before .before .before .before .before .before .before .before .loop .inv .1)
+loop-again c = (loop.again (now (c .before .before .before .before .before .before .before .before .before .before .before .before .before .before .before .before .before .before .before .before .before .before .before .before .before .args .list)) (now (c .before .before .before .before .before .before .before .before .before .before .before .before .before .before .before .before .before .before .before .before .before .before .before .before .before .args .answers)) (c .before .before .before .before .before .before .before .before .before .before .before .before .before .before .before .before .before .before .before .before .before .before .before .before .before .args .t2) (c .before .before .before .before .before .before .before .before .before .before .before .before .before .before .before .before .before .before .before .before .before .before .before .before .before .pre) (c .before .before .before .before .before .before .before .before .before .before .before .before .before .before .before .before .before .loop .answers) (wholeMachine (c .before .before .before .before .before .before .before .before .before .before .before .before .before .before .before .before .before .loop .m) (c .before .before .before .before .before .before .before .before .before .before .before .before .before .before .before .before .before .loop .core) (c .before .before .before .before .before .before .before .before .before .before .before .before .before .before .before .before .before .loop .cells) (c .before .before .before .before .before .before .before .before .before .before .before .before .before .before .before .before .before .loop .drives) (c .before .before .before .before .before .before .before .before .before .before .before .before .before .before .before .before .before .loop .sense)) (c .before .before .before .before .before .before .before .before .before .before .before .before .before .before .before .before .before .loop .at) (c .before .before .before .before .before .before .before .before .before .before .before .before .before .before .before .before .before .loop .out) (c .before .before .before .before .before .before .before .before .before .before .before .before .before .before .before .before .before .loop .inv .0) (c .before .before .before .before .before .before .before .before .before .before .before .before .before .before .before .before .loop-test .taken) (c .before .before .before .before .before .before .before .before .before .before .before .before .before .before .before .if1 .left) (c .before .before .before .before .before .before .before .before .before .before .before .n .given .0 .0) (found (c .before .before .before .before .before .before .before .before .before .before)) _ (met (c .before .before .before .before .before)) (c .before .before .before .answer-bytes2 .result) (c .before .before .before .answer-bytes2 .ensures) (c .before .before .put2 .last .0) (c .before .before .put2 .ensures), c .before .before .before .before .before .before .before .before .before .before .before .before .before .before .before .before .before .loop .inv .1)
 
 whole-machine-requires : tie.Need-whole-machine-requires Inv-loop μ-loop
 whole-machine-requires c κs = search needs
@@ -320,7 +320,7 @@ same-length : tie.Need-same-length Inv-loop μ-loop
 same-length c = lengths (c .before)
 
 returns : tie.Need-returns Inv-loop μ-loop
-returns c = simp (c .whole-machine .ensures) (loop.ret (now (c .before .before .before .before .before .before .before .before .before .before .args .list)) (now (c .before .before .before .before .before .before .before .before .before .before .args .answers)) (c .before .before .before .before .before .before .before .before .before .before .args .t1) (left (c .before)))
+returns c = simp (c .whole-machine .ensures) (loop.ret (now (c .before .before .before .before .before .before .before .before .before .before .args .list)) (now (c .before .before .before .before .before .before .before .before .before .before .args .answers)) (c .before .before .before .before .before .before .before .before .before .before .args .t2) (left (c .before)))
 
 pub run-accepted-spec : {M : Type 1} → statement M
 run-accepted-spec =
