@@ -67,7 +67,7 @@ returns-2 : tie.Need-returns-2
 returns-2 c =
     let a = c .before .before .before .before .before .before .before .before .before .before .before .before .before .before .before .before .args in
     call.ran (now (a .image)) (now (a .list)) (now (a .answers)) (good (c .before .before .before .before .before .before .before .before .before .before)) (c .before .before .before .before .before .before .before .before .load .result) (c .before .before .before .before .before .before .before .before .load .ensures)
-    (c .before .before .before .before .before .before .run-accepted .result) (c .before .before .before .before .before .before .run-accepted .ensures .0) (c .before .before .before .before .before .before .run-accepted .last .1 .1 .0) (c .before .before .before .before .before .before .run-accepted .ensures .1 .0)
+    (c .before .before .before .before .before .before .run-accepted .result) (c .before .before .before .before .before .before .run-accepted .ensures .0) (c .before .before .before .before .before .before .run-accepted .last .1 .1 .1 .0) (c .before .before .before .before .before .before .run-accepted .ensures .1 .0)
     (c .before .before .save .last .0) (c .before .before .save .ensures .0) (c .before .before .save .ensures .1 .0) (c .before .before .save .ensures .1 .1)
 
 pub run-by-spec : {M : Type 1} → statement M
