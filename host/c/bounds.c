@@ -68,7 +68,8 @@ static void call(const uint8_t *state, size_t state_len, const uint8_t *items, s
     place(&list, items, items_len, at_end);
     place(&answers, blank, room, at_end);
     memset(answers.at, 0xC3, room);
-    uint8_t stop = swarmtempo_run(image.at, state_len, list.at, items_len, answers.at, room, &counts[1], &counts[2]);
+    /* Both engines, by turns. */
+    uint8_t stop = (calls % 2 ? swarmtempo_run_plain : swarmtempo_run)(image.at, state_len, list.at, items_len, answers.at, room, &counts[1], &counts[2]);
     calls++;
     guards_hold(&image);
     guards_hold(&list);

@@ -116,6 +116,14 @@ uint8_t swarmtempo_run(uint8_t *image, size_t image_len, const uint8_t *list, si
                        uint8_t *answers, size_t answers_len, uint64_t *consumed, uint64_t *written);
 
 /*
+ * The same by the plain engine: the clock chip's command bytes are told by their bit patterns, where
+ * swarmtempo_run looks them up in its table. Both are proved to do the same; this one is for those who
+ * want to see it.
+ */
+uint8_t swarmtempo_run_plain(uint8_t *image, size_t image_len, const uint8_t *list, size_t list_len,
+                             uint8_t *answers, size_t answers_len, uint64_t *consumed, uint64_t *written);
+
+/*
  * Bytes of a state image of a machine whose clock chip has so many cells: SWARMTEMPO_CELLS_FIRST or
  * SWARMTEMPO_CELLS_LATER. 0 for any other number.
  */

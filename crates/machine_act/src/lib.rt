@@ -21,6 +21,7 @@ ghost use Rattle.machine_spec.specs.Machine.{Levels};
 ghost use Rattle.machine_spec.specs.Stages.{itemWait};
 ghost use Rattle.machine_spec.specs.Action.{actedOf};
 ghost use Rattle.machine_act.specs.Parts.{wholeMachine, boardVia, boardChange, senseChange, machineAfter, clockedOf, ChangeInRange, PhaseAccepted};
+use clock_command::Engine;
 use clock_parts::Core;
 use disk_lines::DiskLines;
 use disk_spec::Drives;
@@ -119,7 +120,14 @@ fn iwm_value(d: DiskLines, drives: Drives, location: u8, ports: Ports, sense: &[
 }
 
 // The clock's look at its wires, where a VIA register is written: port B's output and its direction alone move them.
-fn clocked(k: Core, ports: Ports, register: u8, value: u8, cells: &mut [u8; 256]) -> Core
+fn clocked(
+    engine: Engine,
+    k: Core,
+    ports: Ports,
+    register: u8,
+    value: u8,
+    cells: &mut [u8; 256],
+) -> Core
     requires { ⌜ acceptedPhase (k .chip) (k .phase) (wiresOf ports (shownLevel (k .phase)) .enable) ≡ true ⌝ }
     ensures { λ r. ⌜ wholeClock r (now (cells .exit)) ≡ stepWires (wholeClock k (now (cells .entry))) (wiresOf ports (shownLevel (k .phase))) (wiresOf (portsWritten register value ports) (shownLevel (k .phase))) ⌝ }
 {
@@ -132,7 +140,7 @@ fn clocked(k: Core, ports: Ports, register: u8, value: u8, cells: &mut [u8; 256]
     let p = k.phase;
     let line = clock_phase::shown_line(p);
     let before = machine_pins::wires_of(ports, line);
-    clock_parts::step(k, before, machine_pins::wires_of(next, line), cells)
+    clock_parts::step(engine, k, before, machine_pins::wires_of(next, line), cells)
 }
 
 // What a write to a VIA register changes.
@@ -159,6 +167,7 @@ fn sense_index(drive: u8, register: u8) -> usize
 
 // What an item does, its wait having passed, and the clock's look at its wires.
 pub fn act(
+    engine: Engine,
     b: Board,
     k: Core,
     d: Drives,
@@ -192,7 +201,7 @@ pub fn act(
             value,
             ..
         } => {
-            core = clocked(k, b.via.ports, register, value, cells);
+            core = clocked(engine, k, b.via.ports, register, value, cells);
             change = via_change(register, value);
         }
         Item::WriteIwm { location, .. } => disk = b.disk.access(location),

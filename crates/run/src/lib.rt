@@ -5,6 +5,7 @@ ghost use Prim.Native.Nat.{_≤_};
 ghost use lib.ListN.{length};
 ghost use Rattle.machine_spec.specs.Machine.{acceptedOf};
 ghost use Rattle.run_spec.specs.Outcome.{halt, ranOf, over, runOf};
+use clock_command::Engine;
 use item_spec::Decoded;
 use item_spec::Framed;
 use machine_act::Change;
@@ -25,7 +26,7 @@ fn unaccepted(m: Machine) -> Ran
 
 // The same from a machine known to be accepted, taken apart: the board, the sense registers and the cells stay in place, and the first two are changed here alone;
 // the clock's core and the drives go by value.
-pub fn run_accepted(m: Machine, list: &[u8], answers: &mut [u8]) -> Ran
+pub fn run_accepted(engine: Engine, m: Machine, list: &[u8], answers: &mut [u8]) -> Ran
     requires { ⌜ acceptedOf m ≡ true ⌝ }
     ensures { λ r. ⌜ r ≡ ranOf (runOf m (now (list .entry)) (length (now (answers .entry)))) ⌝ }
     ensures { λ _. ⌜ now (answers .exit) ≡ over (runOf m (now (list .entry)) (length (now (answers .entry)))) (now (answers .entry)) ⌝ }
@@ -65,7 +66,7 @@ pub fn run_accepted(m: Machine, list: &[u8], answers: &mut [u8]) -> Ran
             if disk_drives::busy(drives) {
                 drives = disk_drives::wait(drives, wait);
             }
-            let a = machine_act::act(board, core, drives, item, &sense, &mut cells);
+            let a = machine_act::act(engine, board, core, drives, item, &sense, &mut cells);
             let disk = a.disk;
             board.disk = disk;
             core = a.core;
@@ -101,13 +102,13 @@ pub fn run_accepted(m: Machine, list: &[u8], answers: &mut [u8]) -> Ran
 }
 
 // Runs the list from the machine given. The stop is 0 at the end of the list, else 1, 6 or 7.
-pub fn run(m: Machine, list: &[u8], answers: &mut [u8]) -> Ran
+pub fn run(engine: Engine, m: Machine, list: &[u8], answers: &mut [u8]) -> Ran
     ensures { λ r. ⌜ r ≡ ranOf (runOf m (now (list .entry)) (length (now (answers .entry)))) ⌝ }
     ensures { λ _. ⌜ now (answers .exit) ≡ over (runOf m (now (list .entry)) (length (now (answers .entry)))) (now (answers .entry)) ⌝ }
     ensures { λ r. ⌜ r .written ≤ length (now (answers .entry)) ⌝ }
 {
     if machine::accepted(m) {
-        return run_accepted(m, list, answers);
+        return run_accepted(engine, m, list, answers);
     }
     unaccepted(m)
 }

@@ -65,7 +65,7 @@ const OUT: Flag = Flag {
     help: "writes to FILE, which appears whole or not at all (without it: standard output)",
 };
 
-const RUN: [Flag; 11] = [
+const RUN: [Flag; 12] = [
     Flag { name: "--text", value: "", help: "LIST is in the text form" },
     Flag { name: "--records", value: "", help: "LIST is records even where it looks like a text" },
     Flag {
@@ -93,6 +93,11 @@ const RUN: [Flag; 11] = [
         name: "--room",
         value: "BYTES",
         help: "gives the answers so many bytes in all (without it: all they need)",
+    },
+    Flag {
+        name: "--plain",
+        value: "",
+        help: "tells the clock chip's command bytes by their bit patterns, not by the table: all comes out the same",
     },
     Flag { name: "--quiet", value: "", help: "no table, and no summary where nothing is refused" },
     Flag {

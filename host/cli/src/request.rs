@@ -41,6 +41,8 @@ pub struct Options {
     pub quiet: bool,
     /// A refusal is a status.
     pub strict: bool,
+    /// By the plain engine.
+    pub plain: bool,
     /// Whether there are colours.
     pub colour: When,
     /// The clock chip of a fresh machine.
@@ -68,6 +70,7 @@ impl Options {
             form: Form::of("run", given)?,
             quiet: given.flag("--quiet"),
             strict: given.flag("--strict"),
+            plain: given.flag("--plain"),
             colour: colour
                 .ok_or_else(|| Failure::usage("run", "--color needs always, never or auto"))?,
             chip: chip("run", given)?,

@@ -95,6 +95,8 @@ impl Outs {
 
 struct Runner {
     machine: Machine,
+    /// By the plain engine.
+    plain: bool,
     answers: Option<Out>,
     table: Option<Out>,
     rows: Table,
@@ -118,6 +120,7 @@ impl Runner {
         Ok(Runner {
             summary: Summary::new(machine.state()),
             machine,
+            plain: options.plain,
             answers: outs.answers,
             table: outs.table,
             rows: Table::default(),
@@ -186,7 +189,11 @@ impl Runner {
         let wanted = ANSWER_LEN * pieces(part).count();
         buffer.clear();
         buffer.resize(wanted.min(usize::try_from(self.room).unwrap_or(usize::MAX)), 0);
-        let run = self.machine.run_in(part, buffer);
+        let run = if self.plain {
+            self.machine.run_in_plain(part, buffer)
+        } else {
+            self.machine.run_in(part, buffer)
+        };
         buffer.truncate(run.written);
         self.show(part, buffer)?;
         self.stop = run.stop;

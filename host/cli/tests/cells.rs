@@ -45,6 +45,28 @@ fn the_chip_is_chosen_at_the_start() {
     }
 }
 
+/// Every first byte, with a second one and data: a run by the patterns shows and leaves what one by the
+/// table does.
+#[test]
+fn the_plain_engine_does_the_same() {
+    let folder = Folder::new("plain");
+    let mut list = List::default();
+    for first in 0..=255 {
+        sent(&mut list, &[first, 0x2C, first ^ 0x5A]);
+    }
+    for cells in ["20", "256"] {
+        let runs = [&["--plain"][..], &[]].map(|words| {
+            let save = folder.path("end");
+            let common = ["run", "-", "--records", "--cells", cells, "--save", &save];
+            let output = program(&[&common[..], words].concat(), list.as_ref());
+            assert_eq!(status(&output), 0, "{}", stderr(&output));
+            (output.stdout, output.stderr, folder.get("end"))
+        });
+        assert_eq!(runs[0], runs[1], "{cells} cells");
+        assert!(String::from_utf8_lossy(&runs[0].1).contains("  cells changed cell "));
+    }
+}
+
 #[test]
 fn words_for_cells() {
     let folder = Folder::new("cells-words");

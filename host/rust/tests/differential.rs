@@ -1,4 +1,5 @@
-//! The library against the plain model on random lists: answers, counts and images.
+//! The library, by the table and by the plain engine, against the plain model on random lists: answers,
+//! counts and images.
 //!
 //! `SWARMTEMPO_SEED` takes another seed (the fixed one is 1), `SWARMTEMPO_LISTS` another number of
 //! lists.
@@ -73,10 +74,18 @@ fn by_model(case: &Case) -> Left {
     Left { stop: run.stop, consumed: run.consumed, written: run.written, answers, image }
 }
 
-/// By the C entry itself, so that images that are not accepted can be given too.
+/// One of the two engines: the C entry itself, so that images that are not accepted can be given too.
+type Engine = fn(&mut [u8], &[u8], &mut [u8]) -> sys::Report;
+
+const ENGINES: [(&str, Engine); 2] = [("library", sys::run), ("plain engine", sys::run_plain)];
+
 fn by_library(case: &Case) -> Left {
+    by_engine(sys::run, case)
+}
+
+fn by_engine(engine: Engine, case: &Case) -> Left {
     let (mut image, mut answers) = (case.image.clone(), vec![UNUSED; case.room]);
-    let run = sys::run(&mut image, &case.parts.concat(), &mut answers);
+    let run = engine(&mut image, &case.parts.concat(), &mut answers);
     let [consumed, written] =
         [run.consumed, run.written].map(|n| usize::try_from(n).expect("64 bits"));
     Left { stop: run.stop, consumed, written, answers, image }
@@ -824,6 +833,7 @@ fn shrink(mut case: Case, differs: impl Fn(&Case) -> bool) -> Case {
 }
 
 fn report(case: &Case, seed: u64, index: u64) -> String {
+    let [library, plain] = ENGINES.map(|(_, engine)| by_engine(engine, case));
     let list = case.parts.concat();
     let fresh = model::Chip::BOTH.into_iter().find(|&it| case.image == model::fresh_image(it));
     let image = match fresh {
@@ -831,11 +841,10 @@ fn report(case: &Case, seed: u64, index: u64) -> String {
         None => format!("{:02X?}", case.image),
     };
     format!(
-        "list {index} of seed {seed}\nimage: {image}\nanswer room: {} bytes\nlist:\n{}bytes: {list:02X?}\nmodel:   {:02X?}\nlibrary: {:02X?}",
+        "list {index} of seed {seed}\nimage: {image}\nanswer room: {} bytes\nlist:\n{}bytes: {list:02X?}\nmodel:   {:02X?}\nlibrary: {library:02X?}\nplain:   {plain:02X?}",
         case.room,
         disassemble(&list),
         by_model(case),
-        by_library(case),
     )
 }
 
@@ -934,9 +943,11 @@ fn library_equals_model() {
     for index in 0..lists {
         let case = some_case(Random(seed ^ index.wrapping_mul(0xD134_2543_DE82_EF95)).next());
         let left = by_model(&case);
-        if by_library(&case) != left {
-            let small = shrink(case, |case| by_library(case) != by_model(case));
-            panic!("library and model differ\n{}", report(&small, seed, index));
+        for (name, engine) in ENGINES {
+            if by_engine(engine, &case) != left {
+                let small = shrink(case, |case| by_engine(engine, case) != by_model(case));
+                panic!("{name} and model differ\n{}", report(&small, seed, index));
+            }
         }
         reached.count(&case, &left);
     }

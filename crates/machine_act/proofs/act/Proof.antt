@@ -87,8 +87,8 @@ add-seconds-requires c κs = search needs
 enum-known-item-5 : tie.Need-enum-known-item-5
 enum-known-item-5 c = search needs
 
-cast-t31 : tie.Need-cast-t31
-cast-t31 c = search needs
+cast-t32 : tie.Need-cast-t32
+cast-t32 c = search needs
 
 enum-known-item-6 : tie.Need-enum-known-item-6
 enum-known-item-6 c = search needs
@@ -195,7 +195,7 @@ act-spec =
     enum-told-2
     add-seconds-requires
     enum-known-item-5
-    cast-t31
+    cast-t32
     enum-known-item-6
     sense-index-requires
     enum-told-3

@@ -64,10 +64,10 @@ use Rattle.via.proofs.Via.write.Reads as write-reads
 use Rattle.via.proofs.fresh.Reads as fresh-reads
 
 abbrev Inv-loop : tie.InvT-loop
-Inv-loop list answers₀ board₀ core₀ cells₀ drives₀ sense₀ stop₀ at₀ out₀ answers board core cells drives sense stop at out = Head list answers₀ (wholeMachine board₀ core₀ cells₀ drives₀ sense₀) answers (wholeMachine board core cells drives sense) at out × (stop ≡ 0)
+Inv-loop engine list answers₀ board₀ core₀ cells₀ drives₀ sense₀ stop₀ at₀ out₀ answers board core cells drives sense stop at out = Head list answers₀ (wholeMachine board₀ core₀ cells₀ drives₀ sense₀) answers (wholeMachine board core cells drives sense) at out × (stop ≡ 0)
 
 abbrev μ-loop : tie.MeasureT-loop
-μ-loop list answers₀ board₀ core₀ cells₀ drives₀ sense₀ stop₀ at₀ out₀ answers board core cells drives sense stop at out = length list - at
+μ-loop engine list answers₀ board₀ core₀ cells₀ drives₀ sense₀ stop₀ at₀ out₀ answers board core cells drives sense stop at out = length list - at
 
 -- the machine that the parts make before the first record
 abbrev begun : tie.After-cells-of Inv-loop μ-loop → Machine
@@ -133,26 +133,26 @@ struck c =
     let before = c .before .before .before .before .before .before .before .before .before .before .before .before .before .before .before .before .before .watched .ensures k (l .sense) (l .drives) in
     let after = c .before .before .before .watched2 .ensures k (l .sense) (l .drives) in
     ⊎-elim (λ w. w .2 ∙ w .1 .ensures ∙ ap₂ (λ (x y : Watched). drivesAfter x y (c .before .before .before .before .before .before .before .before .act .result .drives)) before after)
-    (λ w. w .1 ∙ turns.dark (c .before .before .before .before .before .before .before .before .before .before .before .before .before .before .before .before .before .before .before .before .before .before .before .before .before .before .before .before .before .before .before .before .loop .board) (c .before .before .before .before .before .before .before .before .before .before .before .before .before .before .before .before .before .before .before .before .before .before .before .before .before .before .before .before .before .before .before .before .loop .core) (c .before .before .before .before .before .before .before .before .before .before .before .before .before .before .before .before .before .before .before .before .before .before .before .before .before .before .before .before .before .before .before .before .loop .cells) (c .before .before .before .before .before .before .before .before .before .before .before .before .before .before .before .before .before .before .before .before .before .before .before .before .before .before .before .before .before .before .before .before .loop .drives) (c .before .before .before .before .before .before .before .before .before .before .before .before .before .before .before .before .before .before .before .before .before .before .before .before .before .before .before .before .before .before .before .before .loop .sense) (c .before .before .before .before .before .before .before .before .before .before .before .before .before .before .before .before .before .before .before .d .given .0 .0) (c .before .before .before .before .before .before .before .before .before .before .before .before .before .if2 .board) (counted (c .before .before .before .before .before .before .before .before .before .before .before .before .before)) (c .before .before .before .before .before .before .before .before .before .before .before .if3 .drives) (passed (c .before .before .before .before .before .before .before .before .before .before .before)) (c .before .before .before .before .before .before .before .before .act .result) (c .before .before .before .before .before .before .before .before .act .last .1 .1 .1 .1 .1 .0) (c .before .before .before .before .before .before .before .before .act .ensures .0) (c .before .before .before .before .match3 .board) (c .before .before .before .before .before .before .before .before .before .before .before .before .before .before .before .before .before .before .before .before .before .before .before .before .before .before .before .before .before .before .before .before .loop .inv .0 .ok)
+    (λ w. w .1 ∙ turns.dark (c .before .before .before .before .before .before .before .before .before .before .before .before .before .before .before .before .before .before .before .before .before .before .before .before .before .before .before .before .before .before .before .before .loop .board) (c .before .before .before .before .before .before .before .before .before .before .before .before .before .before .before .before .before .before .before .before .before .before .before .before .before .before .before .before .before .before .before .before .loop .core) (c .before .before .before .before .before .before .before .before .before .before .before .before .before .before .before .before .before .before .before .before .before .before .before .before .before .before .before .before .before .before .before .before .loop .cells) (c .before .before .before .before .before .before .before .before .before .before .before .before .before .before .before .before .before .before .before .before .before .before .before .before .before .before .before .before .before .before .before .before .loop .drives) (c .before .before .before .before .before .before .before .before .before .before .before .before .before .before .before .before .before .before .before .before .before .before .before .before .before .before .before .before .before .before .before .before .loop .sense) (c .before .before .before .before .before .before .before .before .before .before .before .before .before .before .before .before .before .before .before .d .given .0 .0) (c .before .before .before .before .before .before .before .before .before .before .before .before .before .if2 .board) (counted (c .before .before .before .before .before .before .before .before .before .before .before .before .before)) (c .before .before .before .before .before .before .before .before .before .before .before .if3 .drives) (passed (c .before .before .before .before .before .before .before .before .before .before .before)) (c .before .before .before .before .before .before .before .before .act .result) (c .before .before .before .before .before .before .before .before .act .last .1 .1 .1 .1 .1 .1 .0) (c .before .before .before .before .before .before .before .before .act .ensures .0) (c .before .before .before .before .match3 .board) (c .before .before .before .before .before .before .before .before .before .before .before .before .before .before .before .before .before .before .before .before .before .before .before .before .before .before .before .before .before .before .before .before .loop .inv .0 .ok)
     (sym (ap₂ (λ (x y : Watched). x .lstrb || y .lstrb) before after) ∙ w .0 .left)) (c .if4 .came)
 
 -- the item carried out
 stepped : (c : tie.Joined4 Inv-loop μ-loop)
-    → record { machine = wholeMachine (c .before .before .before .before .match3 .board) (c .before .before .before .before .before .before .before .before .act .result .core) (c .before .before .before .before .before .before .before .before .act .last .1 .1 .1 .1 .1 .0) (c .if4 .drives) (c .before .before .before .before .match3 .sense); value = c .before .before .before .before .before .before .before .before .act .result .value }
+    → record { machine = wholeMachine (c .before .before .before .before .match3 .board) (c .before .before .before .before .before .before .before .before .act .result .core) (c .before .before .before .before .before .before .before .before .act .last .1 .1 .1 .1 .1 .1 .0) (c .if4 .drives) (c .before .before .before .before .match3 .sense); value = c .before .before .before .before .before .before .before .before .act .result .value }
     ≡ stepOf (wholeMachine (c .before .before .before .before .before .before .before .before .before .before .before .before .before .before .before .before .before .before .before .before .before .before .before .before .before .before .before .before .before .before .before .before .loop .board) (c .before .before .before .before .before .before .before .before .before .before .before .before .before .before .before .before .before .before .before .before .before .before .before .before .before .before .before .before .before .before .before .before .loop .core) (c .before .before .before .before .before .before .before .before .before .before .before .before .before .before .before .before .before .before .before .before .before .before .before .before .before .before .before .before .before .before .before .before .loop .cells) (c .before .before .before .before .before .before .before .before .before .before .before .before .before .before .before .before .before .before .before .before .before .before .before .before .before .before .before .before .before .before .before .before .loop .drives) (c .before .before .before .before .before .before .before .before .before .before .before .before .before .before .before .before .before .before .before .before .before .before .before .before .before .before .before .before .before .before .before .before .loop .sense)) (c .before .before .before .before .before .before .before .before .before .before .before .before .before .before .before .before .before .before .before .d .given .0 .0)
 stepped c =
-    turns.stepped (c .before .before .before .before .before .before .before .before .before .before .before .before .before .before .before .before .before .before .before .before .before .before .before .before .before .before .before .before .before .before .before .before .loop .board) (c .before .before .before .before .before .before .before .before .before .before .before .before .before .before .before .before .before .before .before .before .before .before .before .before .before .before .before .before .before .before .before .before .loop .core) (c .before .before .before .before .before .before .before .before .before .before .before .before .before .before .before .before .before .before .before .before .before .before .before .before .before .before .before .before .before .before .before .before .loop .cells) (c .before .before .before .before .before .before .before .before .before .before .before .before .before .before .before .before .before .before .before .before .before .before .before .before .before .before .before .before .before .before .before .before .loop .drives) (c .before .before .before .before .before .before .before .before .before .before .before .before .before .before .before .before .before .before .before .before .before .before .before .before .before .before .before .before .before .before .before .before .loop .sense) (c .before .before .before .before .before .before .before .before .before .before .before .before .before .before .before .before .before .before .before .d .given .0 .0) (c .before .before .before .before .before .before .before .before .before .before .before .before .before .if2 .board) (counted (c .before .before .before .before .before .before .before .before .before .before .before .before .before)) (c .before .before .before .before .before .before .before .before .before .before .before .if3 .drives) (passed (c .before .before .before .before .before .before .before .before .before .before .before)) (c .before .before .before .before .before .before .before .before .act .result) (c .before .before .before .before .before .before .before .before .act .last .1 .1 .1 .1 .1 .0) (c .before .before .before .before .before .before .before .before .act .ensures .0) (c .before .before .before .before .before .before .before .before .act .ensures .1 .0) (c .before .before .before .before .match3 .board) (c .before .before .before .before .match3 .sense) (stored (c .before .before .before .before) .0) (stored (c .before .before .before .before) .1) (c .if4 .drives) (struck c)
+    turns.stepped (c .before .before .before .before .before .before .before .before .before .before .before .before .before .before .before .before .before .before .before .before .before .before .before .before .before .before .before .before .before .before .before .before .loop .board) (c .before .before .before .before .before .before .before .before .before .before .before .before .before .before .before .before .before .before .before .before .before .before .before .before .before .before .before .before .before .before .before .before .loop .core) (c .before .before .before .before .before .before .before .before .before .before .before .before .before .before .before .before .before .before .before .before .before .before .before .before .before .before .before .before .before .before .before .before .loop .cells) (c .before .before .before .before .before .before .before .before .before .before .before .before .before .before .before .before .before .before .before .before .before .before .before .before .before .before .before .before .before .before .before .before .loop .drives) (c .before .before .before .before .before .before .before .before .before .before .before .before .before .before .before .before .before .before .before .before .before .before .before .before .before .before .before .before .before .before .before .before .loop .sense) (c .before .before .before .before .before .before .before .before .before .before .before .before .before .before .before .before .before .before .before .d .given .0 .0) (c .before .before .before .before .before .before .before .before .before .before .before .before .before .if2 .board) (counted (c .before .before .before .before .before .before .before .before .before .before .before .before .before)) (c .before .before .before .before .before .before .before .before .before .before .before .if3 .drives) (passed (c .before .before .before .before .before .before .before .before .before .before .before)) (c .before .before .before .before .before .before .before .before .act .result) (c .before .before .before .before .before .before .before .before .act .last .1 .1 .1 .1 .1 .1 .0) (c .before .before .before .before .before .before .before .before .act .ensures .0) (c .before .before .before .before .before .before .before .before .act .ensures .1 .0) (c .before .before .before .before .match3 .board) (c .before .before .before .before .match3 .sense) (stored (c .before .before .before .before) .0) (stored (c .before .before .before .before) .1) (c .if4 .drives) (struck c)
 
 range : (c : tie.After-known-told2 Inv-loop μ-loop) → ItemInRange (c .before .d .given .0 .0)
 range c = subst JudgedInRange (c .before .d .given .1) (c .before .before .before .before .before .judge .ensures .1)
 
 -- its record
 did : (c : tie.After-answer Inv-loop μ-loop)
-    → record { machine = wholeMachine (c .before .before .before .before .before .match3 .board) (c .before .before .before .before .before .before .before .before .before .act .result .core) (c .before .before .before .before .before .before .before .before .before .act .last .1 .1 .1 .1 .1 .0) (c .before .if4 .drives) (c .before .before .before .before .before .match3 .sense); answer = c .answer .result }
+    → record { machine = wholeMachine (c .before .before .before .before .before .match3 .board) (c .before .before .before .before .before .before .before .before .before .act .result .core) (c .before .before .before .before .before .before .before .before .before .act .last .1 .1 .1 .1 .1 .1 .0) (c .before .if4 .drives) (c .before .before .before .before .before .match3 .sense); answer = c .answer .result }
     ≡ turnOf (wholeMachine (c .before .before .before .before .before .before .before .before .before .before .before .before .before .before .before .before .before .before .before .before .before .before .before .before .before .before .before .before .before .before .before .before .before .loop .board) (c .before .before .before .before .before .before .before .before .before .before .before .before .before .before .before .before .before .before .before .before .before .before .before .before .before .before .before .before .before .before .before .before .before .loop .core) (c .before .before .before .before .before .before .before .before .before .before .before .before .before .before .before .before .before .before .before .before .before .before .before .before .before .before .before .before .before .before .before .before .before .loop .cells) (c .before .before .before .before .before .before .before .before .before .before .before .before .before .before .before .before .before .before .before .before .before .before .before .before .before .before .before .before .before .before .before .before .before .loop .drives) (c .before .before .before .before .before .before .before .before .before .before .before .before .before .before .before .before .before .before .before .before .before .before .before .before .before .before .before .before .before .before .before .before .before .loop .sense)) (take (c .before .before .before .before .before .before .before .before .before .before .before .before .before .before .before .before .before .before .before .before .before .before .before .before .before .before .before .n .given .0 .0 - 2) (drop 2 (take (length (now (c .before .before .before .before .before .before .before .before .before .before .before .before .before .before .before .before .before .before .before .before .before .before .before .before .before .before .before .before .before .before .before .before .before .before .before .before .before .before .before .before .before .before .args .list)) - c .before .before .before .before .before .before .before .before .before .before .before .before .before .before .before .before .before .before .before .before .before .before .before .before .before .before .before .before .before .before .before .before .before .loop .at) (drop (c .before .before .before .before .before .before .before .before .before .before .before .before .before .before .before .before .before .before .before .before .before .before .before .before .before .before .before .before .before .before .before .before .before .loop .at) (now (c .before .before .before .before .before .before .before .before .before .before .before .before .before .before .before .before .before .before .before .before .before .before .before .before .before .before .before .before .before .before .before .before .before .before .before .before .before .before .before .before .before .before .args .list))))))
 unfolding turnJudged
 did c =
-    turns.done (c .before .before .before .before .before .before .before .before .before .before .before .before .before .before .before .before .before .before .before .before .before .before .before .before .before .before .before .before .before .before .before .before .before .loop .board) (c .before .before .before .before .before .before .before .before .before .before .before .before .before .before .before .before .before .before .before .before .before .before .before .before .before .before .before .before .before .before .before .before .before .loop .core) (c .before .before .before .before .before .before .before .before .before .before .before .before .before .before .before .before .before .before .before .before .before .before .before .before .before .before .before .before .before .before .before .before .before .loop .cells) (c .before .before .before .before .before .before .before .before .before .before .before .before .before .before .before .before .before .before .before .before .before .before .before .before .before .before .before .before .before .before .before .before .before .loop .drives) (c .before .before .before .before .before .before .before .before .before .before .before .before .before .before .before .before .before .before .before .before .before .before .before .before .before .before .before .before .before .before .before .before .before .loop .sense) (c .before .before .before .before .before .before .before .before .before .before .before .before .before .before .before .before .before .before .before .before .d .given .0 .0) (c .before .before .before .before .before .before .before .before .before .before .before .before .before .before .if2 .board) (counted (c .before .before .before .before .before .before .before .before .before .before .before .before .before .before)) (c .before .before .before .before .before .before .before .before .before .before .before .before .if3 .drives) (passed (c .before .before .before .before .before .before .before .before .before .before .before .before)) (c .before .before .before .before .before .before .before .before .before .act .result) (c .before .before .before .before .before .before .before .before .before .act .last .1 .1 .1 .1 .1 .0) (c .before .before .before .before .before .before .before .before .before .act .ensures .0) (c .before .before .before .before .before .before .before .before .before .act .ensures .1 .0) (c .before .before .before .before .before .match3 .board) (c .before .before .before .before .before .match3 .sense) (stored (c .before .before .before .before .before) .0) (stored (c .before .before .before .before .before) .1) (c .before .if4 .drives) (struck (c .before)) _
+    turns.done (c .before .before .before .before .before .before .before .before .before .before .before .before .before .before .before .before .before .before .before .before .before .before .before .before .before .before .before .before .before .before .before .before .before .loop .board) (c .before .before .before .before .before .before .before .before .before .before .before .before .before .before .before .before .before .before .before .before .before .before .before .before .before .before .before .before .before .before .before .before .before .loop .core) (c .before .before .before .before .before .before .before .before .before .before .before .before .before .before .before .before .before .before .before .before .before .before .before .before .before .before .before .before .before .before .before .before .before .loop .cells) (c .before .before .before .before .before .before .before .before .before .before .before .before .before .before .before .before .before .before .before .before .before .before .before .before .before .before .before .before .before .before .before .before .before .loop .drives) (c .before .before .before .before .before .before .before .before .before .before .before .before .before .before .before .before .before .before .before .before .before .before .before .before .before .before .before .before .before .before .before .before .before .loop .sense) (c .before .before .before .before .before .before .before .before .before .before .before .before .before .before .before .before .before .before .before .before .d .given .0 .0) (c .before .before .before .before .before .before .before .before .before .before .before .before .before .before .if2 .board) (counted (c .before .before .before .before .before .before .before .before .before .before .before .before .before .before)) (c .before .before .before .before .before .before .before .before .before .before .before .before .if3 .drives) (passed (c .before .before .before .before .before .before .before .before .before .before .before .before)) (c .before .before .before .before .before .before .before .before .before .act .result) (c .before .before .before .before .before .before .before .before .before .act .last .1 .1 .1 .1 .1 .1 .0) (c .before .before .before .before .before .before .before .before .before .act .ensures .0) (c .before .before .before .before .before .before .before .before .before .act .ensures .1 .0) (c .before .before .before .before .before .match3 .board) (c .before .before .before .before .before .match3 .sense) (stored (c .before .before .before .before .before) .0) (stored (c .before .before .before .before .before) .1) (c .before .if4 .drives) (struck (c .before)) _
     (c .before .before .before .before .before .before .before .before .before .before .before .before .before .before .before .before .before .before .before .before .before .before .before .before .judge .ensures .0 (wholeMachine (c .before .before .before .before .before .before .before .before .before .before .before .before .before .before .before .before .before .before .before .before .before .before .before .before .before .before .before .before .before .before .before .before .before .loop .board) (c .before .before .before .before .before .before .before .before .before .before .before .before .before .before .before .before .before .before .before .before .before .before .before .before .before .before .before .before .before .before .before .before .before .loop .core) (c .before .before .before .before .before .before .before .before .before .before .before .before .before .before .before .before .before .before .before .before .before .before .before .before .before .before .before .before .before .before .before .before .before .loop .cells) (c .before .before .before .before .before .before .before .before .before .before .before .before .before .before .before .before .before .before .before .before .before .before .before .before .before .before .before .before .before .before .before .before .before .loop .drives) (c .before .before .before .before .before .before .before .before .before .before .before .before .before .before .before .before .before .before .before .before .before .before .before .before .before .before .before .before .before .before .before .before .before .loop .sense)) refl ∙ ap (turnJudged (wholeMachine (c .before .before .before .before .before .before .before .before .before .before .before .before .before .before .before .before .before .before .before .before .before .before .before .before .before .before .before .before .before .before .before .before .before .loop .board) (c .before .before .before .before .before .before .before .before .before .before .before .before .before .before .before .before .before .before .before .before .before .before .before .before .before .before .before .before .before .before .before .before .before .loop .core) (c .before .before .before .before .before .before .before .before .before .before .before .before .before .before .before .before .before .before .before .before .before .before .before .before .before .before .before .before .before .before .before .before .before .loop .cells) (c .before .before .before .before .before .before .before .before .before .before .before .before .before .before .before .before .before .before .before .before .before .before .before .before .before .before .before .before .before .before .before .before .before .loop .drives) (c .before .before .before .before .before .before .before .before .before .before .before .before .before .before .before .before .before .before .before .before .before .before .before .before .before .before .before .before .before .before .before .before .before .loop .sense))) (c .before .before .before .before .before .before .before .before .before .before .before .before .before .before .before .before .before .before .before .before .d .given .1)) _ (c .answer .ensures _ _ _)
 
 -- where the ways of the record meet: the parts together are the turn's machine

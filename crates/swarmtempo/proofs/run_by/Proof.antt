@@ -13,10 +13,10 @@ use borrow.Author.Tests.{not-true, not-false}
 use denote.Ref.{now}
 use mathlib.Core.Path.{_≡_, sym, ap, _∙_}
 use borrow.Author.Needs.{needs}
-use Rattle.swarmtempo.proofs.swarmtempo_run.Statement.{statement}
-use Rattle.swarmtempo.proofs.swarmtempo_run.Tie as tie
-use Rattle.swarmtempo.proofs.swarmtempo_run.Reads as reads
-use Rattle.swarmtempo.proofs.swarmtempo_run.Lts as lts
+use Rattle.swarmtempo.proofs.run_by.Statement.{statement}
+use Rattle.swarmtempo.proofs.run_by.Tie as tie
+use Rattle.swarmtempo.proofs.run_by.Reads as reads
+use Rattle.swarmtempo.proofs.run_by.Lts as lts
 use Rattle.image.proofs.load.Reads as load-reads
 use Rattle.image.proofs.save.Reads as save-reads
 use Rattle.image.proofs.valid.Reads as valid-reads
@@ -67,11 +67,11 @@ returns-2 : tie.Need-returns-2
 returns-2 c =
     let a = c .before .before .before .before .before .before .before .before .before .before .before .before .before .before .before .before .args in
     call.ran (now (a .image)) (now (a .list)) (now (a .answers)) (good (c .before .before .before .before .before .before .before .before .before .before)) (c .before .before .before .before .before .before .before .before .load .result) (c .before .before .before .before .before .before .before .before .load .ensures)
-    (c .before .before .before .before .before .before .run-accepted .result) (c .before .before .before .before .before .before .run-accepted .ensures .0) (c .before .before .before .before .before .before .run-accepted .last .1 .1 .0) (c .before .before .before .before .before .before .run-accepted .ensures .1 .0)
+    (c .before .before .before .before .before .before .run-accepted .result) (c .before .before .before .before .before .before .run-accepted .ensures .0) (c .before .before .before .before .before .before .run-accepted .last .1 .1 .1 .0) (c .before .before .before .before .before .before .run-accepted .ensures .1 .0)
     (c .before .before .save .last .0) (c .before .before .save .ensures .0) (c .before .before .save .ensures .1 .0) (c .before .before .save .ensures .1 .1)
 
-pub swarmtempo-run-spec : {M : Type 1} → statement M
-swarmtempo-run-spec =
+pub run-by-spec : {M : Type 1} → statement M
+run-by-spec =
     tie.close
     (tie.spec
     valid-requires
