@@ -22,7 +22,7 @@ use Rattle.machine_spec.specs.Stages.{afterWires}
 use Rattle.machine_spec.specs.Action.{actedOf}
 use Rattle.machine_act.specs.declared.Acted.{Acted}
 use Rattle.machine_act.specs.declared.Change.{Change}
-use Rattle.machine_act.specs.declared.Change.the-variants.{Nothing, Flags, OutB, DirB, Register, Line, Sense, Reset, Fresh}
+use Rattle.machine_act.specs.declared.Change.the-variants.{Nothing, Flags, Ports, Register, Line, Sense, Reset, Fresh}
 
 -- ---- the parts
 
@@ -45,18 +45,11 @@ boardDisk b x = record { via = b .via; disk = x; inputs = b .inputs }
 abbrev boardInputs : Board → List ℕ → Board
 boardInputs b x = record { via = b .via; disk = b .disk; inputs = x }
 
-abbrev withOutB : Via → ℕ → Via
-withOutB v x = withPorts v (record { outb = x; outa = v .ports .outa; dirb = v .ports .dirb; dira = v .ports .dira })
-
-abbrev withDirB : Via → ℕ → Via
-withDirB v x = withPorts v (record { outb = v .ports .outb; outa = v .ports .outa; dirb = x; dira = v .ports .dira })
-
 -- What a change does to the board.
 unfoldable pub boardChange : Change → Board → Board
 boardChange Nothing b = b
 boardChange (Flags f) b = boardVia b (withFlags (b .via) f)
-boardChange (OutB x) b = boardVia b (withOutB (b .via) x)
-boardChange (DirB x) b = boardVia b (withDirB (b .via) x)
+boardChange (Ports p) b = boardVia b (withPorts (b .via) p)
 boardChange (Register r x) b = boardVia b (viaWritten r x (b .via))
 boardChange (Line i l) b = boardInputs b (set (b .inputs) i l)
 boardChange (Sense i l) b = b
@@ -67,8 +60,7 @@ boardChange Fresh b = boardVia b freshVia
 unfoldable pub senseChange : Change → List ℕ → List ℕ
 senseChange Nothing s = s
 senseChange (Flags f) s = s
-senseChange (OutB b) s = s
-senseChange (DirB b) s = s
+senseChange (Ports p) s = s
 senseChange (Register r b) s = s
 senseChange (Line i l) s = s
 senseChange (Sense i l) s = set s i l
@@ -79,8 +71,7 @@ senseChange Fresh s = s
 abbrev pub ChangeInRange : Change → Type 0
 ChangeInRange Nothing = Unit {0}
 ChangeInRange (Flags f) = Unit {0}
-ChangeInRange (OutB b) = Unit {0}
-ChangeInRange (DirB b) = Unit {0}
+ChangeInRange (Ports p) = Unit {0}
 ChangeInRange (Register r b) = r < 16
 ChangeInRange (Line i l) = i < 7
 ChangeInRange (Sense i l) = i < 32

@@ -36,9 +36,8 @@ pub enum Change {
     Nothing,
     // The VIA's flags.
     Flags(u8),
-    // The VIA's port B: its output, its direction.
-    OutB(u8),
-    DirB(u8),
+    // The VIA's ports, by a write to port B or to its direction.
+    Ports(Ports),
     // Another VIA register, and the value written to it.
     Register(u8, u8),
     // An IN line, and a sense register, each with its level.
@@ -119,6 +118,18 @@ fn iwm_value(d: DiskLines, drives: Drives, location: u8, ports: Ports, sense: &[
     d.read(location, disk_drives::shown(drives, at, stored))
 }
 
+// The ports once a value is written to a register. They are made whole, not changed byte by byte: a byte stored makes the next look at all four wait for it.
+fn ports_written(p: Ports, register: u8, value: u8) -> Ports
+    ensures { λ r. ⌜ r ≡ portsWritten register value p ⌝ }
+{
+    Ports {
+        outb: via_bits::pick(register == 0, value, p.outb),
+        outa: via_bits::pick((register == 1) | (register == 15), value, p.outa),
+        dirb: via_bits::pick(register == 2, value, p.dirb),
+        dira: via_bits::pick(register == 3, value, p.dira),
+    }
+}
+
 // The clock's look at its wires, where a VIA register is written: port B's output and its direction alone move them.
 fn clocked(
     engine: Engine,
@@ -131,30 +142,27 @@ fn clocked(
     requires { ⌜ acceptedPhase (k .chip) (k .phase) (wiresOf ports (shownLevel (k .phase)) .enable) ≡ true ⌝ }
     ensures { λ r. ⌜ wholeClock r (now (cells .exit)) ≡ stepWires (wholeClock k (now (cells .entry))) (wiresOf ports (shownLevel (k .phase))) (wiresOf (portsWritten register value ports) (shownLevel (k .phase))) ⌝ }
 {
-    let mut next = ports;
-    match register {
-        0 => next.outb = value,
-        2 => next.dirb = value,
-        _ => return k,
+    if (register != 0) & (register != 2) {
+        return k;
     }
     let p = k.phase;
     let line = clock_phase::shown_line(p);
     let before = machine_pins::wires_of(ports, line);
-    clock_parts::step(engine, k, before, machine_pins::wires_of(next, line), cells)
+    let after = machine_pins::wires_of(ports_written(ports, register, value), line);
+    clock_parts::step(engine, k, before, after, cells)
 }
 
-// What a write to a VIA register changes.
-fn via_change(register: u8, value: u8) -> Change
+// What a write to a VIA register changes, from these ports.
+fn via_change(ports: Ports, register: u8, value: u8) -> Change
     requires { ⌜ register < 16 ⌝ }
-    ensures { λ r. ⌜ ((b : Board) → boardChange r b ≡ boardVia b (viaWritten register value (b .via))) ⌝ }
+    ensures { λ r. ⌜ ((b : Board) → b .via .ports ≡ ports → boardChange r b ≡ boardVia b (viaWritten register value (b .via))) ⌝ }
     ensures { λ r. ⌜ ((s : List ℕ) → senseChange r s ≡ s) ⌝ }
     ensures { λ r. ⌜ ChangeInRange r ⌝ }
 {
-    match register {
-        0 => Change::OutB(value),
-        2 => Change::DirB(value),
-        _ => Change::Register(register, value),
+    if (register != 0) & (register != 2) {
+        return Change::Register(register, value);
     }
+    Change::Ports(ports_written(ports, register, value))
 }
 
 // The place of a sense register among the 32.
@@ -202,7 +210,7 @@ pub fn act(
             ..
         } => {
             core = clocked(engine, k, b.via.ports, register, value, cells);
-            change = via_change(register, value);
+            change = via_change(b.via.ports, register, value);
         }
         Item::WriteIwm { location, .. } => disk = b.disk.access(location),
         Item::Blank { .. } => change = Change::Flags(b.via.flags | 2),

@@ -75,8 +75,11 @@ pub fn run_accepted(engine: Engine, m: Machine, list: &[u8], answers: &mut [u8])
             match change {
                 Change::Nothing => {}
                 Change::Flags(f) => board.via.flags = f,
-                Change::OutB(b) => board.via.ports.outb = b,
-                Change::DirB(b) => board.via.ports.dirb = b,
+                Change::Ports(p) => {
+                    let mut v = board.via;
+                    v.ports = p;
+                    board.via = v;
+                }
                 Change::Register(r, b) => board.via = board.via.write(r, b),
                 Change::Line(i, level) => board.inputs[i] = level,
                 Change::Sense(i, level) => sense[i] = level,

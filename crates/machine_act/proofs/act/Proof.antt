@@ -138,7 +138,7 @@ returns-3 : tie.Need-returns-3
 unfolding actedOf viaWritten
 returns-3 c =
     let a = c .before .before .before .before .before .before .before .args in
-    (simp (c .before .before .before .before .item3 .given .1, c .via-change .ensures .0 (boardDisk (a .b) (a .b .disk)), c .via-change .ensures .1 .0 (now (a .sense)), ← c .before .clocked .ensures), (simp (c .before .before .before .before .item3 .given .1), c .via-change .ensures .1 .1))
+    (simp (c .before .before .before .before .item3 .given .1, c .via-change .ensures .0 (boardDisk (a .b) (a .b .disk)) refl, c .via-change .ensures .1 .0 (now (a .sense)), ← c .before .clocked .ensures), (simp (c .before .before .before .before .item3 .given .1), c .via-change .ensures .1 .1))
 
 returns-4 : tie.Need-returns-4
 unfolding actedOf viaRead registerRead iwmRead raisedOf boardChange senseChange

@@ -116,12 +116,11 @@ stored c =
     ⊎-elim (λ w. (simp (w .2, w .1 .given .1), simp (w .3, w .1 .given .1)))
     (⊎-elim (λ w. (simp (w .4, w .1 .given .1), simp (w .5, w .1 .given .1)))
     (⊎-elim (λ w. (simp (w .4, w .1 .given .1), simp (w .5, w .1 .given .1)))
-    (⊎-elim (λ w. (simp (w .4, w .1 .given .1), simp (w .5, w .1 .given .1)))
     (⊎-elim (λ w. (simp (w .5, w .1 .given .1, w .4 .ensures), simp (w .6, w .1 .given .1)))
     (⊎-elim (λ w. (simp (w .3, w .1 .given .1), simp (w .4, w .1 .given .1)))
     (⊎-elim (λ w. (simp (w .3, w .1 .given .1), simp (w .4, w .1 .given .1)))
     (⊎-elim (λ w. (simp (w .4, w .1 .given .1, w .3 .ensures), simp (w .5, w .1 .given .1)))
-    (λ w. (simp (w .3, w .1 .given .1, w .2 .ensures), simp (w .4, w .1 .given .1))))))))))
+    (λ w. (simp (w .3, w .1 .given .1, w .2 .ensures), simp (w .4, w .1 .given .1)))))))))
     (c .match3 .came)
 
 -- where the ways of the strobe meet
@@ -278,25 +277,22 @@ enum-known-change-2 : tie.Need-enum-known-change-2 Inv-loop μ-loop
 enum-known-change-2 c = search needs
 
 write-requires : tie.Need-write-requires Inv-loop μ-loop
-write-requires c κs = subst ChangeInRange (c .before .before .change4 .given .1) (c .before .before .before .before .before .before .before .act .ensures .1 .1)
+write-requires c κs = subst ChangeInRange (c .before .before .change3 .given .1) (c .before .before .before .before .before .before .before .act .ensures .1 .1)
 
 enum-known-change-3 : tie.Need-enum-known-change-3 Inv-loop μ-loop
 enum-known-change-3 c = search needs
 
 element-write-board : tie.Need-element-write-board Inv-loop μ-loop
-element-write-board c = subst ChangeInRange (c .before .change5 .given .1) (c .before .before .before .before .before .before .act .ensures .1 .1)
+element-write-board c = subst ChangeInRange (c .before .change4 .given .1) (c .before .before .before .before .before .before .act .ensures .1 .1)
 
 enum-known-change-4 : tie.Need-enum-known-change-4 Inv-loop μ-loop
 enum-known-change-4 c = search needs
 
 array-write-sense : tie.Need-array-write-sense Inv-loop μ-loop
-array-write-sense c = subst ChangeInRange (c .before .change6 .given .1) (c .before .before .before .before .before .before .act .ensures .1 .1)
+array-write-sense c = subst ChangeInRange (c .before .change5 .given .1) (c .before .before .before .before .before .before .act .ensures .1 .1)
 
 enum-known-change-5 : tie.Need-enum-known-change-5 Inv-loop μ-loop
 enum-known-change-5 c = search needs
-
-enum-known-change-6 : tie.Need-enum-known-change-6 Inv-loop μ-loop
-enum-known-change-6 c = search needs
 
 enum-told-3 : tie.Need-enum-told-3 Inv-loop μ-loop
 enum-told-3 c = search needs
@@ -394,11 +390,10 @@ run-accepted-spec =
     enum-known-change
     enum-known-change-2
     enum-known-change-3
-    enum-known-change-4
     write-requires
-    enum-known-change-5
+    enum-known-change-4
     element-write-board
-    enum-known-change-6
+    enum-known-change-5
     array-write-sense
     enum-told-3
     reset-requires
