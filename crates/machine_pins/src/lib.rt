@@ -3,14 +3,38 @@ ghost use mathlib.Core.Path.{_≡_};
 ghost use mathlib.Core.Bool.{true};
 ghost use Prim.Native.Nat.{_<_, _+_, _*_};
 ghost use Rattle.machine_spec.specs.Pins.{pin, wiresOf, selOf};
-ghost use Rattle.machine_spec.specs.Machine.{wires, strobeLevels};
+ghost use Rattle.machine_spec.specs.Machine.{wires};
+ghost use Rattle.disk_spec.specs.Watched.{watchedOf};
 ghost use Rattle.levels.specs.Levels.{allLevels};
+ghost use Rattle.machine_pins.specs.Board.{onBoard};
 ghost use Rattle.machine_spec.specs.Wiring.{inputsOf, interruptLevel};
 use clock_spec::Wires;
+use disk_lines::DiskLines;
 use disk_spec::Watched;
 use machine_spec::Machine;
 use via::Inputs;
 use via::Ports;
+use via::Via;
+
+// What items change in place: the VIA, the disk lines and the IN lines. It is the machine but for its clock, its sense registers and its drives.
+pub struct Board {
+    pub via: Via,
+    pub disk: DiskLines,
+    pub inputs: [u8; 7],
+}
+
+pub fn board_of(m: Machine) -> Board
+    ensures { λ r. ⌜ onBoard r (m .clock) (m .sense) (m .drives) ≡ m ⌝ }
+{
+    let via = m.via;
+    let disk = m.disk;
+    let inputs = m.inputs;
+    Board {
+        via: via,
+        disk: disk,
+        inputs: inputs,
+    }
+}
 
 // One line of a port, by its weight in the port's byte: the output bit where its direction is 1, else the input.
 fn pin_level(out: u8, dir: u8, weight: u8, input: bool) -> bool
@@ -52,11 +76,10 @@ pub fn wires(m: Machine) -> Wires
 }
 
 // The levels that the drives' strobe goes by.
-pub fn watched(m: Machine) -> Watched
-    ensures { λ r. ⌜ r ≡ strobeLevels m ⌝ }
+pub fn watched(d: DiskLines, p: Ports) -> Watched
+    ensures { λ r. ⌜ r ≡ watchedOf d (selOf p) ⌝ }
 {
-    let d = m.disk;
-    disk_strobe::watched_of(d, sel_of(m.via.ports))
+    disk_strobe::watched_of(d, sel_of(p))
 }
 
 // Four levels as bits 3 to 6.
