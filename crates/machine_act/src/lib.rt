@@ -1,5 +1,5 @@
-// An item over the machine in parts: its wait, and its action with the clock's look at its wires. The VIA, the disk lines and the IN lines stay in the machine;
-// the clock's core and the drives go by value beside it; the cells and the sense registers are lent.
+// An item over the machine in parts: its wait, and its action with the clock's look at its wires. The board, the clock's core and the drives go in by value; the cells
+// and the sense registers are lent.
 ghost use mathlib.Core.Path.{_≡_};
 ghost use mathlib.Core.Bool.{true};
 ghost use Prim.Native.Nat.{ℕ, _<_, _+_, _*_};
@@ -32,7 +32,7 @@ use machine_spec::Machine;
 use via::Ports;
 use via::Via;
 
-// What an item changes in what stays in place: at most one thing.
+// What an item changes on the board or in the sense registers: at most one thing.
 pub enum Change {
     Nothing,
     // The VIA's flags.
@@ -61,7 +61,7 @@ pub struct Acted {
     pub change: Change,
 }
 
-// The machine put together: m, with its clock, its drives and its sense registers taken from beside it.
+// The machine put together.
 pub fn whole_machine(b: Board, k: Core, cells: [u8; 256], d: Drives, sense: [u8; 32]) -> Machine
     ensures { λ r. ⌜ r ≡ wholeMachine b k cells d sense ⌝ }
 {

@@ -1,13 +1,15 @@
 // The levels of lines that the board goes by: what it gives the VIA's ports, the clock's three wires, SEL, the strobe's levels, the interrupt level.
 ghost use mathlib.Core.Path.{_≡_};
 ghost use mathlib.Core.Bool.{true};
-ghost use Prim.Native.Nat.{_<_, _+_, _*_};
-ghost use Rattle.machine_spec.specs.Pins.{pin, wiresOf, selOf};
-ghost use Rattle.machine_spec.specs.Machine.{wires};
-ghost use Rattle.disk_spec.specs.Watched.{watchedOf};
+ghost use mathlib.Core.List.{List};
+ghost use Prim.Native.Nat.{ℕ, _<_, _+_, _*_};
 ghost use Rattle.levels.specs.Levels.{allLevels};
-ghost use Rattle.machine_pins.specs.Board.{onBoard};
+ghost use Rattle.clock.specs.declared.Clock.{Clock};
+ghost use Rattle.disk_spec.specs.declared.Drives.{Drives};
+ghost use Rattle.machine_spec.specs.Pins.{pin, wiresOf, selOf};
+ghost use Rattle.machine_spec.specs.Machine.{wires, strobeLevels};
 ghost use Rattle.machine_spec.specs.Wiring.{inputsOf, interruptLevel};
+ghost use Rattle.machine_pins.specs.Board.{onBoard};
 use clock_spec::Wires;
 use disk_lines::DiskLines;
 use disk_spec::Watched;
@@ -16,7 +18,7 @@ use via::Inputs;
 use via::Ports;
 use via::Via;
 
-// What items change in place: the VIA, the disk lines and the IN lines. It is the machine but for its clock, its sense registers and its drives.
+// The machine but for its clock, its sense registers and its drives.
 pub struct Board {
     pub via: Via,
     pub disk: DiskLines,
@@ -76,10 +78,11 @@ pub fn wires(m: Machine) -> Wires
 }
 
 // The levels that the drives' strobe goes by.
-pub fn watched(d: DiskLines, p: Ports) -> Watched
-    ensures { λ r. ⌜ r ≡ watchedOf d (selOf p) ⌝ }
+pub fn watched(b: Board) -> Watched
+    ensures { λ r. ⌜ ((c : Clock) (s : List ℕ) (d : Drives) → r ≡ strobeLevels (onBoard b c s d)) ⌝ }
 {
-    disk_strobe::watched_of(d, sel_of(p))
+    let d = b.disk;
+    disk_strobe::watched_of(d, sel_of(b.via.ports))
 }
 
 // Four levels as bits 3 to 6.

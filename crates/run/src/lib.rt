@@ -23,8 +23,8 @@ fn unaccepted(m: Machine) -> Ran
     }
 }
 
-// The same from a machine known to be accepted. The VIA, the disk lines and the IN lines stay in m and are changed here alone; m's own clock, drives and sense registers
-// are not looked at: what counts of them stands beside it.
+// The same from a machine known to be accepted, taken apart: the board, the sense registers and the cells stay in place, and the first two are changed here alone;
+// the clock's core and the drives go by value.
 pub fn run_accepted(m: Machine, list: &[u8], answers: &mut [u8]) -> Ran
     requires { ⌜ acceptedOf m ≡ true ⌝ }
     ensures { λ r. ⌜ r ≡ ranOf (runOf m (now (list .entry)) (length (now (answers .entry)))) ⌝ }
@@ -55,7 +55,7 @@ pub fn run_accepted(m: Machine, list: &[u8], answers: &mut [u8]) -> Ran
         let d = run_record::judge(drives, &rest[2..n]);
         let mut answer = item_record::no(item_plain::refusal(d));
         if let Decoded::Done(item) = d {
-            let before = machine_pins::watched(board.disk, board.via.ports);
+            let before = machine_pins::watched(board);
             let ticks = machine_act::wait_of(item);
             if board.via.only_counts(ticks) {
                 board.via = board.via.count(ticks);
@@ -82,7 +82,7 @@ pub fn run_accepted(m: Machine, list: &[u8], answers: &mut [u8]) -> Ran
                 Change::Reset => board.via = board.via.reset(),
                 Change::Fresh => board.via = via::fresh(),
             }
-            let after = machine_pins::watched(board.disk, board.via.ports);
+            let after = machine_pins::watched(board);
             if before.lstrb | after.lstrb {
                 drives = disk_drives::after(drives, before, after);
             }
