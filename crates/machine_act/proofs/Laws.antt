@@ -1,10 +1,14 @@
 -- An action that moves no wire leaves the clock as it is.
-use mathlib.Core.Path.{_≡_, sym, ap, _∙_}
+use mathlib.Core.Path.{_≡_, refl, sym, ap, _∙_}
 use mathlib.Core.Bool.{Bool, true, false}
 use Prim.Native.Nat.{ℕ}
 use lib.Dec.{eqb}
 use Rattle.via.specs.declared.Ports.{Ports}
+use Rattle.via.specs.declared.Via.{Via}
+use Rattle.via.specs.Setters.{withSr, withFlags, withPulses}
+use Rattle.via.specs.Shift.{pulseOf}
 use Rattle.via.specs.Writes.{portsWritten}
+use Rattle.via.proofs.Pulses.{pulse-cases}
 use Rattle.machine_spec.specs.Pins.{wiresOf}
 use Rattle.clock_spec.specs.declared.Phase.{Phase}
 use Rattle.clock_spec.specs.declared.Wires.{Wires}
@@ -28,3 +32,7 @@ quietly x i y h e p =
 pub other-register : (r v : ℕ) (p : Ports) (line : Bool) → eqb r 0 ≡ false → eqb r 2 ≡ false → wiresOf (portsWritten r v p) line ≡ wiresOf p line
 unfolding wiresOf portsWritten
 other-register r v p line h k = simp (h, k)
+
+-- A pulse changes register 10, the flags and the count of pulses, and nothing else.
+pub pulse-shift : (level : ℕ) (v : Via) → withPulses (withFlags (withSr v (pulseOf level v .via .sr)) (pulseOf level v .via .flags)) (pulseOf level v .via .pulses) ≡ pulseOf level v .via
+pulse-shift level v = pulse-cases level v (λ u. withPulses (withFlags (withSr v (u .sr)) (u .flags)) (u .pulses) ≡ u) (λ x l. refl) (λ x. refl) refl
