@@ -62,6 +62,9 @@ use Rattle.via.proofs.Via.reset.Reads as reset-reads
 use Rattle.via.proofs.Via.wait.Reads as Via-wait-reads
 use Rattle.via.proofs.Via.write.Reads as write-reads
 use Rattle.via.proofs.fresh.Reads as fresh-reads
+use Rattle.disk_drives.proofs.busy.Reads as busy-reads
+use Rattle.via.proofs.Via.count.Reads as count-reads
+use Rattle.via.proofs.Via.only_counts.Reads as only-counts-reads
 
 abbrev Inv-loop : tie.InvT-loop
 Inv-loop list answers₀ board₀ core₀ cells₀ drives₀ sense₀ stop₀ at₀ out₀ answers board core cells drives sense stop at out = Head list answers₀ (wholeMachine board₀ core₀ cells₀ drives₀ sense₀) answers (wholeMachine board core cells drives sense) at out × (stop ≡ 0)
@@ -121,7 +124,8 @@ stored c =
     (⊎-elim (λ w. (simp (w .3, w .1 .given .1), simp (w .4, w .1 .given .1)))
     (⊎-elim (λ w. (simp (w .3, w .1 .given .1), simp (w .4, w .1 .given .1)))
     (⊎-elim (λ w. (simp (w .4, w .1 .given .1, w .3 .ensures), simp (w .5, w .1 .given .1)))
-    (λ w. (simp (w .3, w .1 .given .1, w .2 .ensures), simp (w .4, w .1 .given .1))))))))))
+    (⊎-elim (λ w. (simp (w .3, w .1 .given .1, w .2 .ensures), simp (w .4, w .1 .given .1)))
+    (λ w. (simp (w .6, w .1 .given .1), simp (w .7, w .1 .given .1)))))))))))
     (c .match3 .came)
 
 -- where the ways of the strobe meet
@@ -277,26 +281,26 @@ enum-known-change c = search needs
 enum-known-change-2 : tie.Need-enum-known-change-2 Inv-loop μ-loop
 enum-known-change-2 c = search needs
 
-write-requires : tie.Need-write-requires Inv-loop μ-loop
-write-requires c κs = subst ChangeInRange (c .before .before .change4 .given .1) (c .before .before .before .before .before .before .before .act .ensures .1 .1)
-
 enum-known-change-3 : tie.Need-enum-known-change-3 Inv-loop μ-loop
 enum-known-change-3 c = search needs
-
-element-write-board : tie.Need-element-write-board Inv-loop μ-loop
-element-write-board c = subst ChangeInRange (c .before .change5 .given .1) (c .before .before .before .before .before .before .act .ensures .1 .1)
 
 enum-known-change-4 : tie.Need-enum-known-change-4 Inv-loop μ-loop
 enum-known-change-4 c = search needs
 
-array-write-sense : tie.Need-array-write-sense Inv-loop μ-loop
-array-write-sense c = subst ChangeInRange (c .before .change6 .given .1) (c .before .before .before .before .before .before .act .ensures .1 .1)
+write-requires : tie.Need-write-requires Inv-loop μ-loop
+write-requires c κs = subst ChangeInRange (c .before .before .change4 .given .1) (c .before .before .before .before .before .before .before .act .ensures .1 .1)
 
 enum-known-change-5 : tie.Need-enum-known-change-5 Inv-loop μ-loop
 enum-known-change-5 c = search needs
 
+element-write-board : tie.Need-element-write-board Inv-loop μ-loop
+element-write-board c = subst ChangeInRange (c .before .change5 .given .1) (c .before .before .before .before .before .before .act .ensures .1 .1)
+
 enum-known-change-6 : tie.Need-enum-known-change-6 Inv-loop μ-loop
 enum-known-change-6 c = search needs
+
+array-write-sense : tie.Need-array-write-sense Inv-loop μ-loop
+array-write-sense c = subst ChangeInRange (c .before .change6 .given .1) (c .before .before .before .before .before .before .act .ensures .1 .1)
 
 enum-told-3 : tie.Need-enum-told-3 Inv-loop μ-loop
 enum-told-3 c = search needs
@@ -309,6 +313,9 @@ enum-told-4 c = search needs
 
 fresh-requires : tie.Need-fresh-requires Inv-loop μ-loop
 fresh-requires c κs = search needs
+
+enum-known-change-7 : tie.Need-enum-known-change-7 Inv-loop μ-loop
+enum-known-change-7 c = c .match3 .keys10
 
 watched-requires-2 : tie.Need-watched-requires-2 Inv-loop μ-loop
 watched-requires-2 c κs = search needs
@@ -404,6 +411,7 @@ run-accepted-spec =
     reset-requires
     enum-told-4
     fresh-requires
+    enum-known-change-7
     watched-requires-2
     after-requires
     answer-requires
