@@ -190,10 +190,9 @@ returns-12 : tie.Need-returns-12
 unfolding actedOf keyboardPulse boardChange senseChange
 returns-12 c =
     let s = c .before .before .before .before .before in
-    let i = c .before .before .item9 .given in
-    (
+    let i = c .before .before .item9 .given in (
       quiet s _ (simp (i .1, c .pulse .ensures) (ap (λ (u : Via). withVia (whole s) u) (pulse-shift (i .0 .1 .0) (s .args .b .via))))
-      (subst (λ (x : Item). wires (actedOf (whole s) x .machine) ≡ wires (whole s)) (sym (i .1)) (pulse-quiet (i .0 .0) (i .0 .1 .0) (whole s) .0)),
+          (subst (λ (x : Item). wires (actedOf (whole s) x .machine) ≡ wires (whole s)) (sym (i .1)) (pulse-quiet (i .0 .0) (i .0 .1 .0) (whole s) .0)),
       (simp (i .1, c .pulse .ensures), tt),
     )
 
