@@ -7,8 +7,10 @@ use lib.Dec.{eqb}
 use borrow.Author.Tests.{eqb-true}
 use Rattle.via.specs.declared.Ports.{Ports}
 use Rattle.via.specs.declared.Via.{Via}
-use Rattle.via.specs.Setters.{withPorts}
+use Rattle.via.specs.Setters.{withPorts, withSr, withFlags, withPulses}
+use Rattle.via.specs.Shift.{pulseOf}
 use Rattle.via.specs.Writes.{portsWritten, viaWritten}
+use Rattle.via.proofs.Pulses.{pulse-cases}
 use Rattle.machine_spec.specs.Pins.{wiresOf}
 use Rattle.clock_spec.specs.declared.Phase.{Phase}
 use Rattle.clock_spec.specs.declared.Wires.{Wires}
@@ -49,3 +51,7 @@ other-register r v p line h = let n = neither (eqb r 0) (eqb r 2) h in simp (n .
 pub ports-alone : (r v : ℕ) (s : Via) → (not (eqb r 0) && not (eqb r 2)) ≡ false → withPorts s (portsWritten r v (s .ports)) ≡ viaWritten r v s
 unfolding viaWritten
 ports-alone r v s h = ⊎-elim (λ e. simp (eqb-true r 0 e)) (λ e. simp (eqb-true r 2 e)) (either (eqb r 0) (eqb r 2) h)
+
+-- A pulse changes register 10, the flags and the count of pulses, and nothing else.
+pub pulse-shift : (level : ℕ) (v : Via) → withPulses (withFlags (withSr v (pulseOf level v .via .sr)) (pulseOf level v .via .flags)) (pulseOf level v .via .pulses) ≡ pulseOf level v .via
+pulse-shift level v = pulse-cases level v (λ u. withPulses (withFlags (withSr v (u .sr)) (u .flags)) (u .pulses) ≡ u) (λ x l. refl) (λ x. refl) refl

@@ -5,7 +5,7 @@ use mathlib.Core.Bool.{true}
 use mathlib.Core.List.{List}
 use lib.ListN.{set}
 use Rattle.via.specs.declared.Via.{Via}
-use Rattle.via.specs.Setters.{withPorts, withFlags}
+use Rattle.via.specs.Setters.{withPorts, withSr, withFlags, withPulses}
 use Rattle.via.specs.Via.{freshVia, resetOf}
 use Rattle.via.specs.Writes.{viaWritten}
 use Rattle.clock_spec.specs.Phase.{acceptedPhase}
@@ -22,7 +22,7 @@ use Rattle.machine_spec.specs.Stages.{afterWires}
 use Rattle.machine_spec.specs.Action.{actedOf}
 use Rattle.machine_act.specs.declared.Acted.{Acted}
 use Rattle.machine_act.specs.declared.Change.{Change}
-use Rattle.machine_act.specs.declared.Change.the-variants.{Nothing, Flags, Ports, Register, Line, Sense, Reset, Fresh}
+use Rattle.machine_act.specs.declared.Change.the-variants.{Nothing, Flags, Ports, Register, Line, Sense, Reset, Fresh, Shift}
 
 -- ---- the parts
 
@@ -55,6 +55,7 @@ boardChange (Line i l) b = boardInputs b (set (b .inputs) i l)
 boardChange (Sense i l) b = b
 boardChange Reset b = boardVia b (resetOf (b .via))
 boardChange Fresh b = boardVia b freshVia
+boardChange (Shift s f n) b = boardVia b (withPulses (withFlags (withSr (b .via) s) f) n)
 
 -- What it does to the sense registers.
 unfoldable pub senseChange : Change → List ℕ → List ℕ
@@ -66,6 +67,7 @@ senseChange (Line i l) s = s
 senseChange (Sense i l) s = set s i l
 senseChange Reset s = s
 senseChange Fresh s = s
+senseChange (Shift s f n) l = l
 
 -- The number of its register, line or sense register is one that there is.
 abbrev pub ChangeInRange : Change → Type 0
@@ -77,6 +79,7 @@ ChangeInRange (Line i l) = i < 7
 ChangeInRange (Sense i l) = i < 32
 ChangeInRange Reset = Unit {0}
 ChangeInRange Fresh = Unit {0}
+ChangeInRange (Shift s f n) = Unit {0}
 
 -- ---- an item
 

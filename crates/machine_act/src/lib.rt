@@ -12,7 +12,8 @@ ghost use Rattle.clock_parts.specs.Parts.{wholeClock};
 ghost use Rattle.disk_lines.specs.Lines.{readLine, senseAt};
 ghost use Rattle.disk_spec.specs.Drives.{drivesShown};
 ghost use Rattle.item_spec.specs.Items.{ItemInRange};
-ghost use Rattle.via.specs.Registers.{valueRead};
+ghost use Rattle.via.specs.Registers.{valueRead, flagsRead};
+ghost use Rattle.via.specs.Shift.{pulsesAccessed};
 ghost use Rattle.via.specs.Writes.{portsWritten, viaWritten};
 ghost use Rattle.machine_spec.specs.Pins.{wiresOf, selOf};
 ghost use Rattle.machine_spec.specs.Wiring.{inputsOf};
@@ -20,6 +21,7 @@ ghost use Rattle.machine_pins.specs.declared.Board.{Board};
 ghost use Rattle.machine_spec.specs.Machine.{Levels};
 ghost use Rattle.machine_spec.specs.Stages.{itemWait};
 ghost use Rattle.machine_spec.specs.Action.{actedOf};
+ghost use Rattle.machine_act.specs.declared.Change.the-variants.{Shift};
 ghost use Rattle.machine_act.specs.Parts.{wholeMachine, boardVia, boardChange, senseChange, machineAfter, clockedOf, ChangeInRange, PhaseAccepted};
 use clock_command::Engine;
 use clock_parts::Core;
@@ -30,6 +32,7 @@ use machine_pins::Board;
 use machine_spec::Machine;
 use units::WaitTicks;
 use via::Ports;
+use via::Via;
 
 // What an item changes on the board or in the sense registers: at most one thing.
 pub enum Change {
@@ -46,6 +49,8 @@ pub enum Change {
     // The VIA by RS and by PW.
     Reset,
     Fresh,
+    // The VIA's register 10, its flags and its count of pulses.
+    Shift(u8, u8, u8),
 }
 
 // What an item leaves: the value read, the disk lines, the clock's core, the drives, and the change.
@@ -90,6 +95,7 @@ pub fn wait_of(item: Item) -> WaitTicks
         Item::Reset { wait } => wait,
         Item::Power { wait, .. } => wait,
         Item::Disk { wait, .. } => wait,
+        Item::Pulse { wait, .. } => wait,
     }
 }
 
@@ -103,6 +109,15 @@ fn via_value(b: Board, k: Core, register: u8) -> u8
     let inputs = b.inputs;
     let outside = machine_pins::inputs_of(clock_phase::shown_line(p), inputs);
     via_registers::value_read(b.via, register, outside)
+}
+
+// What RD of a VIA register changes: flags, and by register 10 the count of pulses.
+fn read_change(via: Via, register: u8) -> Change
+    ensures { λ r. ⌜ r ≡ Shift (via .sr) (flagsRead register via) (pulsesAccessed register (via .pulses)) ⌝ }
+{
+    let flags = via_registers::flags_read(via, register);
+    let pulses = via_registers::pulses_accessed(register, via.pulses);
+    Change::Shift(via.sr, flags, pulses)
 }
 
 // What RD of an IWM location gives, the lines being those after the access. Location 14 alone asks the sense.
@@ -198,7 +213,7 @@ pub fn act(
     match item {
         Item::ReadVia { register, .. } => {
             value = via_value(b, k, register);
-            change = Change::Flags(via_registers::flags_read(b.via, register));
+            change = read_change(b.via, register);
         }
         Item::ReadIwm { location, .. } => {
             disk = b.disk.access(location);
@@ -246,6 +261,11 @@ pub fn act(
             ..
         } => {
             drives = disk_drives::place(d, drive == 1, insert == 1, locked == 1, sides == 1);
+        }
+        Item::Pulse { level, .. } => {
+            let p = b.via.pulse(level);
+            value = p.value;
+            change = Change::Shift(p.via.sr, p.via.flags, p.via.pulses);
         }
     }
     Acted {

@@ -85,6 +85,11 @@ pub fn run_accepted(engine: Engine, m: Machine, list: &[u8], answers: &mut [u8])
                 Change::Sense(i, level) => sense[i] = level,
                 Change::Reset => board.via = board.via.reset(),
                 Change::Fresh => board.via = via::fresh(),
+                Change::Shift(s, f, n) => {
+                    board.via.sr = s;
+                    board.via.flags = f;
+                    board.via.pulses = n;
+                }
             }
             let after = machine_pins::watched(board);
             if before.lstrb | after.lstrb {

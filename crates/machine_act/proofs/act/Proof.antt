@@ -1,20 +1,23 @@
-use mathlib.Core.Path.{_≡_, refl, ap, subst, _∙_}
+use mathlib.Core.Path.{_≡_, refl, sym, ap, subst, _∙_}
 use denote.Ref.{now}
 use Rattle.via.specs.Registers.{registerRead}
 use Rattle.via.specs.Writes.{viaWritten}
+use Rattle.via.specs.declared.Via.{Via}
 use Rattle.via.specs.Via.{freshVia, raisedOf, resetOf}
 use Rattle.clock_spec.specs.Phase.{shownLevel}
 use Rattle.clock_spec.specs.Shared.{advance, stops}
 use Rattle.clock_parts.specs.Parts.{coreSeconds}
 use Rattle.clock_parts.proofs.Laws.{enabled-idle}
+use Rattle.item_spec.specs.declared.Item.{Item}
 use Rattle.item_spec.specs.Items.{ItemInRange}
 use Rattle.machine_spec.specs.declared.Machine.{Machine}
-use Rattle.machine_spec.specs.Machine.{wires}
+use Rattle.machine_spec.specs.Machine.{withVia, wires}
 use Rattle.machine_spec.specs.Pins.{wiresOf}
-use Rattle.machine_spec.specs.Accesses.{viaRead, iwmRead}
+use Rattle.machine_spec.specs.Accesses.{viaRead, iwmRead, keyboardPulse}
 use Rattle.machine_spec.specs.Action.{actedOf}
-use Rattle.machine_act.specs.Parts.{wholeMachine, boardDisk, boardChange, senseChange, clockedOf}
-use Rattle.machine_act.proofs.Laws.{quietly}
+use Rattle.machine_act.specs.Parts.{wholeMachine, boardDisk, boardChange, senseChange, clockedOf, ChangeInRange}
+use Rattle.machine_spec.proofs.Step.{pulse-quiet}
+use Rattle.machine_act.proofs.Laws.{quietly, pulse-shift}
 use borrow.Author.Needs.{needs}
 use Rattle.machine_act.proofs.act.Statement.{statement}
 use Rattle.machine_act.proofs.act.Tie as tie
@@ -30,8 +33,9 @@ use Rattle.machine_act.proofs.clocked.Reads as clocked-reads
 use Rattle.machine_act.proofs.iwm_value.Reads as iwm-value-reads
 use Rattle.machine_act.proofs.sense_index.Reads as sense-index-reads
 use Rattle.machine_act.proofs.via_value.Reads as via-value-reads
-use Rattle.via.proofs.Via.write.Reads as write-reads
-use Rattle.via_registers.proofs.flags_read.Reads as flags-read-reads
+use Rattle.machine_act.proofs.read_change.Reads as read-change-reads
+use Rattle.machine_act.proofs.via_change.Reads as via-change-reads
+use Rattle.via.proofs.Via.pulse.Reads as pulse-reads
 
 -- The machine that the parts make.
 abbrev whole : tie.Start → Machine
@@ -48,8 +52,8 @@ enum-known-item c = search needs
 via-value-requires : tie.Need-via-value-requires
 via-value-requires c κs = (subst ItemInRange (c .before .item .given .1) (c .before .before .before .before .pre .0), c .before .before .before .before .pre .1 .0 .0)
 
-flags-read-requires : tie.Need-flags-read-requires
-flags-read-requires c κs = search needs
+read-change-requires : tie.Need-read-change-requires
+read-change-requires c κs = search needs
 
 enum-known-item-2 : tie.Need-enum-known-item-2
 enum-known-item-2 c = search needs
@@ -58,7 +62,7 @@ access-requires : tie.Need-access-requires
 access-requires c κs = subst ItemInRange (c .before .item2 .given .1) (c .before .before .before .before .pre .0)
 
 iwm-value-requires : tie.Need-iwm-value-requires
-iwm-value-requires c κs = c .before .before .before .before .before .pre .1 .0 .1
+iwm-value-requires c κs = search needs
 
 enum-known-item-3 : tie.Need-enum-known-item-3
 enum-known-item-3 c = search needs
@@ -126,9 +130,15 @@ enum-known-item-8 c = search needs
 place-requires : tie.Need-place-requires
 place-requires c κs = search needs
 
+enum-known-item-9 : tie.Need-enum-known-item-9
+enum-known-item-9 c = search needs
+
+pulse-requires : tie.Need-pulse-requires
+pulse-requires c κs = subst ItemInRange (c .before .item9 .given .1) (c .before .before .before .before .pre .0)
+
 returns : tie.Need-returns
 unfolding actedOf viaRead registerRead iwmRead raisedOf boardChange senseChange
-returns c = (quiet (c .before .before .before .before .before .before) _ (simp (c .before .before .before .item .given .1, c .flags-read .ensures)) (simp (c .before .before .before .item .given .1)), (simp (c .before .before .before .item .given .1) (c .before .via-value .ensures), tt))
+returns c = (quiet (c .before .before .before .before .before .before) _ (simp (c .before .before .before .item .given .1, c .read-change .ensures)) (simp (c .before .before .before .item .given .1)), (simp (c .before .before .before .item .given .1) (c .before .via-value .ensures), subst ChangeInRange (sym (c .read-change .ensures)) tt))
 
 returns-2 : tie.Need-returns-2
 unfolding actedOf viaRead registerRead iwmRead raisedOf boardChange senseChange
@@ -176,13 +186,23 @@ returns-11 : tie.Need-returns-11
 unfolding actedOf viaRead registerRead iwmRead raisedOf boardChange senseChange
 returns-11 c = (quiet (c .before .before .before .before .before) _ (simp (c .before .before .item8 .given .1, c .place .ensures)) (simp (c .before .before .item8 .given .1)), (simp (c .before .before .item8 .given .1), tt))
 
+returns-12 : tie.Need-returns-12
+unfolding actedOf keyboardPulse boardChange senseChange
+returns-12 c =
+    let s = c .before .before .before .before .before in
+    let i = c .before .before .item9 .given in (
+      quiet s _ (simp (i .1, c .pulse .ensures) (ap (λ (u : Via). withVia (whole s) u) (pulse-shift (i .0 .1 .0) (s .args .b .via))))
+          (subst (λ (x : Item). wires (actedOf (whole s) x .machine) ≡ wires (whole s)) (sym (i .1)) (pulse-quiet (i .0 .0) (i .0 .1 .0) (whole s) .0)),
+      (simp (i .1, c .pulse .ensures), tt),
+    )
+
 pub act-spec : {M : Type 1} → statement M
 act-spec =
     tie.close
     (tie.spec
     enum-known-item
     via-value-requires
-    flags-read-requires
+    read-change-requires
     enum-known-item-2
     access-requires
     iwm-value-requires
@@ -208,6 +228,8 @@ act-spec =
     power-cut-requires
     enum-known-item-8
     place-requires
+    enum-known-item-9
+    pulse-requires
     returns
     returns-2
     returns-3
@@ -218,4 +240,5 @@ act-spec =
     returns-8
     returns-9
     returns-10
-    returns-11)
+    returns-11
+    returns-12)

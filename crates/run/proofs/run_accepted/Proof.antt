@@ -62,6 +62,9 @@ use Rattle.via.proofs.Via.reset.Reads as reset-reads
 use Rattle.via.proofs.Via.wait.Reads as Via-wait-reads
 use Rattle.via.proofs.Via.write.Reads as write-reads
 use Rattle.via.proofs.fresh.Reads as fresh-reads
+use Rattle.disk_drives.proofs.busy.Reads as busy-reads
+use Rattle.via.proofs.Via.count.Reads as count-reads
+use Rattle.via.proofs.Via.only_counts.Reads as only-counts-reads
 
 abbrev Inv-loop : tie.InvT-loop
 Inv-loop engine list answers₀ board₀ core₀ cells₀ drives₀ sense₀ stop₀ at₀ out₀ answers board core cells drives sense stop at out = Head list answers₀ (wholeMachine board₀ core₀ cells₀ drives₀ sense₀) answers (wholeMachine board core cells drives sense) at out × (stop ≡ 0)
@@ -120,7 +123,8 @@ stored c =
     (⊎-elim (λ w. (simp (w .3, w .1 .given .1), simp (w .4, w .1 .given .1)))
     (⊎-elim (λ w. (simp (w .3, w .1 .given .1), simp (w .4, w .1 .given .1)))
     (⊎-elim (λ w. (simp (w .4, w .1 .given .1, w .3 .ensures), simp (w .5, w .1 .given .1)))
-    (λ w. (simp (w .3, w .1 .given .1, w .2 .ensures), simp (w .4, w .1 .given .1)))))))))
+    (⊎-elim (λ w. (simp (w .3, w .1 .given .1, w .2 .ensures), simp (w .4, w .1 .given .1)))
+    (λ w. (simp (w .6, w .1 .given .1), simp (w .7, w .1 .given .1))))))))))
     (c .match3 .came)
 
 -- where the ways of the strobe meet
@@ -306,6 +310,9 @@ enum-told-4 c = search needs
 fresh-requires : tie.Need-fresh-requires Inv-loop μ-loop
 fresh-requires c κs = search needs
 
+enum-known-change-6 : tie.Need-enum-known-change-6 Inv-loop μ-loop
+enum-known-change-6 c = c .match3 .keys9
+
 watched-requires-2 : tie.Need-watched-requires-2 Inv-loop μ-loop
 watched-requires-2 c κs = search needs
 
@@ -399,6 +406,7 @@ run-accepted-spec =
     reset-requires
     enum-told-4
     fresh-requires
+    enum-known-change-6
     watched-requires-2
     after-requires
     answer-requires
