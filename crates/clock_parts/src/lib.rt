@@ -13,13 +13,13 @@ use clock_spec::Phase;
 use clock_spec::Store;
 use clock_spec::Wires;
 
-// The clock but for its cells.
+// The clock but for its cells. The phase's six bytes stand across a multiple of eight: within one, compiled code packs and unpacks them at every item.
 pub struct Core {
-    pub phase: Phase,
     pub chip: Chip,
-    pub seconds: u32,
     pub protect: bool,
     pub test: u8,
+    pub phase: Phase,
+    pub seconds: u32,
 }
 
 pub fn core_of(c: Clock) -> Core

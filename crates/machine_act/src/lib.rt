@@ -1,5 +1,5 @@
-// An item over the machine in parts: its wait, and its action with the clock's look at its wires. The VIA, the disk lines and the IN lines stay in the machine;
-// the clock's core and the drives go by value beside it; the cells and the sense registers are lent.
+// An item over the machine in parts: its wait, and its action with the clock's look at its wires. The board, the clock's core and the drives go in by value; the cells
+// and the sense registers are lent.
 ghost use mathlib.Core.Path.{_≡_};
 ghost use mathlib.Core.Bool.{true};
 ghost use Prim.Native.Nat.{ℕ, _<_, _+_, _*_};
@@ -16,19 +16,20 @@ ghost use Rattle.via.specs.Registers.{valueRead};
 ghost use Rattle.via.specs.Writes.{portsWritten, viaWritten};
 ghost use Rattle.machine_spec.specs.Pins.{wiresOf, selOf};
 ghost use Rattle.machine_spec.specs.Wiring.{inputsOf};
-ghost use Rattle.machine_spec.specs.declared.Machine.{Machine};
-ghost use Rattle.machine_spec.specs.Machine.{withVia, Levels};
+ghost use Rattle.machine_pins.specs.declared.Board.{Board};
+ghost use Rattle.machine_spec.specs.Machine.{Levels};
 ghost use Rattle.machine_spec.specs.Stages.{itemWait};
 ghost use Rattle.machine_spec.specs.Action.{actedOf};
-ghost use Rattle.machine_act.specs.Parts.{wholeMachine, machineChange, senseChange, machineAfter, clockedOf, ChangeInRange, PhaseAccepted};
+ghost use Rattle.machine_act.specs.Parts.{wholeMachine, boardVia, boardChange, senseChange, machineAfter, clockedOf, ChangeInRange, PhaseAccepted};
 use clock_parts::Core;
 use disk_lines::DiskLines;
 use disk_spec::Drives;
 use item_spec::Item;
+use machine_pins::Board;
 use machine_spec::Machine;
 use via::Ports;
 
-// What an item changes in what stays in place: at most one thing.
+// What an item changes on the board or in the sense registers: at most one thing.
 pub enum Change {
     Nothing,
     // The VIA's flags.
@@ -55,13 +56,13 @@ pub struct Acted {
     pub change: Change,
 }
 
-// The machine put together: m, with its clock, its drives and its sense registers taken from beside it.
-pub fn whole_machine(m: Machine, k: Core, cells: [u8; 256], d: Drives, sense: [u8; 32]) -> Machine
-    ensures { λ r. ⌜ r ≡ wholeMachine m k cells d sense ⌝ }
+// The machine put together.
+pub fn whole_machine(b: Board, k: Core, cells: [u8; 256], d: Drives, sense: [u8; 32]) -> Machine
+    ensures { λ r. ⌜ r ≡ wholeMachine b k cells d sense ⌝ }
 {
-    let v = m.via;
-    let l = m.disk;
-    let inputs = m.inputs;
+    let v = b.via;
+    let l = b.disk;
+    let inputs = b.inputs;
     Machine {
         via: v,
         clock: clock_parts::whole_clock(k, cells),
@@ -92,15 +93,15 @@ pub fn wait_of(item: Item) -> u16
 }
 
 // What RD of a VIA register gives.
-fn via_value(m: Machine, k: Core, register: u8) -> u8
+fn via_value(b: Board, k: Core, register: u8) -> u8
     requires { ⌜ register < 16 ⌝ }
-    requires { ⌜ allLevels (m .inputs) ≡ true ⌝ }
-    ensures { λ r. ⌜ r ≡ valueRead register (inputsOf (shownLevel (k .phase)) (m .inputs)) (m .via) ⌝ }
+    requires { ⌜ allLevels (b .inputs) ≡ true ⌝ }
+    ensures { λ r. ⌜ r ≡ valueRead register (inputsOf (shownLevel (k .phase)) (b .inputs)) (b .via) ⌝ }
 {
     let p = k.phase;
-    let inputs = m.inputs;
+    let inputs = b.inputs;
     let outside = machine_pins::inputs_of(clock_phase::shown_line(p), inputs);
-    via_registers::value_read(m.via, register, outside)
+    via_registers::value_read(b.via, register, outside)
 }
 
 // What RD of an IWM location gives, the lines being those after the access. Location 14 alone asks the sense.
@@ -136,7 +137,7 @@ fn clocked(k: Core, ports: Ports, register: u8, value: u8, cells: &mut [u8; 256]
 // What a write to a VIA register changes.
 fn via_change(register: u8, value: u8) -> Change
     requires { ⌜ register < 16 ⌝ }
-    ensures { λ r. ⌜ ((m : Machine) → machineChange r m ≡ withVia m (viaWritten register value (m .via))) ⌝ }
+    ensures { λ r. ⌜ ((b : Board) → boardChange r b ≡ boardVia b (viaWritten register value (b .via))) ⌝ }
     ensures { λ r. ⌜ ((s : List ℕ) → senseChange r s ≡ s) ⌝ }
     ensures { λ r. ⌜ ChangeInRange r ⌝ }
 {
@@ -157,7 +158,7 @@ fn sense_index(drive: u8, register: u8) -> usize
 
 // What an item does, its wait having passed, and the clock's look at its wires.
 pub fn act(
-    m: Machine,
+    b: Board,
     k: Core,
     d: Drives,
     item: Item,
@@ -165,39 +166,39 @@ pub fn act(
     cells: &mut [u8; 256],
 ) -> Acted
     requires { ⌜ ItemInRange item ⌝ }
-    requires { ⌜ Levels (wholeMachine m k (now cells) d (now sense)) ⌝ }
-    requires { ⌜ PhaseAccepted (wholeMachine m k (now cells) d (now sense)) ⌝ }
-    ensures { λ r. ⌜ machineAfter r m (now (cells .exit)) (now (sense .entry)) ≡ clockedOf (wholeMachine m k (now (cells .entry)) d (now (sense .entry))) item ⌝ }
-    ensures { λ r. ⌜ r .value ≡ actedOf (wholeMachine m k (now (cells .entry)) d (now (sense .entry))) item .value ⌝ }
+    requires { ⌜ Levels (wholeMachine b k (now cells) d (now sense)) ⌝ }
+    requires { ⌜ PhaseAccepted (wholeMachine b k (now cells) d (now sense)) ⌝ }
+    ensures { λ r. ⌜ machineAfter r b (now (cells .exit)) (now (sense .entry)) ≡ clockedOf (wholeMachine b k (now (cells .entry)) d (now (sense .entry))) item ⌝ }
+    ensures { λ r. ⌜ r .value ≡ actedOf (wholeMachine b k (now (cells .entry)) d (now (sense .entry))) item .value ⌝ }
     ensures { λ r. ⌜ ChangeInRange (r .change) ⌝ }
 {
     let mut value: u8 = 0;
-    let mut disk = m.disk;
+    let mut disk = b.disk;
     let mut core = k;
     let mut drives = d;
     let mut change = Change::Nothing;
     match item {
         Item::ReadVia { register, .. } => {
-            value = via_value(m, k, register);
-            change = Change::Flags(via_registers::flags_read(m.via, register));
+            value = via_value(b, k, register);
+            change = Change::Flags(via_registers::flags_read(b.via, register));
         }
         Item::ReadIwm { location, .. } => {
-            disk = m.disk.access(location);
-            value = iwm_value(disk, d, location, m.via.ports, sense);
+            disk = b.disk.access(location);
+            value = iwm_value(disk, d, location, b.via.ports, sense);
         }
         Item::WriteVia {
             register,
             value,
             ..
         } => {
-            core = clocked(k, m.via.ports, register, value, cells);
+            core = clocked(k, b.via.ports, register, value, cells);
             change = via_change(register, value);
         }
-        Item::WriteIwm { location, .. } => disk = m.disk.access(location),
-        Item::Blank { .. } => change = Change::Flags(m.via.flags | 2),
+        Item::WriteIwm { location, .. } => disk = b.disk.access(location),
+        Item::Blank { .. } => change = Change::Flags(b.via.flags | 2),
         Item::Second { .. } => {
             core = clock_parts::add_seconds(k, 1);
-            change = Change::Flags(m.via.flags | 1);
+            change = Change::Flags(b.via.flags | 1);
         }
         Item::Line { line, level, .. } => change = Change::Line(line as usize, level),
         Item::Sense {

@@ -23,15 +23,16 @@ fn unaccepted(m: Machine) -> Ran
     }
 }
 
-// The same from a machine known to be accepted. The VIA, the disk lines and the IN lines stay in m and are changed here alone; m's own clock, drives and sense registers
-// are not looked at: what counts of them stands beside it.
-pub fn run_accepted(mut m: Machine, list: &[u8], answers: &mut [u8]) -> Ran
+// The same from a machine known to be accepted, taken apart: the board, the sense registers and the cells stay in place, and the first two are changed here alone;
+// the clock's core and the drives go by value.
+pub fn run_accepted(m: Machine, list: &[u8], answers: &mut [u8]) -> Ran
     requires { ⌜ acceptedOf m ≡ true ⌝ }
     ensures { λ r. ⌜ r ≡ ranOf (runOf m (now (list .entry)) (length (now (answers .entry)))) ⌝ }
     ensures { λ _. ⌜ now (answers .exit) ≡ over (runOf m (now (list .entry)) (length (now (answers .entry)))) (now (answers .entry)) ⌝ }
     ensures { λ r. ⌜ r .written ≤ length (now (answers .entry)) ⌝ }
 {
     let c = m.clock;
+    let mut board = machine_pins::board_of(m);
     let mut core = clock_parts::core_of(c);
     let mut cells = clock_parts::cells_of(c);
     let mut drives = m.drives;
@@ -54,45 +55,45 @@ pub fn run_accepted(mut m: Machine, list: &[u8], answers: &mut [u8]) -> Ran
         let d = run_record::judge(drives, &rest[2..n]);
         let mut answer = item_record::no(item_plain::refusal(d));
         if let Decoded::Done(item) = d {
-            let before = machine_pins::watched(m);
+            let before = machine_pins::watched(board);
             let ticks = machine_act::wait_of(item);
-            if m.via.only_counts(ticks) {
-                m.via = m.via.count(ticks);
+            if board.via.only_counts(ticks) {
+                board.via = board.via.count(ticks);
             } else {
-                m.via = m.via.wait(ticks);
+                board.via = board.via.wait(ticks);
             }
             if disk_drives::busy(drives) {
                 drives = disk_drives::wait(drives, ticks);
             }
-            let a = machine_act::act(m, core, drives, item, &sense, &mut cells);
+            let a = machine_act::act(board, core, drives, item, &sense, &mut cells);
             let disk = a.disk;
-            m.disk = disk;
+            board.disk = disk;
             core = a.core;
             drives = a.drives;
             let change = a.change;
             match change {
                 Change::Nothing => {}
-                Change::Flags(f) => m.via.flags = f,
-                Change::OutB(b) => m.via.ports.outb = b,
-                Change::DirB(b) => m.via.ports.dirb = b,
-                Change::Register(r, b) => m.via = m.via.write(r, b),
-                Change::Line(i, level) => m.inputs[i] = level,
+                Change::Flags(f) => board.via.flags = f,
+                Change::OutB(b) => board.via.ports.outb = b,
+                Change::DirB(b) => board.via.ports.dirb = b,
+                Change::Register(r, b) => board.via = board.via.write(r, b),
+                Change::Line(i, level) => board.inputs[i] = level,
                 Change::Sense(i, level) => sense[i] = level,
-                Change::Reset => m.via = m.via.reset(),
-                Change::Fresh => m.via = via::fresh(),
+                Change::Reset => board.via = board.via.reset(),
+                Change::Fresh => board.via = via::fresh(),
             }
-            let after = machine_pins::watched(m);
+            let after = machine_pins::watched(board);
             if before.lstrb | after.lstrb {
                 drives = disk_drives::after(drives, before, after);
             }
-            answer = machine_answer::answer(m, a.value);
+            answer = machine_answer::answer(board, a.value);
         }
         item_record::put(answers, out, item_record::answer_bytes(answer));
         at += n;
         out += 8;
     }
     Ran {
-        machine: machine_act::whole_machine(m, core, cells, drives, sense),
+        machine: machine_act::whole_machine(board, core, cells, drives, sense),
         stop: stop,
         consumed: at,
         written: out,

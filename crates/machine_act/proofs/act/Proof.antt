@@ -9,11 +9,11 @@ use Rattle.clock_parts.specs.Parts.{coreSeconds}
 use Rattle.clock_parts.proofs.Laws.{enabled-idle}
 use Rattle.item_spec.specs.Items.{ItemInRange}
 use Rattle.machine_spec.specs.declared.Machine.{Machine}
-use Rattle.machine_spec.specs.Machine.{withDisk, wires}
+use Rattle.machine_spec.specs.Machine.{wires}
 use Rattle.machine_spec.specs.Pins.{wiresOf}
 use Rattle.machine_spec.specs.Accesses.{viaRead, iwmRead}
 use Rattle.machine_spec.specs.Action.{actedOf}
-use Rattle.machine_act.specs.Parts.{wholeMachine, machineChange, senseChange, clockedOf}
+use Rattle.machine_act.specs.Parts.{wholeMachine, boardDisk, boardChange, senseChange, clockedOf}
 use Rattle.machine_act.proofs.Laws.{quietly}
 use borrow.Author.Needs.{needs}
 use Rattle.machine_act.proofs.act.Statement.{statement}
@@ -35,7 +35,7 @@ use Rattle.via_registers.proofs.flags_read.Reads as flags-read-reads
 
 -- The machine that the parts make.
 abbrev whole : tie.Start → Machine
-whole c = wholeMachine (c .args .m) (c .args .k) (now (c .args .cells)) (c .args .d) (now (c .args .sense))
+whole c = wholeMachine (c .args .b) (c .args .k) (now (c .args .cells)) (c .args .d) (now (c .args .sense))
 
 -- An action that moves no wire.
 quiet : (c : tie.Start) (y : Machine) → y ≡ actedOf (whole c) (c .args .item) .machine → wires (actedOf (whole c) (c .args .item) .machine) ≡ wires (whole c)
@@ -127,53 +127,53 @@ place-requires : tie.Need-place-requires
 place-requires c κs = search needs
 
 returns : tie.Need-returns
-unfolding actedOf viaRead registerRead iwmRead raisedOf machineChange senseChange
+unfolding actedOf viaRead registerRead iwmRead raisedOf boardChange senseChange
 returns c = (quiet (c .before .before .before .before .before .before) _ (simp (c .before .before .before .item .given .1, c .flags-read .ensures)) (simp (c .before .before .before .item .given .1)), (simp (c .before .before .before .item .given .1) (c .before .via-value .ensures), tt))
 
 returns-2 : tie.Need-returns-2
-unfolding actedOf viaRead registerRead iwmRead raisedOf machineChange senseChange
+unfolding actedOf viaRead registerRead iwmRead raisedOf boardChange senseChange
 returns-2 c = (quiet (c .before .before .before .before .before .before) _ (simp (c .before .before .before .item2 .given .1, c .before .access .ensures)) (simp (c .before .before .before .item2 .given .1)), (simp (c .before .before .before .item2 .given .1, c .iwm-value .ensures, c .before .access .ensures), tt))
 
 returns-3 : tie.Need-returns-3
 unfolding actedOf viaWritten
 returns-3 c =
     let a = c .before .before .before .before .before .before .before .args in
-    (simp (c .before .before .before .before .item3 .given .1, c .via-change .ensures .0 (withDisk (a .m) (a .m .disk)), c .via-change .ensures .1 .0 (now (a .sense)), ← c .before .clocked .ensures), (simp (c .before .before .before .before .item3 .given .1), c .via-change .ensures .1 .1))
+    (simp (c .before .before .before .before .item3 .given .1, c .via-change .ensures .0 (boardDisk (a .b) (a .b .disk)), c .via-change .ensures .1 .0 (now (a .sense)), ← c .before .clocked .ensures), (simp (c .before .before .before .before .item3 .given .1), c .via-change .ensures .1 .1))
 
 returns-4 : tie.Need-returns-4
-unfolding actedOf viaRead registerRead iwmRead raisedOf machineChange senseChange
+unfolding actedOf viaRead registerRead iwmRead raisedOf boardChange senseChange
 returns-4 c = (quiet (c .before .before .before .before .before) _ (simp (c .before .before .item4 .given .1, c .access2 .ensures)) (simp (c .before .before .item4 .given .1)), (simp (c .before .before .item4 .given .1), tt))
 
 returns-5 : tie.Need-returns-5
-unfolding actedOf viaRead registerRead iwmRead raisedOf machineChange senseChange
+unfolding actedOf viaRead registerRead iwmRead raisedOf boardChange senseChange
 returns-5 c = (quiet (c .before .before .before .before) _ (simp (c .before .enum-told .given .1)) (simp (c .before .enum-told .given .1)), (simp (c .before .enum-told .given .1), tt))
 
 returns-6 : tie.Need-returns-6
-unfolding actedOf viaRead registerRead iwmRead raisedOf machineChange senseChange
+unfolding actedOf viaRead registerRead iwmRead raisedOf boardChange senseChange
 returns-6 c = (quiet (c .before .before .before .before .before) _ (simp (c .before .before .enum-told2 .given .1, c .before .add-seconds .ensures)) (simp (c .before .before .enum-told2 .given .1)), (simp (c .before .before .enum-told2 .given .1), tt))
 
 returns-7 : tie.Need-returns-7
-unfolding actedOf viaRead registerRead iwmRead raisedOf machineChange senseChange
+unfolding actedOf viaRead registerRead iwmRead raisedOf boardChange senseChange
 returns-7 c = (quiet (c .before .before .before .before) _ (simp (c .before .item5 .given .1)) (simp (c .before .item5 .given .1)), (simp (c .before .item5 .given .1), (subst ItemInRange (c .before .item5 .given .1) (c .before .before .before .before .pre .0)) .0))
 
 returns-8 : tie.Need-returns-8
-unfolding actedOf viaRead registerRead iwmRead raisedOf machineChange senseChange
+unfolding actedOf viaRead registerRead iwmRead raisedOf boardChange senseChange
 returns-8 c = (quiet (c .before .before .before .before .before) _ (simp (c .before .before .item6 .given .1, c .sense-index .ensures .0)) (simp (c .before .before .item6 .given .1)), (simp (c .before .before .item6 .given .1), c .sense-index .ensures .1))
 
 returns-9 : tie.Need-returns-9
-unfolding actedOf machineChange senseChange wiresOf resetOf
+unfolding actedOf boardChange senseChange wiresOf resetOf
 returns-9 c =
     let a = c .before .before .before .before .before .args in
-    (simp (c .before .before .enum-told3 .given .1, c .before .off .ensures, c .idle .ensures, enabled-idle (a .k) (now (a .cells)) (wiresOf (a .m .via .ports) (shownLevel (a .k .phase))) (wiresOf (resetOf (a .m .via) .ports) (shownLevel (a .k .phase))) refl), (simp (c .before .before .enum-told3 .given .1), tt))
+    (simp (c .before .before .enum-told3 .given .1, c .before .off .ensures, c .idle .ensures, enabled-idle (a .k) (now (a .cells)) (wiresOf (a .b .via .ports) (shownLevel (a .k .phase))) (wiresOf (resetOf (a .b .via) .ports) (shownLevel (a .k .phase))) refl), (simp (c .before .before .enum-told3 .given .1), tt))
 
 returns-10 : tie.Need-returns-10
-unfolding actedOf machineChange senseChange wiresOf freshVia
+unfolding actedOf boardChange senseChange wiresOf freshVia
 returns-10 c =
     let a = c .before .before .before .before .before .before .before .before .args in
-    (simp (c .before .before .before .before .before .item7 .given .1, c .before .before .before .off2 .ensures, c .power-cut .ensures, c .before .idle2 .ensures, c .before .before .add-seconds2 .ensures, enabled-idle (coreSeconds (a .k) (advance (stops (a .k .test)) (c .before .before .before .before .before .item7 .given .0 .1 .0) (a .k .seconds))) (now (a .cells)) (wiresOf (a .m .via .ports) (shownLevel (a .k .phase))) (wiresOf (freshVia .ports) (shownLevel (a .k .phase))) refl), (simp (c .before .before .before .before .before .item7 .given .1), tt))
+    (simp (c .before .before .before .before .before .item7 .given .1, c .before .before .before .off2 .ensures, c .power-cut .ensures, c .before .idle2 .ensures, c .before .before .add-seconds2 .ensures, enabled-idle (coreSeconds (a .k) (advance (stops (a .k .test)) (c .before .before .before .before .before .item7 .given .0 .1 .0) (a .k .seconds))) (now (a .cells)) (wiresOf (a .b .via .ports) (shownLevel (a .k .phase))) (wiresOf (freshVia .ports) (shownLevel (a .k .phase))) refl), (simp (c .before .before .before .before .before .item7 .given .1), tt))
 
 returns-11 : tie.Need-returns-11
-unfolding actedOf viaRead registerRead iwmRead raisedOf machineChange senseChange
+unfolding actedOf viaRead registerRead iwmRead raisedOf boardChange senseChange
 returns-11 c = (quiet (c .before .before .before .before .before) _ (simp (c .before .before .item8 .given .1, c .place .ensures)) (simp (c .before .before .item8 .given .1)), (simp (c .before .before .item8 .given .1), tt))
 
 pub act-spec : {M : Type 1} → statement M
