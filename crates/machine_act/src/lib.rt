@@ -118,7 +118,7 @@ fn iwm_value(d: DiskLines, drives: Drives, location: u8, ports: Ports, sense: &[
 }
 
 // The clock's look at its wires, where a VIA register is written: port B's output and its direction alone move them.
-fn clocked(k: Core, ports: Ports, register: u8, value: u8, cells: &mut [u8; 256]) -> Core
+pub fn clocked(k: Core, ports: Ports, register: u8, value: u8, cells: &mut [u8; 256]) -> Core
     requires { ⌜ acceptedPhase (k .chip) (k .phase) (wiresOf ports (shownLevel (k .phase)) .enable) ≡ true ⌝ }
     ensures { λ r. ⌜ wholeClock r (now (cells .exit)) ≡ stepWires (wholeClock k (now (cells .entry))) (wiresOf ports (shownLevel (k .phase))) (wiresOf (portsWritten register value ports) (shownLevel (k .phase))) ⌝ }
 {
