@@ -54,39 +54,50 @@ pub fn run_accepted(m: Machine, list: &[u8], answers: &mut [u8]) -> Ran
         };
         let d = run_record::judge(drives, &rest[2..n]);
         let mut answer = item_record::no(item_plain::refusal(d));
-        if let Decoded::Done(item) = d {
-            let before = machine_pins::watched(board);
-            let ticks = machine_act::wait_of(item);
-            if board.via.only_counts(ticks) {
-                board.via = board.via.count(ticks);
-            } else {
-                board.via = board.via.wait(ticks);
+        match d {
+            Decoded::Done(item) => {
+                let before = machine_pins::watched(board);
+                let ticks = machine_act::wait_of(item);
+                if board.via.only_counts(ticks) {
+                    board.via = board.via.count(ticks);
+                } else {
+                    board.via = board.via.wait(ticks);
+                }
+                if disk_drives::busy(drives) {
+                    drives = disk_drives::wait(drives, ticks);
+                }
+                let a = machine_act::act(board, core, drives, item, &sense, &mut cells);
+                let disk = a.disk;
+                board.disk = disk;
+                core = a.core;
+                drives = a.drives;
+                let change = a.change;
+                match change {
+                    Change::Nothing => {}
+                    Change::Flags(f) => board.via.flags = f,
+                    Change::OutB(b) => board.via.ports.outb = b,
+                    Change::DirB(b) => board.via.ports.dirb = b,
+                    Change::Register(r, b) => board.via = board.via.write(r, b),
+                    Change::Line(i, level) => board.inputs[i] = level,
+                    Change::Sense(i, level) => sense[i] = level,
+                    Change::Reset => board.via = board.via.reset(),
+                    Change::Fresh => board.via = via::fresh(),
+                }
+                let after = machine_pins::watched(board);
+                if before.lstrb | after.lstrb {
+                    drives = disk_drives::after(drives, before, after);
+                }
+                answer = machine_answer::answer(board, a.value);
             }
-            if disk_drives::busy(drives) {
-                drives = disk_drives::wait(drives, ticks);
+            Decoded::Many(x) => {
+                let w = machine_many::write(board, core, drives, x, &rest[11..n], &mut cells);
+                let b = w.board;
+                board = b;
+                core = w.core;
+                drives = w.drives;
+                answer = machine_answer::answer(board, 0);
             }
-            let a = machine_act::act(board, core, drives, item, &sense, &mut cells);
-            let disk = a.disk;
-            board.disk = disk;
-            core = a.core;
-            drives = a.drives;
-            let change = a.change;
-            match change {
-                Change::Nothing => {}
-                Change::Flags(f) => board.via.flags = f,
-                Change::OutB(b) => board.via.ports.outb = b,
-                Change::DirB(b) => board.via.ports.dirb = b,
-                Change::Register(r, b) => board.via = board.via.write(r, b),
-                Change::Line(i, level) => board.inputs[i] = level,
-                Change::Sense(i, level) => sense[i] = level,
-                Change::Reset => board.via = board.via.reset(),
-                Change::Fresh => board.via = via::fresh(),
-            }
-            let after = machine_pins::watched(board);
-            if before.lstrb | after.lstrb {
-                drives = disk_drives::after(drives, before, after);
-            }
-            answer = machine_answer::answer(board, a.value);
+            Decoded::Refused(_) => {}
         }
         item_record::put(answers, out, item_record::answer_bytes(answer));
         at += n;
