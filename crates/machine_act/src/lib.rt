@@ -146,7 +146,7 @@ fn ports_written(p: Ports, register: u8, value: u8) -> Ports
 }
 
 // The clock's look at its wires, where a VIA register is written: port B's output and its direction alone move them.
-fn clocked(
+pub fn clocked(
     engine: Engine,
     k: Core,
     ports: Ports,

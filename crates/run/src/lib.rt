@@ -55,47 +55,58 @@ pub fn run_accepted(engine: Engine, m: Machine, list: &[u8], answers: &mut [u8])
         };
         let d = run_record::judge(drives, &rest[2..n]);
         let mut answer = item_record::no(item_plain::refusal(d));
-        if let Decoded::Done(item) = d {
-            let before = machine_pins::watched(board);
-            let wait = machine_act::wait_of(item);
-            if board.via.only_counts(wait) {
-                board.via = board.via.count(wait);
-            } else {
-                board.via = board.via.wait(wait);
-            }
-            if disk_drives::busy(drives) {
-                drives = disk_drives::wait(drives, wait);
-            }
-            let a = machine_act::act(engine, board, core, drives, item, &sense, &mut cells);
-            let disk = a.disk;
-            board.disk = disk;
-            core = a.core;
-            drives = a.drives;
-            let change = a.change;
-            match change {
-                Change::Nothing => {}
-                Change::Flags(f) => board.via.flags = f,
-                Change::Ports(p) => {
-                    let mut v = board.via;
-                    v.ports = p;
-                    board.via = v;
+        match d {
+            Decoded::Done(item) => {
+                let before = machine_pins::watched(board);
+                let wait = machine_act::wait_of(item);
+                if board.via.only_counts(wait) {
+                    board.via = board.via.count(wait);
+                } else {
+                    board.via = board.via.wait(wait);
                 }
-                Change::Register(r, b) => board.via = board.via.write(r, b),
-                Change::Line(i, level) => board.inputs[i] = level,
-                Change::Sense(i, level) => sense[i] = level,
-                Change::Reset => board.via = board.via.reset(),
-                Change::Fresh => board.via = via::fresh(),
-                Change::Shift(s, f, n) => {
-                    board.via.sr = s;
-                    board.via.flags = f;
-                    board.via.pulses = n;
+                if disk_drives::busy(drives) {
+                    drives = disk_drives::wait(drives, wait);
                 }
+                let a = machine_act::act(engine, board, core, drives, item, &sense, &mut cells);
+                let disk = a.disk;
+                board.disk = disk;
+                core = a.core;
+                drives = a.drives;
+                let change = a.change;
+                match change {
+                    Change::Nothing => {}
+                    Change::Flags(f) => board.via.flags = f,
+                    Change::Ports(p) => {
+                        let mut v = board.via;
+                        v.ports = p;
+                        board.via = v;
+                    }
+                    Change::Register(r, b) => board.via = board.via.write(r, b),
+                    Change::Line(i, level) => board.inputs[i] = level,
+                    Change::Sense(i, level) => sense[i] = level,
+                    Change::Reset => board.via = board.via.reset(),
+                    Change::Fresh => board.via = via::fresh(),
+                    Change::Shift(s, f, n) => {
+                        board.via.sr = s;
+                        board.via.flags = f;
+                        board.via.pulses = n;
+                    }
+                }
+                let after = machine_pins::watched(board);
+                if before.lstrb | after.lstrb {
+                    drives = disk_drives::after(drives, before, after);
+                }
+                answer = machine_answer::answer(board, a.value);
             }
-            let after = machine_pins::watched(board);
-            if before.lstrb | after.lstrb {
-                drives = disk_drives::after(drives, before, after);
+            Decoded::Many(x) => {
+                let w = machine_many::write(engine, board, core, drives, x, &rest[11..n], &mut cells);
+                let b = w.board;
+                board = b;
+                core = w.core;
+                drives = w.drives;
+                answer = machine_answer::answer(board, 0);
             }
-            answer = machine_answer::answer(board, a.value);
+            Decoded::Refused(_) => {}
         }
         item_record::put(answers, out, item_record::answer_bytes(answer));
         at += n;

@@ -18,7 +18,7 @@ use Rattle.machine_spec.specs.declared.Did.{Did}
 use Rattle.machine_spec.specs.Step.{stepOf}
 use Rattle.machine_spec.proofs.MachineLaws.{parts}
 use Rattle.machine_spec.proofs.Keeps.{step-keeps}
-use Rattle.run_spec.specs.Turn.{turnOf}
+use Rattle.run_spec.specs.Turn.{turnOf, manyTurn}
 use Rattle.run_spec.specs.declared.Ran.{Ran}
 use Rattle.run_record.specs.Judged.{turnJudged, JudgedInRange}
 use Rattle.run.proofs.Turns as turns
@@ -38,6 +38,9 @@ use Rattle.machine_act.specs.Parts.{wholeMachine, boardVia, boardDisk, boardCha
 use Rattle.run.proofs.Turns.{strobeOf}
 use Rattle.run.proofs.Loop as loop
 use Rattle.run.proofs.Loop.{Head, at-rest}
+use Rattle.item_spec.specs.Many.{ManyInRange}
+use Rattle.machine_many.proofs.Laws.{parts-accepted}
+use Rattle.run.proofs.Many.{recordAt, valuesAt, twelve, values-are, some-values, many-levels, many-did}
 use Rattle.run.proofs.run_accepted.Statement.{statement}
 use Rattle.run.proofs.run_accepted.Tie as tie
 use Rattle.run.proofs.run_accepted.Reads as reads
@@ -147,7 +150,7 @@ stepped c =
     turns.stepped (c .before .before .before .before .before .before .before .before .before .before .before .before .before .before .before .before .before .before .before .before .before .before .before .before .before .before .before .before .before .before .before .before .loop .board) (c .before .before .before .before .before .before .before .before .before .before .before .before .before .before .before .before .before .before .before .before .before .before .before .before .before .before .before .before .before .before .before .before .loop .core) (c .before .before .before .before .before .before .before .before .before .before .before .before .before .before .before .before .before .before .before .before .before .before .before .before .before .before .before .before .before .before .before .before .loop .cells) (c .before .before .before .before .before .before .before .before .before .before .before .before .before .before .before .before .before .before .before .before .before .before .before .before .before .before .before .before .before .before .before .before .loop .drives) (c .before .before .before .before .before .before .before .before .before .before .before .before .before .before .before .before .before .before .before .before .before .before .before .before .before .before .before .before .before .before .before .before .loop .sense) (c .before .before .before .before .before .before .before .before .before .before .before .before .before .before .before .before .before .before .before .d .given .0 .0) (c .before .before .before .before .before .before .before .before .before .before .before .before .before .if2 .board) (counted (c .before .before .before .before .before .before .before .before .before .before .before .before .before)) (c .before .before .before .before .before .before .before .before .before .before .before .if3 .drives) (passed (c .before .before .before .before .before .before .before .before .before .before .before)) (c .before .before .before .before .before .before .before .before .act .result) (c .before .before .before .before .before .before .before .before .act .last .1 .1 .1 .1 .1 .1 .0) (c .before .before .before .before .before .before .before .before .act .ensures .0) (c .before .before .before .before .before .before .before .before .act .ensures .1 .0) (c .before .before .before .before .match3 .board) (c .before .before .before .before .match3 .sense) (stored (c .before .before .before .before) .0) (stored (c .before .before .before .before) .1) (c .if4 .drives) (struck c)
 
 range : (c : tie.After-known-told2 Inv-loop μ-loop) → ItemInRange (c .before .d .given .0 .0)
-range c = subst JudgedInRange (c .before .d .given .1) (c .before .before .before .before .before .judge .ensures .1)
+range c = subst (JudgedInRange _) (c .before .d .given .1) (c .before .before .before .before .before .judge .ensures .1)
 
 -- its record
 did : (c : tie.After-answer Inv-loop μ-loop)
@@ -156,15 +159,34 @@ did : (c : tie.After-answer Inv-loop μ-loop)
 unfolding turnJudged
 did c =
     turns.done (c .before .before .before .before .before .before .before .before .before .before .before .before .before .before .before .before .before .before .before .before .before .before .before .before .before .before .before .before .before .before .before .before .before .loop .board) (c .before .before .before .before .before .before .before .before .before .before .before .before .before .before .before .before .before .before .before .before .before .before .before .before .before .before .before .before .before .before .before .before .before .loop .core) (c .before .before .before .before .before .before .before .before .before .before .before .before .before .before .before .before .before .before .before .before .before .before .before .before .before .before .before .before .before .before .before .before .before .loop .cells) (c .before .before .before .before .before .before .before .before .before .before .before .before .before .before .before .before .before .before .before .before .before .before .before .before .before .before .before .before .before .before .before .before .before .loop .drives) (c .before .before .before .before .before .before .before .before .before .before .before .before .before .before .before .before .before .before .before .before .before .before .before .before .before .before .before .before .before .before .before .before .before .loop .sense) (c .before .before .before .before .before .before .before .before .before .before .before .before .before .before .before .before .before .before .before .before .d .given .0 .0) (c .before .before .before .before .before .before .before .before .before .before .before .before .before .before .if2 .board) (counted (c .before .before .before .before .before .before .before .before .before .before .before .before .before .before)) (c .before .before .before .before .before .before .before .before .before .before .before .before .if3 .drives) (passed (c .before .before .before .before .before .before .before .before .before .before .before .before)) (c .before .before .before .before .before .before .before .before .before .act .result) (c .before .before .before .before .before .before .before .before .before .act .last .1 .1 .1 .1 .1 .1 .0) (c .before .before .before .before .before .before .before .before .before .act .ensures .0) (c .before .before .before .before .before .before .before .before .before .act .ensures .1 .0) (c .before .before .before .before .before .match3 .board) (c .before .before .before .before .before .match3 .sense) (stored (c .before .before .before .before .before) .0) (stored (c .before .before .before .before .before) .1) (c .before .if4 .drives) (struck (c .before)) _
-    (c .before .before .before .before .before .before .before .before .before .before .before .before .before .before .before .before .before .before .before .before .before .before .before .before .judge .ensures .0 (wholeMachine (c .before .before .before .before .before .before .before .before .before .before .before .before .before .before .before .before .before .before .before .before .before .before .before .before .before .before .before .before .before .before .before .before .before .loop .board) (c .before .before .before .before .before .before .before .before .before .before .before .before .before .before .before .before .before .before .before .before .before .before .before .before .before .before .before .before .before .before .before .before .before .loop .core) (c .before .before .before .before .before .before .before .before .before .before .before .before .before .before .before .before .before .before .before .before .before .before .before .before .before .before .before .before .before .before .before .before .before .loop .cells) (c .before .before .before .before .before .before .before .before .before .before .before .before .before .before .before .before .before .before .before .before .before .before .before .before .before .before .before .before .before .before .before .before .before .loop .drives) (c .before .before .before .before .before .before .before .before .before .before .before .before .before .before .before .before .before .before .before .before .before .before .before .before .before .before .before .before .before .before .before .before .before .loop .sense)) refl ∙ ap (turnJudged (wholeMachine (c .before .before .before .before .before .before .before .before .before .before .before .before .before .before .before .before .before .before .before .before .before .before .before .before .before .before .before .before .before .before .before .before .before .loop .board) (c .before .before .before .before .before .before .before .before .before .before .before .before .before .before .before .before .before .before .before .before .before .before .before .before .before .before .before .before .before .before .before .before .before .loop .core) (c .before .before .before .before .before .before .before .before .before .before .before .before .before .before .before .before .before .before .before .before .before .before .before .before .before .before .before .before .before .before .before .before .before .loop .cells) (c .before .before .before .before .before .before .before .before .before .before .before .before .before .before .before .before .before .before .before .before .before .before .before .before .before .before .before .before .before .before .before .before .before .loop .drives) (c .before .before .before .before .before .before .before .before .before .before .before .before .before .before .before .before .before .before .before .before .before .before .before .before .before .before .before .before .before .before .before .before .before .loop .sense))) (c .before .before .before .before .before .before .before .before .before .before .before .before .before .before .before .before .before .before .before .before .d .given .1)) _ (c .answer .ensures _ _ _)
+    (c .before .before .before .before .before .before .before .before .before .before .before .before .before .before .before .before .before .before .before .before .before .before .before .before .judge .ensures .0 (wholeMachine (c .before .before .before .before .before .before .before .before .before .before .before .before .before .before .before .before .before .before .before .before .before .before .before .before .before .before .before .before .before .before .before .before .before .loop .board) (c .before .before .before .before .before .before .before .before .before .before .before .before .before .before .before .before .before .before .before .before .before .before .before .before .before .before .before .before .before .before .before .before .before .loop .core) (c .before .before .before .before .before .before .before .before .before .before .before .before .before .before .before .before .before .before .before .before .before .before .before .before .before .before .before .before .before .before .before .before .before .loop .cells) (c .before .before .before .before .before .before .before .before .before .before .before .before .before .before .before .before .before .before .before .before .before .before .before .before .before .before .before .before .before .before .before .before .before .loop .drives) (c .before .before .before .before .before .before .before .before .before .before .before .before .before .before .before .before .before .before .before .before .before .before .before .before .before .before .before .before .before .before .before .before .before .loop .sense)) refl ∙ ap (turnJudged (wholeMachine (c .before .before .before .before .before .before .before .before .before .before .before .before .before .before .before .before .before .before .before .before .before .before .before .before .before .before .before .before .before .before .before .before .before .loop .board) (c .before .before .before .before .before .before .before .before .before .before .before .before .before .before .before .before .before .before .before .before .before .before .before .before .before .before .before .before .before .before .before .before .before .loop .core) (c .before .before .before .before .before .before .before .before .before .before .before .before .before .before .before .before .before .before .before .before .before .before .before .before .before .before .before .before .before .before .before .before .before .loop .cells) (c .before .before .before .before .before .before .before .before .before .before .before .before .before .before .before .before .before .before .before .before .before .before .before .before .before .before .before .before .before .before .before .before .before .loop .drives) (c .before .before .before .before .before .before .before .before .before .before .before .before .before .before .before .before .before .before .before .before .before .before .before .before .before .before .before .before .before .before .before .before .before .loop .sense)) _) (c .before .before .before .before .before .before .before .before .before .before .before .before .before .before .before .before .before .before .before .before .d .given .1)) _ (c .answer .ensures _ _ _)
+
+-- where the record is an MW: what is known of it
+many : (c : tie.After-known-told9 Inv-loop μ-loop) → ManyInRange (recordAt (now (c .before .before .before .before .before .before .before .before .before .before .before .before .before .before .before .before .before .before .before .before .before .before .before .args .list)) (c .before .before .before .before .before .before .before .before .before .before .before .before .before .before .loop .at) (c .before .before .before .before .before .before .before .before .n .given .0 .0)) (c .before .d2 .given .0 .0)
+many c = subst (JudgedInRange _) (c .before .d2 .given .1) (c .before .before .before .before .before .judge .ensures .1)
+
+long : (c : tie.After-known-told9 Inv-loop μ-loop) → 12 ≤ c .before .before .before .before .before .before .before .before .n .given .0 .0
+long c = twelve (now (c .before .before .before .before .before .before .before .before .before .before .before .before .before .before .before .before .before .before .before .before .before .before .before .args .list)) (c .before .before .before .before .before .before .before .before .before .before .before .before .before .before .loop .at) (c .before .before .before .before .before .before .before .before .n .given .0 .0) (found (c .before .before .before .before .before .before .before)) (many c .least)
+
+judged : (c : tie.After-known-told9 Inv-loop μ-loop) → turnOf (wholeMachine (c .before .before .before .before .before .before .before .before .before .before .before .before .before .before .loop .board) (c .before .before .before .before .before .before .before .before .before .before .before .before .before .before .loop .core) (c .before .before .before .before .before .before .before .before .before .before .before .before .before .before .loop .cells) (c .before .before .before .before .before .before .before .before .before .before .before .before .before .before .loop .drives) (c .before .before .before .before .before .before .before .before .before .before .before .before .before .before .loop .sense)) (recordAt (now (c .before .before .before .before .before .before .before .before .before .before .before .before .before .before .before .before .before .before .before .before .before .before .before .args .list)) (c .before .before .before .before .before .before .before .before .before .before .before .before .before .before .loop .at) (c .before .before .before .before .before .before .before .before .n .given .0 .0)) ≡ manyTurn (wholeMachine (c .before .before .before .before .before .before .before .before .before .before .before .before .before .before .loop .board) (c .before .before .before .before .before .before .before .before .before .before .before .before .before .before .loop .core) (c .before .before .before .before .before .before .before .before .before .before .before .before .before .before .loop .cells) (c .before .before .before .before .before .before .before .before .before .before .before .before .before .before .loop .drives) (c .before .before .before .before .before .before .before .before .before .before .before .before .before .before .loop .sense)) (c .before .d2 .given .0 .0) (recordAt (now (c .before .before .before .before .before .before .before .before .before .before .before .before .before .before .before .before .before .before .before .before .before .before .before .args .list)) (c .before .before .before .before .before .before .before .before .before .before .before .before .before .before .loop .at) (c .before .before .before .before .before .before .before .before .n .given .0 .0))
+unfolding turnJudged
+judged c = c .before .before .before .before .before .judge .ensures .0 (wholeMachine (c .before .before .before .before .before .before .before .before .before .before .before .before .before .before .loop .board) (c .before .before .before .before .before .before .before .before .before .before .before .before .before .before .loop .core) (c .before .before .before .before .before .before .before .before .before .before .before .before .before .before .loop .cells) (c .before .before .before .before .before .before .before .before .before .before .before .before .before .before .loop .drives) (c .before .before .before .before .before .before .before .before .before .before .before .before .before .before .loop .sense)) refl ∙ ap (turnJudged (wholeMachine (c .before .before .before .before .before .before .before .before .before .before .before .before .before .before .loop .board) (c .before .before .before .before .before .before .before .before .before .before .before .before .before .before .loop .core) (c .before .before .before .before .before .before .before .before .before .before .before .before .before .before .loop .cells) (c .before .before .before .before .before .before .before .before .before .before .before .before .before .before .loop .drives) (c .before .before .before .before .before .before .before .before .before .before .before .before .before .before .loop .sense)) _) (c .before .d2 .given .1)
+
+-- and its turn
+wrote : (c : tie.After-answer2 Inv-loop μ-loop)
+    → record { machine = wholeMachine (c .before .before .before .before .write2 .result .board) (c .before .before .before .before .write2 .result .core) (c .before .before .before .before .write2 .last .1 .1 .1 .1 .1 .1 .0) (c .before .before .before .before .write2 .result .drives) (c .before .before .before .before .before .before .before .before .before .before .before .before .before .before .before .before .before .before .before .before .before .loop .sense); answer = c .answer2 .result }
+    ≡ turnOf (wholeMachine (c .before .before .before .before .before .before .before .before .before .before .before .before .before .before .before .before .before .before .before .before .before .loop .board) (c .before .before .before .before .before .before .before .before .before .before .before .before .before .before .before .before .before .before .before .before .before .loop .core) (c .before .before .before .before .before .before .before .before .before .before .before .before .before .before .before .before .before .before .before .before .before .loop .cells) (c .before .before .before .before .before .before .before .before .before .before .before .before .before .before .before .before .before .before .before .before .before .loop .drives) (c .before .before .before .before .before .before .before .before .before .before .before .before .before .before .before .before .before .before .before .before .before .loop .sense)) (recordAt (now (c .before .before .before .before .before .before .before .before .before .before .before .before .before .before .before .before .before .before .before .before .before .before .before .before .before .before .before .before .before .before .args .list)) (c .before .before .before .before .before .before .before .before .before .before .before .before .before .before .before .before .before .before .before .before .before .loop .at) (c .before .before .before .before .before .before .before .before .before .before .before .before .before .before .before .n .given .0 .0))
+wrote c =
+    many-did (wholeMachine (c .before .before .before .before .before .before .before .before .before .before .before .before .before .before .before .before .before .before .before .before .before .loop .board) (c .before .before .before .before .before .before .before .before .before .before .before .before .before .before .before .before .before .before .before .before .before .loop .core) (c .before .before .before .before .before .before .before .before .before .before .before .before .before .before .before .before .before .before .before .before .before .loop .cells) (c .before .before .before .before .before .before .before .before .before .before .before .before .before .before .before .before .before .before .before .before .before .loop .drives) (c .before .before .before .before .before .before .before .before .before .before .before .before .before .before .before .before .before .before .before .before .before .loop .sense)) (recordAt (now (c .before .before .before .before .before .before .before .before .before .before .before .before .before .before .before .before .before .before .before .before .before .before .before .before .before .before .before .before .before .before .args .list)) (c .before .before .before .before .before .before .before .before .before .before .before .before .before .before .before .before .before .before .before .before .before .loop .at) (c .before .before .before .before .before .before .before .before .before .before .before .before .before .before .before .n .given .0 .0)) (c .before .before .before .before .before .before .before .before .d2 .given .0 .0) (judged (c .before .before .before .before .before .before .before)) (valuesAt (now (c .before .before .before .before .before .before .before .before .before .before .before .before .before .before .before .before .before .before .before .before .before .before .before .before .before .before .before .before .before .before .args .list)) (c .before .before .before .before .before .before .before .before .before .before .before .before .before .before .before .before .before .before .before .before .before .loop .at) (c .before .before .before .before .before .before .before .before .before .before .before .before .before .before .before .n .given .0 .0)) (values-are (now (c .before .before .before .before .before .before .before .before .before .before .before .before .before .before .before .before .before .before .before .before .before .before .before .before .before .before .before .before .before .before .args .list)) (c .before .before .before .before .before .before .before .before .before .before .before .before .before .before .before .before .before .before .before .before .before .loop .at) (c .before .before .before .before .before .before .before .before .before .before .before .before .before .before .before .n .given .0 .0) (long (c .before .before .before .before .before .before .before))) _ (c .before .before .before .before .write2 .ensures (c .before .before .before .before .before .before .before .before .before .before .before .before .before .before .before .before .before .before .before .before .before .loop .sense)) (c .answer2 .result) (c .answer2 .ensures _ _ _)
 
 -- where the ways of the record meet: the parts together are the turn's machine
 met : (c : tie.At-match2-came Inv-loop μ-loop) → record { machine = wholeMachine (c .match2 .board) (c .match2 .core) (c .match2 .cells) (c .match2 .drives) (c .match2 .sense); answer = c .match2 .answer } ≡ turnOf (wholeMachine (c .before .before .before .before .before .before .before .before .before .before .before .before .loop .board) (c .before .before .before .before .before .before .before .before .before .before .before .before .loop .core) (c .before .before .before .before .before .before .before .before .before .before .before .before .loop .cells) (c .before .before .before .before .before .before .before .before .before .before .before .before .loop .drives) (c .before .before .before .before .before .before .before .before .before .before .before .before .loop .sense)) (take (c .before .before .before .before .before .before .n .given .0 .0 - 2) (drop 2 (take (length (now (c .before .before .before .before .before .before .before .before .before .before .before .before .before .before .before .before .before .before .before .before .before .args .list)) - c .before .before .before .before .before .before .before .before .before .before .before .before .loop .at) (drop (c .before .before .before .before .before .before .before .before .before .before .before .before .loop .at) (now (c .before .before .before .before .before .before .before .before .before .before .before .before .before .before .before .before .before .before .before .before .before .args .list))))))
 unfolding turnJudged
 met c =
     ⊎-elim (λ w. simp (w .22, w .23, w .24, w .25, w .26, w .27) (did (record { before = record { before = record { before = record { before = record { before = record { before = record { before = record { before = record { before = record { before = record { before = record { before = record { before = record { before = record { before = record { before = record { before = record { before = record { before = record { before = record { before = record { before = c .before; match2 = w .0 }; d = w .1 }; known-told2 = w .2 }; watched = w .3 }; wait-of = w .4 }; only-counts-arg = w .5 }; only-counts = w .6 }; if2 = w .7 }; busy = w .8 }; if3 = w .9 }; sense2 = w .10 }; cells = w .11 }; act = w .12 }; disk = w .13 }; core = w .14 }; drives2 = w .15 }; match3 = w .16 }; watched2 = w .17 }; struct-known = w .18 }; struct-known2 = w .19 }; if4 = w .20 }; answer = w .21 })))
-    (λ w. simp (w .2, w .3, w .4, w .5, w .6, w .7) (sym (c .before .before .before .judge .ensures .0 (wholeMachine (c .before .before .before .before .before .before .before .before .before .before .before .before .loop .board) (c .before .before .before .before .before .before .before .before .before .before .before .before .loop .core) (c .before .before .before .before .before .before .before .before .before .before .before .before .loop .cells) (c .before .before .before .before .before .before .before .before .before .before .before .before .loop .drives) (c .before .before .before .before .before .before .before .before .before .before .before .before .loop .sense)) refl ∙ ap (turnJudged (wholeMachine (c .before .before .before .before .before .before .before .before .before .before .before .before .loop .board) (c .before .before .before .before .before .before .before .before .before .before .before .before .loop .core) (c .before .before .before .before .before .before .before .before .before .before .before .before .loop .cells) (c .before .before .before .before .before .before .before .before .before .before .before .before .loop .drives) (c .before .before .before .before .before .before .before .before .before .before .before .before .loop .sense))) (w .1 .given .1)
-    ∙ ap (λ (y : Answer). record { machine = (wholeMachine (c .before .before .before .before .before .before .before .before .before .before .before .before .loop .board) (c .before .before .before .before .before .before .before .before .before .before .before .before .loop .core) (c .before .before .before .before .before .before .before .before .before .before .before .before .loop .cells) (c .before .before .before .before .before .before .before .before .before .before .before .before .loop .drives) (c .before .before .before .before .before .before .before .before .before .before .before .before .loop .sense)); answer = y }) (sym (c .before .no2 .ensures ∙ ap noOf (c .before .before .refusal .ensures ∙ simp (w .1 .given .1))))))) (c .match2 .came)
+    (⊎-elim (λ w. simp (w .10, w .11, w .12, w .13, w .14, w .15) (wrote (record { before = record { before = record { before = record { before = record { before = record { before = record { before = record { before = record { before = record { before = c .before; match2 = w .0 }; d2 = w .1 }; known-told9 = w .2 }; write-arg2 = w .3 }; cells2 = w .4 }; write2 = w .5 }; b = w .6 }; core2 = w .7 }; drives3 = w .8 }; answer2 = w .9 })))
+    (λ w. simp (w .2, w .3, w .4, w .5, w .6, w .7) (sym (c .before .before .before .judge .ensures .0 (wholeMachine (c .before .before .before .before .before .before .before .before .before .before .before .before .loop .board) (c .before .before .before .before .before .before .before .before .before .before .before .before .loop .core) (c .before .before .before .before .before .before .before .before .before .before .before .before .loop .cells) (c .before .before .before .before .before .before .before .before .before .before .before .before .loop .drives) (c .before .before .before .before .before .before .before .before .before .before .before .before .loop .sense)) refl ∙ ap (turnJudged (wholeMachine (c .before .before .before .before .before .before .before .before .before .before .before .before .loop .board) (c .before .before .before .before .before .before .before .before .before .before .before .before .loop .core) (c .before .before .before .before .before .before .before .before .before .before .before .before .loop .cells) (c .before .before .before .before .before .before .before .before .before .before .before .before .loop .drives) (c .before .before .before .before .before .before .before .before .before .before .before .before .loop .sense)) _) (w .1 .given .1)
+    ∙ ap (λ (y : Answer). record { machine = (wholeMachine (c .before .before .before .before .before .before .before .before .before .before .before .before .loop .board) (c .before .before .before .before .before .before .before .before .before .before .before .before .loop .core) (c .before .before .before .before .before .before .before .before .before .before .before .before .loop .cells) (c .before .before .before .before .before .before .before .before .before .before .before .before .loop .drives) (c .before .before .before .before .before .before .before .before .before .before .before .before .loop .sense)); answer = y }) (sym (c .before .no2 .ensures ∙ ap noOf (c .before .before .refusal .ensures ∙ simp (w .1 .given .1)))))))) (c .match2 .came)
 
 -- the buffer keeps its length
 lengths : (c : tie.Left-loop Inv-loop μ-loop) → length (c .loop-test .answers) ≡ length (now (c .before .before .before .before .before .before .before .before .before .before .args .answers))
@@ -322,6 +344,24 @@ after-requires c κs = search needs
 answer-requires : tie.Need-answer-requires Inv-loop μ-loop
 answer-requires c κs = ap (λ (y : Did). allLevels (y .machine .inputs)) (stepped c) ∙ parts _ (step-keeps (wholeMachine (c .before .before .before .before .before .before .before .before .before .before .before .before .before .before .before .before .before .before .before .before .before .before .before .before .before .before .before .before .before .before .before .before .loop .board) (c .before .before .before .before .before .before .before .before .before .before .before .before .before .before .before .before .before .before .before .before .before .before .before .before .before .before .before .before .before .before .before .before .loop .core) (c .before .before .before .before .before .before .before .before .before .before .before .before .before .before .before .before .before .before .before .before .before .before .before .before .before .before .before .before .before .before .before .before .loop .cells) (c .before .before .before .before .before .before .before .before .before .before .before .before .before .before .before .before .before .before .before .before .before .before .before .before .before .before .before .before .before .before .before .before .loop .drives) (c .before .before .before .before .before .before .before .before .before .before .before .before .before .before .before .before .before .before .before .before .before .before .before .before .before .before .before .before .before .before .before .before .loop .sense)) (c .before .before .before .before .before .before .before .before .before .before .before .before .before .before .before .before .before .before .before .d .given .0 .0) (range (c .before .before .before .before .before .before .before .before .before .before .before .before .before .before .before .before .before .before)) (c .before .before .before .before .before .before .before .before .before .before .before .before .before .before .before .before .before .before .before .before .before .before .before .before .before .before .before .before .before .before .before .before .loop .inv .0 .ok)) .levels .0
 
+enum-known-d-2 : tie.Need-enum-known-d-2 Inv-loop μ-loop
+enum-known-d-2 c = search needs
+
+sub-write : tie.Need-sub-write Inv-loop μ-loop
+sub-write c = omega (arith, long c)
+
+part-write-start : tie.Need-part-write-start Inv-loop μ-loop
+part-write-start c = omega (arith, long c)
+
+part-write-end : tie.Need-part-write-end Inv-loop μ-loop
+part-write-end c = simp at-rest (simp length-drop (omega (arith, fits (c .before .before .before .before .before .before .before))))
+
+write-requires-2 : tie.Need-write-requires-2 Inv-loop μ-loop
+write-requires-2 c κs = (many (c .before .before) .number, (some-values (now (c .before .before .before .before .before .before .before .before .before .before .before .before .before .before .before .before .before .before .before .before .before .before .before .before .before .args .list)) (c .before .before .before .before .before .before .before .before .before .before .before .before .before .before .before .before .loop .at) (c .before .before .before .before .before .before .before .before .before .before .n .given .0 .0) (long (c .before .before)) (many (c .before .before) .least), parts-accepted (c .before .before .before .before .before .before .before .before .before .before .before .before .before .before .before .before .loop .board) (c .before .before .before .before .before .before .before .before .before .before .before .before .before .before .before .before .loop .core) (c .before .before .before .before .before .before .before .before .before .before .before .before .before .before .before .before .loop .cells) (c .before .before .before .before .before .before .before .before .before .before .before .before .before .before .before .before .loop .drives) (c .before .before .before .before .before .before .before .before .before .before .before .before .before .before .before .before .loop .sense) (c .before .before .before .before .before .before .before .before .before .before .before .before .before .before .before .before .loop .inv .0 .ok)))
+
+answer-requires-2 : tie.Need-answer-requires-2 Inv-loop μ-loop
+answer-requires-2 c κs = many-levels (wholeMachine (c .before .before .before .before .before .before .before .before .before .before .before .before .before .before .before .before .before .before .before .before .loop .board) (c .before .before .before .before .before .before .before .before .before .before .before .before .before .before .before .before .before .before .before .before .loop .core) (c .before .before .before .before .before .before .before .before .before .before .before .before .before .before .before .before .before .before .before .before .loop .cells) (c .before .before .before .before .before .before .before .before .before .before .before .before .before .before .before .before .before .before .before .before .loop .drives) (c .before .before .before .before .before .before .before .before .before .before .before .before .before .before .before .before .before .before .before .before .loop .sense)) (recordAt (now (c .before .before .before .before .before .before .before .before .before .before .before .before .before .before .before .before .before .before .before .before .before .before .before .before .before .before .before .before .before .args .list)) (c .before .before .before .before .before .before .before .before .before .before .before .before .before .before .before .before .before .before .before .before .loop .at) (c .before .before .before .before .before .before .before .before .before .before .before .before .before .before .n .given .0 .0)) (c .before .before .before .before .before .before .before .d2 .given .0 .0) (judged (c .before .before .before .before .before .before)) (valuesAt (now (c .before .before .before .before .before .before .before .before .before .before .before .before .before .before .before .before .before .before .before .before .before .before .before .before .before .before .before .before .before .args .list)) (c .before .before .before .before .before .before .before .before .before .before .before .before .before .before .before .before .before .before .before .before .loop .at) (c .before .before .before .before .before .before .before .before .before .before .before .before .before .before .n .given .0 .0)) (values-are (now (c .before .before .before .before .before .before .before .before .before .before .before .before .before .before .before .before .before .before .before .before .before .before .before .before .before .before .before .before .before .args .list)) (c .before .before .before .before .before .before .before .before .before .before .before .before .before .before .before .before .before .before .before .before .loop .at) (c .before .before .before .before .before .before .before .before .before .before .before .before .before .before .n .given .0 .0) (long (c .before .before .before .before .before .before))) _ (c .before .before .before .write2 .ensures (c .before .before .before .before .before .before .before .before .before .before .before .before .before .before .before .before .before .before .before .before .loop .sense)) (c .before .before .before .before .before .before .before .before .before .before .before .before .before .before .before .before .before .before .before .before .loop .inv .0 .ok)
+
 enum-told-5 : tie.Need-enum-told-5 Inv-loop μ-loop
 enum-told-5 c = search needs
 
@@ -410,6 +450,12 @@ run-accepted-spec =
     watched-requires-2
     after-requires
     answer-requires
+    enum-known-d-2
+    sub-write
+    part-write-start
+    part-write-end
+    write-requires-2
+    answer-requires-2
     enum-told-5
     answer-bytes-requires-2
     put-requires-2
