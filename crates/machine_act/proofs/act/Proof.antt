@@ -91,8 +91,8 @@ add-seconds-requires c κs = search needs
 enum-known-item-5 : tie.Need-enum-known-item-5
 enum-known-item-5 c = search needs
 
-cast-t32 : tie.Need-cast-t32
-cast-t32 c = search needs
+cast-t33 : tie.Need-cast-t33
+cast-t33 c = search needs
 
 enum-known-item-6 : tie.Need-enum-known-item-6
 enum-known-item-6 c = search needs
@@ -215,7 +215,7 @@ act-spec =
     enum-told-2
     add-seconds-requires
     enum-known-item-5
-    cast-t32
+    cast-t33
     enum-known-item-6
     sense-index-requires
     enum-told-3
