@@ -99,7 +99,15 @@ pub fn run_accepted(engine: Engine, m: Machine, list: &[u8], answers: &mut [u8])
                 answer = machine_answer::answer(board, a.value);
             }
             Decoded::Many(x) => {
-                let w = machine_many::write(engine, board, core, drives, x, &rest[11..n], &mut cells);
+                let w = machine_many::write(
+                    engine,
+                    board,
+                    core,
+                    drives,
+                    x,
+                    &rest[11..n],
+                    &mut cells,
+                );
                 let b = w.board;
                 board = b;
                 core = w.core;
