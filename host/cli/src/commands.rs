@@ -1,5 +1,7 @@
 //! The commands and their words: what is parsed, and what help, the man page and the completions say.
 
+use super::import;
+
 /// An option of a command.
 pub struct Flag {
     /// As `--save`, or `-o`.
@@ -141,7 +143,7 @@ pub const GROUPS: [Group; 1] = [Group {
 }];
 
 /// All commands.
-pub const COMMANDS: [Command; 19] = [
+pub const COMMANDS: [Command; 20] = [
     Command {
         name: "run",
         operand: "LIST",
@@ -238,6 +240,7 @@ pub const COMMANDS: [Command; 19] = [
                 where they agree, 1 where they do not.",
         flags: &[CAPTURE_TEXT, CAPTURE_RECORDS, CAPTURE_CELLS, CAPTURE_IMAGE],
     },
+    import::COMMAND,
     Command {
         name: "image",
         operand: "FILE",

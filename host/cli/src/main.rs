@@ -13,6 +13,7 @@ mod failure;
 mod files;
 mod help;
 mod image;
+mod import;
 mod keyboard;
 mod lines;
 mod manual;
@@ -108,6 +109,7 @@ fn act(command: &str, given: &Given) -> Result<u8, Failure> {
         "cut" => cut::cut(given),
         "join" => cut::join(given),
         "touches" => touches::touches(given),
+        "import" => import::import(given),
         "image" => {
             let input = Input::of(given.need()?);
             let machine = image::read(&input, source::open(&input)?)?;
