@@ -1,6 +1,6 @@
 //! The commands and their words: what is parsed, and what help, the man page and the completions say.
 
-use super::import;
+use super::{export, import};
 
 /// An option of a command.
 pub struct Flag {
@@ -89,7 +89,7 @@ const RUN: [Flag; 11] = [
     Flag {
         name: "--vcd",
         value: "FILE",
-        help: "writes wires, lines and drives over time as a Value Change Dump, for GTKWave",
+        help: "writes wires, lines and drives over time as a Value Change Dump, and a .gtkw beside it, for GTKWave",
     },
     Flag {
         name: "--room",
@@ -143,7 +143,7 @@ pub const GROUPS: [Group; 1] = [Group {
 }];
 
 /// All commands.
-pub const COMMANDS: [Command; 20] = [
+pub const COMMANDS: [Command; 21] = [
     Command {
         name: "run",
         operand: "LIST",
@@ -241,6 +241,7 @@ pub const COMMANDS: [Command; 20] = [
         flags: &[CAPTURE_TEXT, CAPTURE_RECORDS, CAPTURE_CELLS, CAPTURE_IMAGE],
     },
     import::COMMAND,
+    export::COMMAND,
     Command {
         name: "image",
         operand: "FILE",

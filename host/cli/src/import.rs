@@ -17,6 +17,7 @@ use super::place::{Input, Output};
 use super::request::chip;
 use super::source;
 use super::words::Given;
+use csv::Comments;
 use reader::{Reader, WaveError};
 use std::io::{Read, Seek, Write};
 use swarmtempo::{Femtoseconds, Replay, Timed, WireEvent, Wires, WIRES};
@@ -246,8 +247,12 @@ impl Importer {
             let head = self.head();
             out.write_all(head.as_bytes()).map_err(|error| failure(&self.name, error))?;
         }
-        let dump = reader.begins_with(b'$').map_err(|error| self.wrong(error))?;
         let mut told = Told::default();
+        let mut comments = Comments::default();
+        let dump = reader.begins_with(b'$', |meta| {
+            comments.takes(meta);
+        });
+        let dump = dump.map_err(|error| self.wrong(error))?;
         let mut bytes = Vec::new();
         let mut take = |time, wires, line| {
             bytes.clear();
@@ -257,7 +262,7 @@ impl Importer {
         let read = if dump {
             vcd::read(&mut reader, &wishes, &mut told, &mut take)
         } else {
-            csv::read(&mut reader, &wishes, &mut told, &mut take)
+            csv::read(&mut reader, comments, &wishes, &mut told, &mut take)
         };
         read.map_err(|error| self.wrong(error))?;
         self.told = told;
@@ -385,9 +390,9 @@ impl Importer {
              until enable goes up, and drives it else"
         };
         let seconds = if self.seconds {
-            "not on the wires: second ticks; there is an SE every 783,360 VIA ticks from the start"
+            "not on the wires: one-second ticks; there is an SE every 783,360 VIA ticks from the start"
         } else {
-            "not on the wires: second ticks; there is no SE, and the seconds stand"
+            "not on the wires: one-second ticks; there is no SE, and the seconds stand"
         };
         [
             data,
@@ -396,7 +401,7 @@ impl Importer {
              timers, interrupts, disks",
             "not on the wires: cells, seconds, protect and test before the start; the list begins on a \
              fresh machine unless run has --image",
-            "times are rounded to the nearest VIA tick (1,277 ns), each from the start; edges closer \
+            "times are rounded to the nearest VIA tick (1,277 nanoseconds), each from the start; edges closer \
              than the analyser's samples have the order in which it saw them",
         ]
         .map(str::to_string)

@@ -9,8 +9,10 @@ mod contents;
 mod convert;
 mod cut;
 mod draft;
+mod export;
 mod failure;
 mod files;
+mod gtkw;
 mod help;
 mod image;
 mod import;
@@ -110,6 +112,7 @@ fn act(command: &str, given: &Given) -> Result<u8, Failure> {
         "join" => cut::join(given),
         "touches" => touches::touches(given),
         "import" => import::import(given),
+        "export" => export::export(given),
         "image" => {
             let input = Input::of(given.need()?);
             let machine = image::read(&input, source::open(&input)?)?;

@@ -2,6 +2,7 @@
 
 use super::conflicts::Uses;
 use super::failure::Failure;
+use super::gtkw;
 use super::place::{Input, Output};
 use super::style::When;
 use super::words::Given;
@@ -103,6 +104,9 @@ impl Options {
             if let Some(output) = output {
                 uses.writes(word, output);
             }
+        }
+        if let Some(beside) = self.vcd.as_ref().and_then(gtkw::beside) {
+            uses.writes("the .gtkw beside --vcd", &beside);
         }
         uses
     }

@@ -3,6 +3,7 @@
 use super::contents::{self, Sampled};
 use super::failure::{failure, Failure};
 use super::files::{self, say, Out};
+use super::gtkw::SaveFile;
 use super::lines::{list_failure, Lines};
 use super::place::{Input, Output};
 use super::progress::Progress;
@@ -12,7 +13,7 @@ use super::summary::{End, Summary};
 use super::{image, source};
 use std::io::{self, Read};
 use swarmtempo::table::{Table, HEAD};
-use swarmtempo::vcd::Vcd;
+use swarmtempo::vcd::{save_file, Vcd};
 use swarmtempo::{pieces, Chunks, Machine, Piece, Refusal, ANSWER_LEN};
 
 /// What to do with records that come as a text.
@@ -79,6 +80,7 @@ struct Outs {
     table: Option<Out>,
     answers: Option<Out>,
     vcd: Option<Out>,
+    beside: Option<SaveFile>,
     save: Option<Out>,
 }
 
@@ -88,6 +90,7 @@ impl Outs {
             table: options.table().then(|| Out::text(&Output::standard())).transpose()?,
             answers: options.answers.as_ref().map(Out::bytes).transpose()?,
             vcd: options.vcd.as_ref().map(Out::text).transpose()?,
+            beside: options.vcd.as_ref().map(SaveFile::open).transpose()?.flatten(),
             save: options.save.as_ref().map(Out::bytes).transpose()?,
         })
     }
@@ -100,6 +103,7 @@ struct Runner {
     rows: Table,
     style: Style,
     vcd: Option<Vcd<Out>>,
+    beside: Option<SaveFile>,
     save: Option<Out>,
     summary: Summary,
     /// Answer bytes left.
@@ -123,6 +127,7 @@ impl Runner {
             rows: Table::default(),
             style: Style::of_output(options.colour),
             vcd,
+            beside: outs.beside,
             save: outs.save,
             room: options.room.unwrap_or(u64::MAX),
             stop: None,
@@ -235,8 +240,11 @@ impl Runner {
         if let Some(save) = &mut self.save {
             save.put(self.machine.image())?;
         }
+        let end = self.vcd.as_ref().map_or(0, Vcd::end);
+        let beside = self.beside.map(|it| it.write(|dump, save| save_file(dump, save, end)));
         let vcd = self.vcd.map(Vcd::finish).transpose().map_err(|error| of_dump(options, error))?;
-        files::keep([self.table, self.answers, vcd, self.save].into_iter().flatten())?;
+        let all = [self.table, self.answers, vcd, beside.transpose()?, self.save];
+        files::keep(all.into_iter().flatten())?;
         let number = self.stop.map_or(0, Refusal::number);
         let refusal = self.summary.first_refusal();
         if !options.quiet || number != 0 || refusal != 0 {

@@ -8,7 +8,7 @@ use std::process::Command;
 use swarmtempo::text::assemble;
 use swarmtempo::{Chip, Machine, CHUNK_LEN};
 
-const COMMANDS: [&str; 19] = [
+const COMMANDS: [&str; 21] = [
     "run",
     "asm",
     "disasm",
@@ -16,6 +16,8 @@ const COMMANDS: [&str; 19] = [
     "cut",
     "join",
     "touches",
+    "import",
+    "export",
     "image",
     "keyboard",
     "sheet get",
@@ -393,7 +395,7 @@ fn the_first_list_and_what_it_names() {
         let output = shell(&folder, &script, &[], b"");
         assert_eq!(status(&output), 0, "{command}: {}", stderr(&output));
     }
-    assert_eq!(folder.names(), ["end.st", "first.txt", "first.vcd"]);
+    assert_eq!(folder.names(), ["end.st", "first.gtkw", "first.txt", "first.vcd"]);
     assert_eq!(
         Machine::from_image(&folder.get("end.st")).expect("accepted").state().cells[0],
         0xAA

@@ -87,6 +87,15 @@ const SHEET: &str = "7 3 \"north bench\"\n20 1 14\n$201 255 00 FF ; remark\n7 3 
 
 const EVENTS: &str = "0t COMMAND Inquiry\n100t KEY $33\n195840t ; alone\n0t COMMAND 0x16\n";
 
+/// As analysers write them.
+const WAVES: [&str; 2] = [
+    "$timescale 10 us $end\n$scope module top $end\n$var wire 1 ! enable $end\n\
+     $var wire 1 \" data_clock $end\n$var wire 1 # data $end\n$upscope $end\n\
+     $enddefinitions $end\n#0\n$dumpvars\n1!\nx\"\nz#\n$end\n#5 0!\n#7 0\" b0 #\n#90000 1\"\n",
+    "; Channels (3/3): enable, data_clock, data\n; Samplerate: 10 MHz\nnanoseconds,logic,logic,logic\n\
+     100,1,1,1\n600,0,1,1\n800,0,0,0\n2100.5,0,1,0\n3e8,0,1,0\n",
+];
+
 fn broken_text(random: &mut Random) -> Vec<u8> {
     let text = TEXTS[random.below(TEXTS.len())];
     random.broken(text.as_bytes())
@@ -106,7 +115,11 @@ fn contents(random: &mut Random) -> Vec<u8> {
             let chip = Chip::BOTH[random.below(2)];
             random.broken(Machine::fresh(chip).image())
         }
-        6 => random.broken(EVENTS.as_bytes()),
+        6 if random.below(2) == 0 => random.broken(EVENTS.as_bytes()),
+        6 => {
+            let wave = WAVES[random.below(WAVES.len())];
+            random.broken(wave.as_bytes())
+        }
         4 => {
             let list = records(random);
             random.broken(&list)
@@ -184,7 +197,7 @@ fn images() {
 fn the_program() {
     let folder = Folder::new("robust");
     folder.put("nothing", b"");
-    let commands: [&[&str]; 22] = [
+    let commands: [&[&str]; 26] = [
         &["run", "file"],
         &["run", "file", "--text"],
         &["run", "file", "--records", "--vcd", "vcd", "--quiet"],
@@ -200,6 +213,10 @@ fn the_program() {
         &["join", "file", "nothing", "file", "-o", "out"],
         &["touches", "file", "--records"],
         &["touches", "-", "file", "--text"],
+        &["import", "file", "-o", "out"],
+        &["import", "-", "--as-text", "--rate", "1000000", "--unit", "ns", "--seconds"],
+        &["export", "file", "--records", "-o", "wires.vcd"],
+        &["export", "-", "--text", "--csv"],
         &["sheet", "get", "7", "--bench", "file"],
         &["sheet", "get", "7", "--text", "--house", "file"],
         &["sheet", "list"],

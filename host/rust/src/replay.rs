@@ -283,11 +283,11 @@ impl Replay {
             self.start(tick, wires, out);
             return Ok(());
         };
-        if self.held && !wires.enable || wires == shown {
+        self.held &= !wires.enable;
+        if self.held || wires == shown {
             return Ok(());
         }
         self.check(tick)?;
-        self.held = false;
         let by_chip =
             self.let_go && (wires.enable, wires.data_clock) == (shown.enable, shown.data_clock);
         let event = self.follower.follow(shown, wires);

@@ -16,11 +16,11 @@ const NAMES_MOST: usize = 40;
 /// Reads the rows, and hands out a sample at each change, then the end.
 pub fn read(
     reader: &mut Reader,
+    mut comments: Comments,
     wishes: &Wishes,
     told: &mut Told,
     take: &mut Take<'_>,
 ) -> Result<(), WaveError> {
-    let mut comments = Comments::default();
     let mut line = Vec::new();
     let mut rows: Option<Rows> = None;
     while let Some(number) = reader.line_of(&mut line)? {
@@ -51,14 +51,14 @@ pub fn read(
 
 /// What sigrok says in comments.
 #[derive(Default)]
-struct Comments {
+pub struct Comments {
     channels: Vec<String>,
     rate: Option<u64>,
 }
 
 impl Comments {
     /// True where a line is a comment. The program of sigrok puts META lines among them.
-    fn takes(&mut self, line: &str) -> bool {
+    pub fn takes(&mut self, line: &str) -> bool {
         let meta = line.starts_with("META ");
         if !meta && !line.starts_with([';', '#']) {
             return false;

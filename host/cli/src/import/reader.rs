@@ -42,10 +42,20 @@ impl Reader {
         Reader { source, line: 1, column: 1, after_return: false }
     }
 
-    /// True where the first byte that is no blank is this one.
-    pub fn begins_with(&mut self, wanted: u8) -> Result<bool, WaveError> {
+    /// True where the first byte that is no blank is this one. Lines that begin with META, which the
+    /// program of sigrok puts before what it writes, are handed out and passed over.
+    pub fn begins_with(
+        &mut self,
+        wanted: u8,
+        mut meta: impl FnMut(&str),
+    ) -> Result<bool, WaveError> {
         if self.fill()?.starts_with(BYTE_ORDER_MARK) {
             self.source.consume(BYTE_ORDER_MARK.len());
+        }
+        let mut line = Vec::new();
+        while self.fill()?.starts_with(b"META ") {
+            self.line_of(&mut line)?;
+            meta(&String::from_utf8_lossy(&line));
         }
         while let Some(&byte) = self.fill()?.first() {
             if !byte.is_ascii_whitespace() {

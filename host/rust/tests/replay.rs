@@ -1,0 +1,377 @@
+//! A capture's wires written as an analyser would, and turned into items again: the same transactions.
+//!
+//! `SWARMTEMPO_SEED` takes another seed, `SWARMTEMPO_LISTS` another number of captures.
+
+use swarmtempo::{
+    pieces, Address, Chip, Command, Femtoseconds, Item, List, Machine, Phase, Register, Replay,
+    Seconds, State, Target, Timed, ViaTicks, WireDump, WireEvent, WireForm, Wires, ANSWER_LEN,
+};
+
+const CAPTURES: u64 = 4_000;
+
+struct Random(u64);
+
+impl Random {
+    fn next(&mut self) -> u64 {
+        self.0 = self.0.wrapping_add(0x9E37_79B9_7F4A_7C15);
+        let mut z = self.0;
+        z = (z ^ z >> 30).wrapping_mul(0xBF58_476D_1CE4_E5B9);
+        z = (z ^ z >> 27).wrapping_mul(0x94D0_49BB_1331_11EB);
+        z ^ z >> 31
+    }
+
+    fn below(&mut self, limit: u64) -> u64 {
+        self.next() % limit
+    }
+
+    fn byte(&mut self) -> u8 {
+        self.next().to_le_bytes()[0]
+    }
+
+    fn one_in(&mut self, n: u64) -> bool {
+        self.below(n) == 0
+    }
+}
+
+/// A random capture: whole, half-sent, illegal and protected transactions, of one byte and of two,
+/// and noise on the port.
+struct Maker<'a> {
+    random: &'a mut Random,
+    list: List,
+    /// Waits are at least this many VIA ticks.
+    least: u16,
+    /// Second ticks and power cuts are put in too.
+    seconds: bool,
+}
+
+impl Maker<'_> {
+    fn push(&mut self, item: Item) {
+        let wait = match self.random.below(40) {
+            0 => 60_000 + self.random.below(5_536) as u16,
+            1..=9 => self.random.below(300) as u16,
+            _ => self.random.below(4) as u16,
+        };
+        self.list.push(ViaTicks(wait.max(self.least)), item);
+    }
+
+    fn port(&mut self, register: Register, value: u8) {
+        // The other bits are nobody's business here.
+        let value = value | self.random.byte() & 0xF8;
+        self.push(Item::Write(Address::Via(register), value));
+    }
+
+    fn levels(&mut self, value: u8) {
+        self.port(Register::ORB, value);
+    }
+
+    /// These levels, and any in the bits of a mask.
+    fn any(&mut self, base: u8, mask: u8) {
+        let value = base | self.random.byte() & mask;
+        self.levels(value);
+    }
+
+    fn bits(&mut self, byte: u8, count: u8) {
+        for bit in (0..count).map(|i| byte >> (7 - i) & 1) {
+            if self.random.one_in(3) {
+                self.levels(bit);
+                self.levels(bit | 2);
+            } else {
+                // Data and data-clock in one write.
+                self.levels(1 - bit);
+                self.levels(bit | 2);
+            }
+        }
+    }
+
+    fn transaction(&mut self) {
+        const LEGAL: [u8; 8] = [0x41, 0x7D, 0x21, 0x2D, 0x01, 0x0D, 0x31, 0x35];
+        self.any(4, 3);
+        self.port(Register::DDRB, 7);
+        self.any(0, 3);
+        let first = match self.random.below(8) {
+            0 => self.random.byte(),
+            1 | 2 => 0x38 | self.random.byte() & 0x87,
+            _ => LEGAL[self.random.below(8) as usize] | self.random.byte() & 0x80,
+        };
+        let kept = |random: &mut Random| if random.one_in(9) { random.below(8) as u8 } else { 8 };
+        let count = kept(self.random);
+        self.bits(first, count);
+        if first & 0x78 == 0x38 {
+            let (second, count) = (self.random.byte() & 0x7C, kept(self.random));
+            self.bits(second, count);
+        }
+        if first & 0x80 != 0 {
+            if !self.random.one_in(4) {
+                self.port(Register::DDRB, 6);
+            }
+            for _ in 0..self.random.below(11) {
+                self.any(0, 1);
+                self.any(2, 1);
+            }
+        } else {
+            // Protect is mostly cleared, so that something is written.
+            let data = if first == 0x35 && !self.random.one_in(4) { 0 } else { self.random.byte() };
+            let data = if first == 0x31 { data & 0x3F } else { data };
+            let count = kept(self.random);
+            self.bits(data, count);
+        }
+        if !self.random.one_in(6) {
+            self.any(4, 3);
+        }
+    }
+
+    fn noise(&mut self) {
+        match self.random.below(8) {
+            0 => self.push(Item::Reset),
+            1 => self.push(Item::Read(Address::Via(Register::ORB))),
+            2 => self.push(Item::Blank),
+            3 if self.seconds => self.push(Item::Second),
+            4 if self.seconds => self.push(Item::Power(Seconds(3))),
+            5 => {
+                let value = self.random.byte();
+                self.port(Register::DDRB, value);
+            }
+            _ => self.any(0, 0xFF),
+        }
+    }
+}
+
+fn capture(random: &mut Random, least: u16, seconds: bool) -> List {
+    let mut maker = Maker { random, list: List::new(), least, seconds };
+    for _ in 0..=maker.random.below(12) {
+        if maker.random.one_in(3) {
+            maker.noise();
+        } else {
+            maker.transaction();
+        }
+    }
+    maker.list
+}
+
+/// The levels after each item, with the VIA ticks then.
+fn levels(machine: &mut Machine, list: &[u8]) -> Vec<(u64, Wires)> {
+    let mut seen = vec![(0, machine.state().wires())];
+    for piece in pieces(list) {
+        let timed = Timed::try_from(piece).expect("an item");
+        machine.step(timed.wait, timed.item).expect("carried out");
+        let ticks = seen[seen.len() - 1].0 + u64::from(timed.wait.0);
+        seen.push((ticks, machine.state().wires()));
+    }
+    seen
+}
+
+/// The complete writes of a history, by the requirements' own words: the rises of each stretch.
+fn complete_writes(chip: Chip, history: &[(u64, Wires)]) -> Vec<(Target, u8)> {
+    let mut writes = Vec::new();
+    for stretch in history.chunk_by(|a, b| a.1.enable == b.1.enable).filter(|it| !it[0].1.enable) {
+        let rise = |pair: &&[(u64, Wires)]| !pair[0].1.data_clock && pair[1].1.data_clock;
+        let bits: Vec<bool> = stretch.windows(2).filter(rise).map(|pair| pair[1].1.data).collect();
+        let byte = |at: usize| {
+            let bits = bits.get(8 * at..8 * at + 8)?;
+            Some(bits.iter().fold(0u8, |byte, &bit| byte << 1 | u8::from(bit)))
+        };
+        let Some(first) = byte(0) else {
+            continue;
+        };
+        let (command, data) = match Command::of(first) {
+            None if chip == Chip::Later => {
+                (byte(1).and_then(|second| Command::of_two(first, second)), byte(2))
+            }
+            command => (command, byte(1)),
+        };
+        if let (Some(Command { read: false, target }), Some(data)) = (command, data) {
+            writes.push((target, data));
+        }
+    }
+    writes
+}
+
+/// The wires of a run as rows of comma-separated values.
+fn exported(machine: &mut Machine, list: &[u8]) -> String {
+    let mut dump =
+        WireDump::new(Vec::new(), WireForm::Csv, machine.state().wires()).expect("memory");
+    for piece in pieces(list) {
+        let mut answer = [0; ANSWER_LEN];
+        machine.run_in(piece.as_ref(), &mut answer);
+        dump.record(piece, &answer, machine.state().wires()).expect("memory");
+    }
+    String::from_utf8(dump.finish().expect("memory")).expect("text")
+}
+
+fn imported(rows: &str, mut replay: Replay) -> (List, Vec<WireEvent>) {
+    let (mut list, mut events) = (List::new(), Vec::new());
+    for row in rows.lines().skip(1) {
+        let cells: Vec<i128> = row.split(',').map(|cell| cell.parse().expect("number")).collect();
+        let tick = Femtoseconds(cells[0] * 1_000_000).nearest_tick().expect("in range");
+        let wires = Wires { enable: cells[1] == 1, data_clock: cells[2] == 1, data: cells[3] == 1 };
+        let take = |timed: Timed, event| {
+            list.push(timed.wait, timed.item);
+            events.extend(event);
+        };
+        replay.sample(tick, wires, take).expect("no gap");
+    }
+    (list, events)
+}
+
+fn same_store(a: &State, b: &State, seconds: bool) -> bool {
+    // A byte of the seconds that is sent is not the same where the seconds are not.
+    let sending = |state: &State| matches!(state.phase, Phase::Sending { .. });
+    let same_phase = a.phase == b.phase || !seconds && sending(a) && sending(b);
+    (&a.cells, a.protect, a.test) == (&b.cells, b.protect, b.test)
+        && same_phase
+        && (!seconds || a.seconds == b.seconds)
+}
+
+fn number(name: &str, otherwise: u64) -> u64 {
+    std::env::var(name).ok().and_then(|word| word.parse().ok()).unwrap_or(otherwise)
+}
+
+/// Cells, seconds, protect, test, the transaction under way at the end, and every complete write.
+#[test]
+fn random_captures_of_both_chips() {
+    let (seed, captures) = (number("SWARMTEMPO_SEED", 31), number("SWARMTEMPO_LISTS", CAPTURES));
+    let mut random = Random(seed);
+    let (mut written, mut kept_out, mut far, mut half) = (0, 0, 0, 0);
+    for round in 0..captures {
+        let chip = Chip::BOTH[random.below(2) as usize];
+        let seconds = random.one_in(4);
+        let driven = random.one_in(3);
+        let list = capture(&mut random, 0, seconds);
+        let mut machine = Machine::fresh(chip);
+        let rows = exported(&mut machine, list.as_ref());
+        let (again, events) = imported(&rows, Replay::new(chip).driven(driven));
+        let mut other = Machine::fresh(chip);
+        let theirs = levels(&mut other, again.as_ref());
+        let ours = levels(&mut Machine::fresh(chip), list.as_ref());
+        let told = format!("seed {seed}, round {round}, {chip}\n{list}\n{rows}\n{again}");
+        assert!(same_store(&machine.state(), &other.state(), !seconds), "{told}");
+        let writes = complete_writes(chip, &ours);
+        assert_eq!(writes, complete_writes(chip, &theirs), "{told}");
+        // What the follower tells is what the history holds.
+        let events_written: Vec<(Target, u8)> = events
+            .iter()
+            .filter_map(|event| match event {
+                WireEvent::Written(command, byte) => Some((command.target, *byte)),
+                _ => None,
+            })
+            .collect();
+        assert_eq!(events_written, writes, "{told}");
+        written += writes.len();
+        far += writes.iter().filter(|(it, _)| matches!(it, Target::Cell(20..))).count();
+        kept_out += usize::from(machine.state().protect);
+        half += events.iter().filter(|it| matches!(it, WireEvent::HalfSent(_))).count();
+    }
+    println!("seed {seed}: {captures} captures, {written} complete writes, {half} half sent");
+    assert!(written > 1_000 && far > 100 && kept_out > 50 && half > 100, "{far} {kept_out} {half}");
+}
+
+/// From a state in the middle of a transaction, on from there.
+#[test]
+fn captures_that_go_on() {
+    let mut random = Random(number("SWARMTEMPO_SEED", 31) + 1);
+    let mut low = 0;
+    for round in 0..number("SWARMTEMPO_LISTS", CAPTURES) / 4 {
+        let chip = Chip::BOTH[random.below(2) as usize];
+        let list = capture(&mut random, 0, false);
+        let all: Vec<&[u8]> = pieces(list.as_ref())
+            .map(|piece| {
+                let (swarmtempo::Piece::Record(bytes) | swarmtempo::Piece::Rest(bytes)) = piece;
+                bytes
+            })
+            .collect();
+        let (first, rest) = all.split_at(random.below(all.len() as u64) as usize);
+        let mut start = Machine::fresh(chip);
+        start.run(first.concat(), &mut Vec::new());
+        low += u64::from(!start.state().wires().enable);
+        let (mut machine, mut other) = (start.clone(), start.clone());
+        let rows = exported(&mut machine, &rest.concat());
+        let (again, _) = imported(&rows, Replay::new(chip).goes_on(true));
+        other.run(&again, &mut Vec::new());
+        let told = format!("round {round}, {chip}\n{list}\n{rows}\n{again}");
+        assert!(same_store(&machine.state(), &other.state(), true), "{told}");
+    }
+    assert!(low > 100, "{low}");
+}
+
+/// Every change comes at the VIA tick at which it came: what is rounded does not add up.
+#[test]
+fn times_do_not_drift() {
+    let mut random = Random(number("SWARMTEMPO_SEED", 31) + 2);
+    let changes = |levels: Vec<(u64, Wires)>| {
+        let mut kept = levels.clone();
+        kept.dedup_by(|b, a| a.1 == b.1);
+        kept
+    };
+    for _ in 0..500 {
+        let list = capture(&mut random, 2, false);
+        let rows = exported(&mut Machine::fresh(Chip::Later), list.as_ref());
+        let (again, _) = imported(&rows, Replay::new(Chip::Later).driven(true));
+        let ours = changes(levels(&mut Machine::fresh(Chip::Later), list.as_ref()));
+        let theirs = changes(levels(&mut Machine::fresh(Chip::Later), again.as_ref()));
+        assert_eq!(ours, theirs, "{list}\n{rows}\n{again}");
+    }
+}
+
+#[test]
+fn ticks() {
+    // 783,360 VIA ticks are a second; the middle between two goes up.
+    for (femtoseconds, tick) in [
+        (0, Some(0)),
+        (1, Some(0)),
+        (638_276_143, Some(0)),
+        (638_276_144, Some(1)),
+        (1_276_552_287, Some(1)),
+        (1_000_000_000_000_000, Some(783_360)),
+        (86_400_000_000_000_000_000, Some(67_682_304_000)),
+        (-1, None),
+        (i128::MAX, None),
+    ] {
+        let tick_of = Femtoseconds(femtoseconds).nearest_tick();
+        assert_eq!(tick_of, tick, "{femtoseconds}");
+    }
+}
+
+#[test]
+fn long_waits_second_ticks_and_gaps() {
+    let up = Wires { enable: true, data_clock: true, data: true };
+    let down = Wires { enable: false, ..up };
+    let mut lines = Vec::new();
+    let mut replay = Replay::new(Chip::First).with_seconds(true);
+    for (tick, wires) in [(7, up), (7 + 3 * 65_535 + 5, down), (783_367, up), (783_368, down)] {
+        replay.sample(tick, wires, |timed, _| lines.push(timed.to_string())).expect("no gap");
+    }
+    let still = "65535t WR VIA.DDRB $07";
+    let mut wanted = vec!["0t WR VIA.ORB $07", "0t WR VIA.DDRB $07", still, still, still];
+    wanted.extend(["5t WR VIA.ORB $03"]);
+    wanted.extend([still; 8]);
+    wanted.extend(["62470t SE", "0t WR VIA.ORB $07", "1t WR VIA.ORB $03"]);
+    assert_eq!(lines, wanted);
+    let day = 86_400 * 783_360;
+    assert!(replay.clone().sample(783_368 + day, up, |_, _| ()).is_ok());
+    assert!(replay.sample(783_369 + day, up, |_, _| panic!("refused")).is_err());
+}
+
+/// A transaction that began before the capture is left out, and not taken for another.
+#[test]
+fn a_start_in_the_middle() {
+    let rows = |list: &str| {
+        let list: List = list.parse().expect("in the form");
+        let mut machine = Machine::fresh(Chip::First);
+        machine.step(ViaTicks(0), Item::Write(Address::Via(Register::DDRB), 7)).expect("done");
+        exported(&mut machine, list.as_ref())
+    };
+    // Sixteen rises of $41 $AA with enable low from the first sample on, then a whole $45 $55.
+    let bits = |bytes: [u8; 2]| {
+        let word = u16::from_be_bytes(bytes);
+        let bit = move |i: u16| word >> (15 - i) & 1;
+        (0..16).map(move |i| format!("2t WR VIA.ORB {0}\n2t WR VIA.ORB {1}\n", bit(i), bit(i) | 2))
+    };
+    let mut list: String = bits([0x41, 0xAA]).collect();
+    list.push_str("2t WR VIA.ORB 4\n2t WR VIA.ORB 0\n");
+    list.extend(bits([0x45, 0x55]));
+    let (again, events) = imported(&rows(&list), Replay::new(Chip::First));
+    let mut machine = Machine::fresh(Chip::First);
+    machine.run(&again, &mut Vec::new());
+    assert_eq!(machine.state().cells[..2], [0, 0x55]);
+    assert_eq!(events.iter().filter(|it| matches!(it, WireEvent::Written(..))).count(), 1);
+}
