@@ -75,6 +75,18 @@ impl Read for List {
     }
 }
 
+/// A list in chunks; one that is not a plain file as it comes.
+fn chunks_of(mut list: List, live: bool) -> Chunks<List> {
+    if let (List::Text(lines), true) = (&mut list, live) {
+        lines.go_live();
+    }
+    if live {
+        Chunks::new(list).eager()
+    } else {
+        Chunks::new(list)
+    }
+}
+
 /// Where everything goes.
 struct Outs {
     table: Option<Out>,
@@ -140,7 +152,8 @@ impl Runner {
         let text = options.form == Form::Text;
         let total = if text { None } else { source::length(&options.list) };
         let mut progress = Progress::new(options.table(), total);
-        let mut chunks = Chunks::new(list);
+        let live = source::length(&options.list).is_none();
+        let mut chunks = chunks_of(list, live);
         let mut buffer = Vec::new();
         if let Some(table) = &mut self.table {
             table.put(self.style.heading(HEAD).as_bytes())?;
@@ -159,10 +172,19 @@ impl Runner {
                 self.summary.converted = lines.converted();
                 lines.forget(self.consumed);
             }
+            if live {
+                self.show_now()?;
+            }
             progress.show(self.consumed, self.written / ANSWER_LEN as u64);
         }
         progress.clear();
         Ok(())
+    }
+
+    /// What goes to a terminal or a pipe is not held back.
+    fn show_now(&mut self) -> Result<(), Failure> {
+        let outs = self.table.iter_mut().chain(&mut self.answers);
+        outs.filter(|out| !out.can_take_back()).try_for_each(Out::show_now)
     }
 
     /// A chunk of the list; with a dump one record at a time, to see the wires after each.

@@ -161,7 +161,8 @@ fn lists_and_answers() {
         let whole: usize =
             pieces(&list).map(|(Piece::Record(it) | Piece::Rest(it))| it.len()).sum();
         assert_eq!(whole, list.len());
-        let mut chunks = Chunks::new(&list[..]);
+        let chunks = Chunks::new(&list[..]);
+        let mut chunks = if random.below(2) == 0 { chunks } else { chunks.eager() };
         let mut joined = Vec::new();
         while let Some(chunk) = chunks.next().expect("no error") {
             joined.extend_from_slice(chunk);
