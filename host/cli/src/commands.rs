@@ -1,6 +1,6 @@
 //! The commands and their words: what is parsed, and what help, the man page and the completions say.
 
-use super::{export, import};
+use super::{export, import, step};
 
 /// An option of a command.
 pub struct Flag {
@@ -143,7 +143,7 @@ pub const GROUPS: [Group; 1] = [Group {
 }];
 
 /// All commands.
-pub const COMMANDS: [Command; 21] = [
+pub const COMMANDS: [Command; 22] = [
     Command {
         name: "run",
         operand: "LIST",
@@ -240,6 +240,7 @@ pub const COMMANDS: [Command; 21] = [
                 where they agree, 1 where they do not.",
         flags: &[CAPTURE_TEXT, CAPTURE_RECORDS, CAPTURE_CELLS, CAPTURE_IMAGE],
     },
+    step::COMMAND,
     import::COMMAND,
     export::COMMAND,
     Command {

@@ -26,6 +26,7 @@ mod request;
 mod run;
 mod sheet;
 mod source;
+mod step;
 mod style;
 mod summary;
 mod sys;
@@ -113,6 +114,7 @@ fn act(command: &str, given: &Given) -> Result<u8, Failure> {
         "touches" => touches::touches(given),
         "import" => import::import(given),
         "export" => export::export(given),
+        "step" => step::step(given),
         "image" => {
             let input = Input::of(given.need()?);
             let machine = image::read(&input, source::open(&input)?)?;

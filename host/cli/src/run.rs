@@ -76,7 +76,7 @@ impl Read for List {
 }
 
 /// A list in chunks; one that is not a plain file as it comes.
-fn chunks_of(mut list: List, live: bool) -> Chunks<List> {
+pub fn chunks_of(mut list: List, live: bool) -> Chunks<List> {
     if let (List::Text(lines), true) = (&mut list, live) {
         lines.go_live();
     }

@@ -8,7 +8,7 @@ use std::process::Command;
 use swarmtempo::text::assemble;
 use swarmtempo::{Chip, Machine, CHUNK_LEN};
 
-const COMMANDS: [&str; 21] = [
+const COMMANDS: [&str; 22] = [
     "run",
     "asm",
     "disasm",
@@ -16,6 +16,7 @@ const COMMANDS: [&str; 21] = [
     "cut",
     "join",
     "touches",
+    "step",
     "import",
     "export",
     "image",

@@ -198,7 +198,8 @@ fn images() {
 fn the_program() {
     let folder = Folder::new("robust");
     folder.put("nothing", b"");
-    let commands: [&[&str]; 26] = [
+    folder.put("orders", b"next 3\nrefusal\ncell\nend\nanswers 5\nwhere\nstate\n");
+    let commands: [&[&str]; 28] = [
         &["run", "file"],
         &["run", "file", "--text"],
         &["run", "file", "--records", "--vcd", "vcd", "--quiet"],
@@ -214,6 +215,8 @@ fn the_program() {
         &["join", "file", "nothing", "file", "-o", "out"],
         &["touches", "file", "--records"],
         &["touches", "-", "file", "--text"],
+        &["step", "nothing", "--records"],
+        &["step", "file", "--records", "--script", "orders"],
         &["import", "file", "-o", "out"],
         &["import", "-", "--as-text", "--rate", "1000000", "--unit", "ns", "--seconds"],
         &["export", "file", "--records", "-o", "wires.vcd"],
