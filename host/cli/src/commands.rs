@@ -1,6 +1,6 @@
 //! The commands and their words: what is parsed, and what help, the man page and the completions say.
 
-use super::{export, import, step};
+use super::{export, import, jobs, step};
 
 /// An option of a command.
 pub struct Flag {
@@ -67,7 +67,7 @@ const OUT: Flag = Flag {
     help: "writes to FILE, which appears whole or not at all (without it: standard output)",
 };
 
-const RUN: [Flag; 11] = [
+const RUN: [Flag; 12] = [
     Flag { name: "--text", value: "", help: "LIST is in the text form" },
     Flag { name: "--records", value: "", help: "LIST is records even where it looks like a text" },
     Flag {
@@ -102,6 +102,7 @@ const RUN: [Flag; 11] = [
         value: "",
         help: "exits with the number of the first refusal, where any item is refused",
     },
+    jobs::JOBS,
     Flag {
         name: "--color",
         value: "WHEN",
@@ -146,16 +147,21 @@ pub const GROUPS: [Group; 1] = [Group {
 pub const COMMANDS: [Command; 22] = [
     Command {
         name: "run",
-        operand: "LIST",
+        operand: "LIST..",
         brief: "runs a list: a table of answers, and a summary",
         about: "Runs a list of items (records, or text with --text) on a fresh machine, or on the state of\n\
                 --image. A LIST of - is standard input. The table goes to standard output, the summary to\n\
                 standard error: items carried out, refusals by their numbers, the duration in VIA ticks and\n\
                 seconds, what changed in the clock chip. A list of any length runs in fixed memory. All\n\
                 files asked for are written, or none; a closed pipe (as by head) ends the table alone.\n\
+                What comes from a pipe is answered as it comes.\n\
+                \n\
+                Many lists, or --jobs, run each from the same state, several at a time: a row for each, in the\n\
+                order in which they are named, and a summary; no files are written then.\n\
                 \n\
                 Exit status: 0 at the end of the list, 1 a record is cut, 6 no room for an answer, 7 the\n\
-                image is none of an accepted state; with --strict the number of the first refusal.",
+                image is none of an accepted state; with --strict the number of the first refusal. Of many\n\
+                lists that of the first one whose status is not 0; all of them are run.",
         flags: &RUN,
     },
     Command {
@@ -403,7 +409,8 @@ turned into VIA ticks and rounded up), a time off in s (seconds).";
 /// Statuses, in a sentence.
 pub const STATUSES: &str = "\
 Exit status of run: 0 at the end of the list, 1 a record is cut, 6 no room for an answer, 7 the image
-is none of an accepted state; with --strict the number of the first refusal. Of convert: 1 a
+is none of an accepted state; with --strict the number of the first refusal; of many lists that of
+the first one whose status is not 0. Of export and step: 1 a record is cut. Of convert: 1 a
 record is cut. Of cut and join: 1 a record is cut. Of touches: 1 two captures do not agree, or a
 record is cut. Of sheet: 1 a sheet is broken, 2 a setting is not set, 6 too little room. Of all commands: 64 wrong words, 65 an error in a
 text or a file of another kind, 74 a file cannot be read or written.";

@@ -16,6 +16,7 @@ mod gtkw;
 mod help;
 mod image;
 mod import;
+mod jobs;
 mod keyboard;
 mod lines;
 mod manual;
@@ -105,6 +106,7 @@ fn command(mut words: Vec<OsString>) -> Result<u8, Failure> {
 
 fn act(command: &str, given: &Given) -> Result<u8, Failure> {
     match command {
+        "run" if jobs::asked(given) => jobs::run(given),
         "run" => run::run(&request::Options::of(given)?),
         "asm" => assemble::asm(given),
         "disasm" => assemble::disasm(given),
