@@ -28,6 +28,7 @@ fn values(name: &str) -> Values {
         "CAPTURE" | "EVENTS" | "FILE" | "LIST" | "OLD" | "SHEET" | "TEXT" => Values::Files,
         "WHEN" => Values::Words(vec!["always", "never", "auto"]),
         "CELLS" => Values::Words(vec!["20", "256"]),
+        "UNIT" => Values::Words(vec!["s", "ms", "us", "ns", "ps", "fs"]),
         "SHELL" => Values::Words(SHELLS.to_vec()),
         "COMMAND" => Values::Words(names()),
         _ => Values::Nothing,

@@ -5,12 +5,26 @@ mod common;
 use common::{has, program, shell, status, stderr, stdout, Folder, PROGRAM, SECOND};
 use std::io::{BufRead, BufReader, Write};
 use std::process::{Command, Stdio};
-use swarmtempo::Machine;
+use swarmtempo::table::{Table, HEAD};
+use swarmtempo::{pieces, Chip, List, Machine, ANSWER_LEN};
 
 const CELL: &str = include_str!("../../captures/cell.txt");
 const FAR: &str = include_str!("../../captures/far.txt");
-const HEAD: &str =
-    "    item      VIA ticks  record                         value  level  SEL  lines on\n";
+
+/// The rows of a list, as run shows them.
+fn rows(list: &str) -> Vec<String> {
+    let list: List = list.parse().expect("in the form");
+    let mut answers = Vec::new();
+    Machine::fresh(Chip::First).run(&list, &mut answers);
+    let mut table = Table::default();
+    let answers = answers.as_chunks::<ANSWER_LEN>().0;
+    let row = |(piece, answer)| {
+        let mut row = String::new();
+        table.row(piece, answer, &mut row);
+        row
+    };
+    pieces(list.as_ref()).zip(answers).map(row).collect()
+}
 
 #[test]
 fn a_script() {
@@ -43,29 +57,28 @@ fn a_script() {
     let script = "exec \"$0\" step --text list --script script --save end.st";
     let done = shell(&folder, script, &[], b"");
     assert_eq!((status(&done), stderr(&done).as_str()), (0, ""));
+    let rows = rows(&list);
+    let row = |number: usize| &rows[number - 1];
     let wanted = format!(
-        "> next\n{HEAD}\
-         \u{20}      1              0  0t WR VIA.DDRB $07                 -      0    1  -\n\
-         > NEXT 2 ; two more\n{HEAD}\
-         \u{20}      2              1  1t WR VIA.ORB $04                  -      0    1  -\n\
-         \u{20}      3              1  0t WR VIA.ORB $00                  -      0    1  -\n\
+        "> next\n{HEAD}{}> NEXT 2 ; two more\n{HEAD}{}{}\
          > where\nafter 3 items, line 3, at byte offset 33, after 1 VIA tick (0.000001 seconds)\n\
-         > cell\n32 items on\n{HEAD}\
-         \u{20}     35              1  0t WR VIA.ORB $03                  -      0    1  -\n\
-         cell 0: $00 before, $11 after\n\
-         > refusal\n1 item on\n{HEAD}\
-         \u{20}     36              1  5t DI internal 0 0 0           NO 8: a disk is there already, or none is\n\
+         > cell\n32 items on\n{HEAD}{}cell 0: $00 before, $11 after\n\
+         > refusal\n1 item on\n{HEAD}{}\
          > where\nafter 36 items, line 36, at byte offset 395, after 1 VIA tick (0.000001 seconds)\n\
-         > c 1\n34 items on\n{HEAD}\
-         \u{20}     70              2  0t WR VIA.ORB $03                  -      0    1  -\n\
-         cell 1: $00 before, $11 after\n\
-         > cell 0\ncell 0 is not written up to the end\n69 items on\n\
-         > answers 1\n{HEAD}\
-         \u{20}    139             11  7t SE                              -      0    1  -\n\
+         > c 1\n34 items on\n{HEAD}{}cell 1: $00 before, $11 after\n\
+         > cell 0\ncell 0 is not written up to the end\n69 items on\n> answers 1\n{HEAD}{}\
          > next\nthe end of the list\n\
          > where\nafter 139 items, line 139, at byte offset 1,523, after 11 VIA ticks (0.000014 seconds)\n\
-         > quit\n"
+         > quit\n",
+        row(1),
+        row(2),
+        row(3),
+        row(35),
+        row(36),
+        row(70),
+        row(139)
     );
+    assert!(row(36).contains("NO 8"), "{}", row(36));
     assert_eq!(stdout(&done), wanted);
     let state = Machine::from_image(&folder.get("end.st")).expect("accepted").state();
     assert_eq!((state.cells[0], state.cells[1], state.protect), (0x11, 0x11, true));
