@@ -20,7 +20,7 @@ use super::words::Given;
 use csv::Comments;
 use reader::{Reader, WaveError};
 use std::io::{Read, Seek, Write};
-use swarmtempo::{Femtoseconds, Replay, Timed, WireEvent, Wires, WIRES};
+use swarmtempo::{Femtoseconds, Timed, WireEvent, WireImport, Wires, WIRES};
 use time::Unit;
 
 /// The command.
@@ -181,7 +181,7 @@ pub type Take<'a> = dyn FnMut(Femtoseconds, Option<Wires>, u64) -> Result<(), Wa
 #[allow(clippy::struct_excessive_bools, reason = "each is a wish or a fact of its own")]
 struct Importer {
     name: String,
-    replay: Replay,
+    import: WireImport,
     text: bool,
     driven: bool,
     seconds: bool,
@@ -204,13 +204,13 @@ struct Importer {
 impl Importer {
     fn new(input: &Input, given: &Given, text: bool) -> Result<Importer, Failure> {
         let (driven, seconds) = (given.flag("--driven"), given.flag("--seconds"));
-        let replay = Replay::new(chip("import", given)?)
+        let import = WireImport::new(chip("import", given)?)
             .driven(driven)
             .with_seconds(seconds)
             .goes_on(given.flag("--goes-on"));
         Ok(Importer {
             name: input.to_string(),
-            replay,
+            import,
             text,
             driven,
             seconds,
@@ -307,11 +307,11 @@ impl Importer {
             put(timed, event, text, out);
         };
         let done = match wires {
-            Some(wires) => self.replay.sample(self.tick, wires, &mut take),
-            None => self.replay.finish(self.tick, &mut take),
+            Some(wires) => self.import.sample(self.tick, wires, &mut take),
+            None => self.import.finish(self.tick, &mut take),
         };
         done.map_err(|error| WaveError::at(line, &error.to_string()))?;
-        self.left_out |= self.replay.leaves_out();
+        self.left_out |= self.import.leaves_out();
         self.items += items;
         if items > 0 {
             self.crowded += u64::from(before > 2 && self.tick == self.item_tick);
@@ -361,7 +361,7 @@ impl Importer {
                     .to_string(),
             );
         }
-        if self.replay.under_way() {
+        if self.import.under_way() {
             lines.push("enable is low at the end: the last transaction may go on".to_string());
         }
         if self.crowded > 0 {

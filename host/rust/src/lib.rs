@@ -26,7 +26,7 @@
 //!   [`Machine::run`] and [`Machine::run_in`] for answers as bytes, which [`answers`] reads.
 //! - States: [`Machine::image`] to save and [`Machine::from_image`] to restore; [`State`] to look at.
 //! - For people: [`table`], [`vcd`], [`describe`], and `Display` of nearly everything.
-//! - The clock's wires as an analyser sees them: [`WireDump`] writes them, [`Replay`] makes items of
+//! - The clock's wires as an analyser sees them: [`WireDump`] writes them, [`WireImport`] makes items of
 //!   them.
 //! - Captures from before SN retired on the drives' own registers: [`convert`].
 //! - What of a capture can touch the clock: [`Touches`].
@@ -55,7 +55,6 @@ mod item;
 mod keyboard;
 mod list;
 mod machine;
-mod replay;
 pub mod sheet_text;
 mod sheets;
 mod state;
@@ -71,6 +70,7 @@ mod touches;
 mod units;
 pub mod vcd;
 mod wire_dump;
+mod wire_import;
 
 pub use address::{Address, DiskLine, Register};
 pub use answer::{
@@ -85,7 +85,6 @@ pub use item::{Drive, InLine, Item, SenseRegister, Timed};
 pub use keyboard::{Keyboard, KeyboardFull, KeyboardState, INQUIRY_TICKS, KEYBOARD_LEN};
 pub use list::{items, Items, List};
 pub use machine::{Exchange, Exchanges, Machine, Run, Transcript};
-pub use replay::{Femtoseconds, GapTooLong, Replay, WireEvent};
 pub use sheets::{
     compact, compact_into, settings, Setting, Sheet, SheetRefusal, Sheets, SETTING_MAX,
 };
@@ -93,3 +92,4 @@ pub use state::{DriveState, Phase, State, Strobe, Timer1, Timer2, Wires};
 pub use touches::{Touch, Touched, Touches};
 pub use units::{Micros, Seconds, TickCount, TooLong, ViaTicks, TICKS_PER_SECOND};
 pub use wire_dump::{wire_save_file, WireDump, WireForm, WIRES};
+pub use wire_import::{Femtoseconds, GapTooLong, WireEvent, WireImport};

@@ -5,14 +5,14 @@
 //! add up. A wait longer than 65,535 VIA ticks is cut by writes that change nothing.
 //!
 //! ```
-//! use swarmtempo::{Chip, Femtoseconds, Replay, Wires};
+//! use swarmtempo::{Chip, Femtoseconds, WireImport, Wires};
 //!
-//! let mut replay = Replay::new(Chip::First);
+//! let mut import = WireImport::new(Chip::First);
 //! let mut lines = Vec::new();
 //! for (nanoseconds, enable) in [(0, true), (12_770, false)] {
 //!     let tick = Femtoseconds(nanoseconds * 1_000_000).nearest_tick().expect("not too late");
 //!     let wires = Wires { enable, data_clock: true, data: false };
-//!     replay.sample(tick, wires, |timed, _| lines.push(timed.to_string()))?;
+//!     import.sample(tick, wires, |timed, _| lines.push(timed.to_string()))?;
 //! }
 //! assert_eq!(lines, ["0t WR VIA.ORB $06", "0t WR VIA.DDRB $07", "10t WR VIA.ORB $02"]);
 //! # Ok::<(), swarmtempo::GapTooLong>(())
@@ -208,7 +208,7 @@ impl std::error::Error for GapTooLong {}
 /// Turns samples of the wires into items.
 #[derive(Clone, Debug)]
 #[allow(clippy::struct_excessive_bools, reason = "each is a wish or a fact of its own")]
-pub struct Replay {
+pub struct WireImport {
     follower: Follower,
     driven: bool,
     goes_on: bool,
@@ -224,10 +224,10 @@ pub struct Replay {
     tick: u64,
 }
 
-impl Replay {
+impl WireImport {
     /// Of a bench with this clock chip.
-    pub fn new(chip: Chip) -> Replay {
-        Replay {
+    pub fn new(chip: Chip) -> WireImport {
+        WireImport {
             follower: Follower { chip, stage: Stage::Idle, bits: 0, value: 0, shown: false },
             driven: false,
             goes_on: false,
@@ -241,21 +241,21 @@ impl Replay {
 
     /// The data line is driven as it was seen while the chip sends too. Else it is let go then.
     #[must_use]
-    pub fn driven(self, driven: bool) -> Replay {
-        Replay { driven, ..self }
+    pub fn driven(self, driven: bool) -> WireImport {
+        WireImport { driven, ..self }
     }
 
     /// A second tick every 783,360 VIA ticks from the start.
     #[must_use]
-    pub fn with_seconds(self, wanted: bool) -> Replay {
-        Replay { next_second: wanted.then_some(u64::from(TICKS_PER_SECOND)), ..self }
+    pub fn with_seconds(self, wanted: bool) -> WireImport {
+        WireImport { next_second: wanted.then_some(u64::from(TICKS_PER_SECOND)), ..self }
     }
 
     /// The items go on from a state with the wires of the first sample, in which a transaction may be
     /// under way. Else the rest of such a transaction is left out.
     #[must_use]
-    pub fn goes_on(self, goes_on: bool) -> Replay {
-        Replay { goes_on, ..self }
+    pub fn goes_on(self, goes_on: bool) -> WireImport {
+        WireImport { goes_on, ..self }
     }
 
     /// True while the rest of a transaction is left out that began before the first sample.

@@ -3,8 +3,8 @@
 //! `SWARMTEMPO_SEED` takes another seed, `SWARMTEMPO_LISTS` another number of captures.
 
 use swarmtempo::{
-    pieces, Address, Chip, Command, Femtoseconds, Item, List, Machine, Phase, Register, Replay,
-    Seconds, State, Target, Timed, ViaTicks, WireDump, WireEvent, WireForm, Wires, ANSWER_LEN,
+    pieces, Address, Chip, Command, Femtoseconds, Item, List, Machine, Phase, Register, Seconds,
+    State, Target, Timed, ViaTicks, WireDump, WireEvent, WireForm, WireImport, Wires, ANSWER_LEN,
 };
 
 const CAPTURES: u64 = 4_000;
@@ -198,7 +198,7 @@ fn exported(machine: &mut Machine, list: &[u8]) -> String {
     String::from_utf8(dump.finish().expect("memory")).expect("text")
 }
 
-fn imported(rows: &str, mut replay: Replay) -> (List, Vec<WireEvent>) {
+fn imported(rows: &str, mut import: WireImport) -> (List, Vec<WireEvent>) {
     let (mut list, mut events) = (List::new(), Vec::new());
     for row in rows.lines().skip(1) {
         let cells: Vec<i128> = row.split(',').map(|cell| cell.parse().expect("number")).collect();
@@ -208,7 +208,7 @@ fn imported(rows: &str, mut replay: Replay) -> (List, Vec<WireEvent>) {
             list.push(timed.wait, timed.item);
             events.extend(event);
         };
-        replay.sample(tick, wires, take).expect("no gap");
+        import.sample(tick, wires, take).expect("no gap");
     }
     (list, events)
 }
@@ -239,7 +239,7 @@ fn random_captures_of_both_chips() {
         let list = capture(&mut random, 0, seconds);
         let mut machine = Machine::fresh(chip);
         let rows = exported(&mut machine, list.as_ref());
-        let (again, events) = imported(&rows, Replay::new(chip).driven(driven));
+        let (again, events) = imported(&rows, WireImport::new(chip).driven(driven));
         let mut other = Machine::fresh(chip);
         let theirs = levels(&mut other, again.as_ref());
         let ours = levels(&mut Machine::fresh(chip), list.as_ref());
@@ -285,7 +285,7 @@ fn captures_that_go_on() {
         low += u64::from(!start.state().wires().enable);
         let (mut machine, mut other) = (start.clone(), start.clone());
         let rows = exported(&mut machine, &rest.concat());
-        let (again, _) = imported(&rows, Replay::new(chip).goes_on(true));
+        let (again, _) = imported(&rows, WireImport::new(chip).goes_on(true));
         other.run(&again, &mut Vec::new());
         let told = format!("round {round}, {chip}\n{list}\n{rows}\n{again}");
         assert!(same_store(&machine.state(), &other.state(), true), "{told}");
@@ -305,7 +305,7 @@ fn times_do_not_drift() {
     for _ in 0..500 {
         let list = capture(&mut random, 2, false);
         let rows = exported(&mut Machine::fresh(Chip::Later), list.as_ref());
-        let (again, _) = imported(&rows, Replay::new(Chip::Later).driven(true));
+        let (again, _) = imported(&rows, WireImport::new(Chip::Later).driven(true));
         let ours = changes(levels(&mut Machine::fresh(Chip::Later), list.as_ref()));
         let theirs = changes(levels(&mut Machine::fresh(Chip::Later), again.as_ref()));
         assert_eq!(ours, theirs, "{list}\n{rows}\n{again}");
@@ -336,9 +336,9 @@ fn long_waits_second_ticks_and_gaps() {
     let up = Wires { enable: true, data_clock: true, data: true };
     let down = Wires { enable: false, ..up };
     let mut lines = Vec::new();
-    let mut replay = Replay::new(Chip::First).with_seconds(true);
+    let mut import = WireImport::new(Chip::First).with_seconds(true);
     for (tick, wires) in [(7, up), (7 + 3 * 65_535 + 5, down), (783_367, up), (783_368, down)] {
-        replay.sample(tick, wires, |timed, _| lines.push(timed.to_string())).expect("no gap");
+        import.sample(tick, wires, |timed, _| lines.push(timed.to_string())).expect("no gap");
     }
     let still = "65535t WR VIA.DDRB $07";
     let mut wanted = vec!["0t WR VIA.ORB $07", "0t WR VIA.DDRB $07", still, still, still];
@@ -347,8 +347,8 @@ fn long_waits_second_ticks_and_gaps() {
     wanted.extend(["62470t SE", "0t WR VIA.ORB $07", "1t WR VIA.ORB $03"]);
     assert_eq!(lines, wanted);
     let day = 86_400 * 783_360;
-    assert!(replay.clone().sample(783_368 + day, up, |_, _| ()).is_ok());
-    assert!(replay.sample(783_369 + day, up, |_, _| panic!("refused")).is_err());
+    assert!(import.clone().sample(783_368 + day, up, |_, _| ()).is_ok());
+    assert!(import.sample(783_369 + day, up, |_, _| panic!("refused")).is_err());
 }
 
 /// A transaction that began before the capture is left out, and not taken for another.
@@ -369,7 +369,7 @@ fn a_start_in_the_middle() {
     let mut list: String = bits([0x41, 0xAA]).collect();
     list.push_str("2t WR VIA.ORB 4\n2t WR VIA.ORB 0\n");
     list.extend(bits([0x45, 0x55]));
-    let (again, events) = imported(&rows(&list), Replay::new(Chip::First));
+    let (again, events) = imported(&rows(&list), WireImport::new(Chip::First));
     let mut machine = Machine::fresh(Chip::First);
     machine.run(&again, &mut Vec::new());
     assert_eq!(machine.state().cells[..2], [0, 0x55]);
