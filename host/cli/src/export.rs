@@ -12,7 +12,8 @@ use super::request::Form;
 use super::run::List;
 use super::words::Given;
 use swarmtempo::{
-    pieces, wire_save_file, Chunks, Machine, Refusal, WireDump, WireForm, ANSWER_LEN,
+    pieces, wire_save_file, wire_steps, Chunks, Machine, Refusal, Timed, ViaTicks, WireDump,
+    WireForm, Wires, ANSWER_LEN,
 };
 
 /// The command.
@@ -70,9 +71,7 @@ pub fn export(given: &Given) -> Result<u8, Failure> {
     let save = if beside.is_some() { SaveFile::open(&output)? } else { None };
     let wrong = |error| failure(&output, error);
     let mut dump = WireDump::new(out, form, machine.state().wires()).map_err(wrong)?;
-    let stop = pour(&input, machine, list, |piece, answer, machine| {
-        dump.record(piece, answer, machine.state().wires()).map_err(wrong)
-    })?;
+    let stop = pour(&input, machine, list, |wait, wires| dump.item(wait, wires).map_err(wrong))?;
     let end = dump.end();
     let save = save.map(|save| save.write(|dump, save| wire_save_file(dump, save, end)));
     let out = dump.finish().map_err(wrong)?;
@@ -83,27 +82,33 @@ pub fn export(given: &Given) -> Result<u8, Failure> {
     Ok(stop.map_or(0, Refusal::number))
 }
 
-/// Runs a list record by record, and hands out each with its answer and the machine after it.
+/// Runs a list item by item, and hands out the wait of each that was carried out, and the wires after
+/// it.
 fn pour(
     input: &Input,
     mut machine: Machine,
     list: List,
-    mut take: impl FnMut(swarmtempo::Piece<'_>, &[u8; ANSWER_LEN], &Machine) -> Result<(), Failure>,
+    mut take: impl FnMut(ViaTicks, Wires) -> Result<(), Failure>,
 ) -> Result<Option<Refusal>, Failure> {
     let mut chunks = Chunks::new(list);
-    let mut stop = None;
-    while stop.is_none() {
-        let Some(chunk) = chunks.next().map_err(|error| list_failure(input, error))? else {
-            break;
-        };
+    while let Some(chunk) = chunks.next().map_err(|error| list_failure(input, error))? {
         for piece in pieces(chunk) {
-            let mut answer = [0; ANSWER_LEN];
-            stop = machine.run_in(piece.as_ref(), &mut answer).stop;
-            take(piece, &answer, &machine)?;
+            let Ok(timed) = Timed::try_from(piece) else {
+                // Refused, whatever the state; a cut record ends the list.
+                match machine.run_in(piece.as_ref(), &mut [0; ANSWER_LEN]).stop {
+                    None => continue,
+                    stop => return Ok(stop),
+                }
+            };
+            for Timed { wait, item } in wire_steps(timed) {
+                if machine.step(wait, item).is_ok() {
+                    take(wait, machine.state().wires())?;
+                }
+            }
         }
         if let List::Text(lines) = chunks.source_mut() {
             lines.forget(u64::MAX);
         }
     }
-    Ok(stop)
+    Ok(None)
 }

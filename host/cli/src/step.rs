@@ -20,7 +20,8 @@ use std::collections::VecDeque;
 use std::io::{self, BufRead, IsTerminal, Read};
 use swarmtempo::table::{Table, HEAD};
 use swarmtempo::{
-    describe, pieces, Chunks, Machine, Phase, Piece, Refusal, State, Target, Timed, ANSWER_LEN,
+    describe, pieces, wire_steps, Chunks, Machine, Phase, Piece, Refusal, State, Target, Timed,
+    ANSWER_LEN,
 };
 
 /// Rows kept for `answers`.
@@ -137,6 +138,8 @@ fn scripted(script: &Input) -> Result<Vec<(String, Order)>, Failure> {
 struct Done {
     row: String,
     refused: bool,
+    /// None where it was refused.
+    timed: Option<Timed>,
 }
 
 /// A list under way.
@@ -285,19 +288,19 @@ impl Stepper {
 
     fn until_cell(&mut self, wanted: Option<u8>) -> Result<(), Failure> {
         let first = self.items;
-        let mut before = self.machine.state();
+        let mut before = self.machine.clone();
         while let Some(done) = self.one()? {
-            let after = self.machine.state();
-            let cell = cell_written(&before, &after).filter(|&it| wanted.is_none_or(|w| w == it));
-            if let Some(cell) = cell {
-                let at = usize::from(cell);
-                let [old, new] = [&before, &after].map(|state| state.cells[at]);
+            let cells = done.timed.map_or(Vec::new(), |timed| cells_written(before, timed));
+            if cells.iter().any(|&(cell, ..)| wanted.is_none_or(|it| it == cell)) {
                 self.passed(first)?;
                 self.put(&self.style.heading(HEAD))?;
                 self.row(&done)?;
-                return self.put(&format!("cell {cell}: ${old:02X} before, ${new:02X} after\n"));
+                for (cell, old, new) in cells {
+                    self.put(&format!("cell {cell}: ${old:02X} before, ${new:02X} after\n"))?;
+                }
+                return Ok(());
             }
-            before = after;
+            before = self.machine.clone();
         }
         let which = wanted.map_or("no cell is".to_string(), |cell| format!("cell {cell} is not"));
         self.put(&format!("{which} written up to the end\n"))?;
@@ -386,16 +389,15 @@ impl Stepper {
         }
         self.offset += run.consumed as u64;
         let refused = answer[2..4] != *b"OK";
-        if let (false, Ok(Timed { wait, .. })) = (refused, Timed::try_from(piece)) {
-            self.ticks += u64::from(wait.0);
-        }
+        let timed = Timed::try_from(piece).ok().filter(|_| !refused);
+        self.ticks += timed.map_or(0, |timed| u64::from(timed.wait.0));
         let mut row = String::new();
         self.table.row(piece, &answer, &mut row);
         if self.rows.len() == ROWS_KEPT {
             self.rows.pop_front();
         }
         self.rows.push_back(row.clone());
-        Ok(Some(Done { row, refused }))
+        Ok(Some(Done { row, refused, timed }))
     }
 
     fn close(self, mut save: Option<Out>) -> Result<u8, Failure> {
@@ -407,7 +409,25 @@ impl Stepper {
     }
 }
 
-/// The cell that was written between two states, one item apart: the eighth bit of its byte was taken,
+/// The cells that an item writes that is carried out on this machine: each with its byte before and
+/// after.
+fn cells_written(mut machine: Machine, timed: Timed) -> Vec<(u8, u8, u8)> {
+    let mut before = machine.state();
+    let mut cells = Vec::new();
+    for Timed { wait, item } in wire_steps(timed) {
+        // What is carried out as one is carried out in steps.
+        let _ = machine.step(wait, item);
+        let after = machine.state();
+        if let Some(cell) = cell_written(&before, &after) {
+            let [old, new] = [&before, &after].map(|state| state.cells[usize::from(cell)]);
+            cells.push((cell, old, new));
+        }
+        before = after;
+    }
+    cells
+}
+
+/// The cell that was written between two states, one step apart: the eighth bit of its byte was taken,
 /// and protect was clear.
 fn cell_written(before: &State, after: &State) -> Option<u8> {
     let command = match before.phase {

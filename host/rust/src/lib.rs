@@ -91,5 +91,5 @@ pub use sheets::{
 pub use state::{DriveState, Phase, State, Strobe, Timer1, Timer2, Wires};
 pub use touches::{Touch, Touched, Touches};
 pub use units::{Micros, Seconds, TickCount, TooLong, ViaTicks, TICKS_PER_SECOND};
-pub use wire_dump::{wire_save_file, WireDump, WireForm, WIRES};
+pub use wire_dump::{wire_save_file, wire_steps, WireDump, WireForm, WIRES};
 pub use wire_import::{Femtoseconds, GapTooLong, WireEvent, WireImport};

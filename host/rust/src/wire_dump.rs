@@ -6,7 +6,7 @@
 //! follows is late by that much.
 
 use crate::vcd::save_head;
-use crate::{Answer, Piece, Timed, Wires, ANSWER_LEN, TICKS_PER_SECOND};
+use crate::{Item, Timed, ViaTicks, Wires, TICKS_PER_SECOND};
 use std::io::{self, Write};
 
 /// Steps of 100 nanoseconds in a second.
@@ -14,6 +14,23 @@ const STEPS_PER_SECOND: u64 = 10_000_000;
 
 /// The wires, in the order of the columns, and of the dump's variables `!`, `"` and `#`.
 pub const WIRES: [&str; 3] = ["enable", "data_clock", "data"];
+
+/// The items that one stands for where the wires are compared, one after the other: done in its place
+/// they leave the same state.
+pub fn wire_steps(timed: Timed) -> impl Iterator<Item = Timed> {
+    match timed.item {
+        // These move the wires once at most. A kind that moves them more often is taken apart here.
+        Item::Read(_)
+        | Item::Write(..)
+        | Item::Blank
+        | Item::Second
+        | Item::In(..)
+        | Item::Sense(..)
+        | Item::Disk { .. }
+        | Item::Reset
+        | Item::Power(_) => std::iter::once(timed),
+    }
+}
 
 /// How the wires are written.
 #[derive(Clone, Copy, Debug, PartialEq, Eq)]
@@ -70,27 +87,11 @@ impl<W: Write> WireDump<W> {
         Ok(dump)
     }
 
-    /// After a record: its answer, and the wires then.
+    /// After an item that was carried out, and is one of [`wire_steps`]: its wait, and the wires then.
     ///
     /// # Errors
     /// Those of the output.
-    pub fn record(
-        &mut self,
-        piece: Piece<'_>,
-        answer: &[u8; ANSWER_LEN],
-        after: Wires,
-    ) -> io::Result<()> {
-        match (Answer::read(answer), Timed::try_from(piece)) {
-            (Some(Answer::Ok(_)), Ok(timed)) => self.item(timed.wait, after),
-            _ => Ok(()),
-        }
-    }
-
-    /// After an item that was carried out: its wait, and the wires then.
-    ///
-    /// # Errors
-    /// Those of the output.
-    pub fn item(&mut self, wait: crate::ViaTicks, after: Wires) -> io::Result<()> {
+    pub fn item(&mut self, wait: ViaTicks, after: Wires) -> io::Result<()> {
         self.ticks += u64::from(wait.0);
         let changed = [
             self.shown.enable != after.enable,

@@ -3,8 +3,8 @@
 //! `SWARMTEMPO_SEED` takes another seed, `SWARMTEMPO_LISTS` another number of captures.
 
 use swarmtempo::{
-    pieces, Address, Chip, Command, Femtoseconds, Item, List, Machine, Phase, Register, Seconds,
-    State, Target, Timed, ViaTicks, WireDump, WireEvent, WireForm, WireImport, Wires, ANSWER_LEN,
+    pieces, wire_steps, Address, Chip, Command, Femtoseconds, Item, List, Machine, Phase, Register,
+    Seconds, State, Target, Timed, ViaTicks, WireDump, WireEvent, WireForm, WireImport, Wires,
 };
 
 const CAPTURES: u64 = 4_000;
@@ -151,11 +151,12 @@ fn capture(random: &mut Random, least: u16, seconds: bool) -> List {
 /// The levels after each item, with the VIA ticks then.
 fn levels(machine: &mut Machine, list: &[u8]) -> Vec<(u64, Wires)> {
     let mut seen = vec![(0, machine.state().wires())];
-    for piece in pieces(list) {
-        let timed = Timed::try_from(piece).expect("an item");
-        machine.step(timed.wait, timed.item).expect("carried out");
-        let ticks = seen[seen.len() - 1].0 + u64::from(timed.wait.0);
-        seen.push((ticks, machine.state().wires()));
+    for timed in pieces(list).map(|piece| Timed::try_from(piece).expect("an item")) {
+        for Timed { wait, item } in wire_steps(timed) {
+            machine.step(wait, item).expect("carried out");
+            let ticks = seen[seen.len() - 1].0 + u64::from(wait.0);
+            seen.push((ticks, machine.state().wires()));
+        }
     }
     seen
 }
@@ -190,10 +191,11 @@ fn complete_writes(chip: Chip, history: &[(u64, Wires)]) -> Vec<(Target, u8)> {
 fn exported(machine: &mut Machine, list: &[u8]) -> String {
     let mut dump =
         WireDump::new(Vec::new(), WireForm::Csv, machine.state().wires()).expect("memory");
-    for piece in pieces(list) {
-        let mut answer = [0; ANSWER_LEN];
-        machine.run_in(piece.as_ref(), &mut answer);
-        dump.record(piece, &answer, machine.state().wires()).expect("memory");
+    for timed in pieces(list).map(|piece| Timed::try_from(piece).expect("an item")) {
+        for Timed { wait, item } in wire_steps(timed) {
+            machine.step(wait, item).expect("carried out");
+            dump.item(wait, machine.state().wires()).expect("memory");
+        }
     }
     String::from_utf8(dump.finish().expect("memory")).expect("text")
 }
