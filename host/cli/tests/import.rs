@@ -1,8 +1,11 @@
 //! `swarmtempo import` and `export`: the clock's wires from a logic analyser, and for one.
 
 mod common;
+#[path = "../../rust/tests/wires/maker.rs"]
+mod maker;
 
 use common::{has, program, shell, status, stderr, stdout, Folder};
+use maker::{capture, Random};
 use swarmtempo::{Chip, List, Machine};
 
 /// Sets a cell of the clock chip and reads it back, on either chip.
@@ -229,6 +232,35 @@ fn out_and_in_again() {
         lists.dedup();
         assert_eq!(lists.len(), 1);
     }
+}
+
+/// Random captures of both chips, through both forms: half-sent, illegal, protected and extended
+/// transactions among them.
+#[test]
+fn random_captures_out_and_in_again() {
+    let folder = Folder::new("export-random");
+    let mut random = Random(31);
+    let mut written = 0;
+    for round in 0..24 {
+        let (chip, cells) = if round % 2 == 0 { (Chip::First, "20") } else { (Chip::Later, "256") };
+        let list = capture(&mut random, 0, false);
+        let file = folder.put("list", list.as_bytes());
+        let ours = left(chip, list.as_ref()).state();
+        written += ours.cells.iter().filter(|&&cell| cell != 0).count();
+        for form in ["", "--csv"] {
+            let words = ["export", &file, "--cells", cells, form];
+            let wires = program(&words[..words.len() - usize::from(form.is_empty())], b"");
+            assert_eq!((status(&wires), stderr(&wires).as_str()), (0, ""));
+            let again = program(&["import", "-", "--cells", cells], &wires.stdout);
+            assert_eq!(status(&again), 0, "{}", stderr(&again));
+            let theirs = left(chip, &again.stdout).state();
+            let told = format!("round {round} {form}\n{list}");
+            assert_eq!((&theirs.cells, theirs.seconds), (&ours.cells, ours.seconds), "{told}");
+            assert_eq!((theirs.protect, theirs.test), (ours.protect, ours.test), "{told}");
+            assert_eq!(theirs.phase, ours.phase, "{told}");
+        }
+    }
+    assert!(written > 10, "{written}");
 }
 
 /// The save file beside a dump: there, kept where it was, and never written over an input.
