@@ -94,17 +94,18 @@ pub fn import(given: &Given) -> Result<u8, Failure> {
     let output = given.value("-o").map_or(Output::standard(), Output::of);
     Uses::of("import").reads("FILE", &input).writes("-o", &output).check()?;
     let wishes = Wishes::of(given)?;
-    let file = source::open(&input)?;
+    let mut reader = open(&input)?;
     let text = given.flag("--as-text");
     let mut out = if text { Out::text(&output)? } else { Out::bytes(&output)? };
     let mut importer = Importer::new(&input, given, text)?;
     if out.can_take_back() {
-        importer.pour(&input, file, wishes, &mut out)?;
+        importer.pour(&mut reader, &wishes, &output.to_string(), &mut out)?;
     } else {
         // Nothing goes to a pipe before all is known to be right.
-        let wrong = |error| failure("a temporary file", error);
+        let to = "a temporary file";
+        let wrong = |error| failure(to, error);
         let mut aside = aside();
-        importer.pour(&input, file, wishes, &mut aside)?;
+        importer.pour(&mut reader, &wishes, to, &mut aside)?;
         aside.rewind().map_err(wrong)?;
         let mut buffer = vec![0; 1 << 16];
         loop {
@@ -119,6 +120,34 @@ pub fn import(given: &Given) -> Result<u8, Failure> {
         say(&format!("{input}: {line}"));
     }
     Ok(0)
+}
+
+/// The file.
+fn open(input: &Input) -> Result<Reader, Failure> {
+    let (looks, file) = contents::sample(input, source::open(input)?)?;
+    if matches!(looks, Looks::Utf16 | Looks::Image) {
+        let what = "neither a Value Change Dump nor comma-separated values in UTF-8";
+        return Err(Failure::Content(input.to_string(), what.to_string()));
+    }
+    Ok(Reader::new(file))
+}
+
+/// Reads a dump, or comma-separated values.
+fn read(
+    reader: &mut Reader,
+    wishes: &Wishes,
+    told: &mut Told,
+    take: &mut Take<'_>,
+) -> Result<(), WaveError> {
+    let mut comments = Comments::default();
+    let dump = reader.begins_with(b'$', |meta| {
+        comments.takes(meta);
+    })?;
+    if dump {
+        vcd::read(reader, wishes, told, take)
+    } else {
+        csv::read(reader, comments, wishes, told, take)
+    }
 }
 
 /// What the words say of the file.
@@ -229,56 +258,41 @@ impl Importer {
         })
     }
 
-    /// The whole file, as items.
+    /// The whole file, as items, to an output of this name.
     fn pour(
         &mut self,
-        input: &Input,
-        file: Box<dyn Read>,
-        wishes: Wishes,
+        reader: &mut Reader,
+        wishes: &Wishes,
+        to: &str,
         out: &mut impl Write,
     ) -> Result<(), Failure> {
-        let (looks, file) = contents::sample(input, file)?;
-        if matches!(looks, Looks::Utf16 | Looks::Image) {
-            let what = "neither a Value Change Dump nor comma-separated values in UTF-8";
-            return Err(Failure::Content(input.to_string(), what.to_string()));
-        }
-        let mut reader = Reader::new(file);
         if self.text {
             let head = self.head();
-            out.write_all(head.as_bytes()).map_err(|error| failure(&self.name, error))?;
+            out.write_all(head.as_bytes()).map_err(|error| failure(to, error))?;
         }
         let mut told = Told::default();
-        let mut comments = Comments::default();
-        let dump = reader.begins_with(b'$', |meta| {
-            comments.takes(meta);
-        });
-        let dump = dump.map_err(|error| self.wrong(error))?;
         let mut bytes = Vec::new();
         let mut take = |time, wires, line| {
             bytes.clear();
             self.sample(time, wires, line, &mut bytes)?;
             out.write_all(&bytes).map_err(WaveError::Write)
         };
-        let read = if dump {
-            vcd::read(&mut reader, &wishes, &mut told, &mut take)
-        } else {
-            csv::read(&mut reader, comments, &wishes, &mut told, &mut take)
-        };
-        read.map_err(|error| self.wrong(error))?;
+        let read = read(reader, wishes, &mut told, &mut take);
+        read.map_err(|error| self.wrong(to, error))?;
         self.told = told;
         if self.text {
             let mut tail = String::new();
             self.found().iter().for_each(|line| tail.push_str(&format!("; {line}\n")));
-            out.write_all(tail.as_bytes()).map_err(|error| failure(&self.name, error))?;
+            out.write_all(tail.as_bytes()).map_err(|error| failure(to, error))?;
         }
         Ok(())
     }
 
     /// An error, told with its line.
-    fn wrong(&self, error: WaveError) -> Failure {
+    fn wrong(&self, to: &str, error: WaveError) -> Failure {
         match error {
             WaveError::Read(error) => failure(&self.name, error),
-            WaveError::Write(error) => failure("the list", error),
+            WaveError::Write(error) => failure(to, error),
             WaveError::Line { line, column, message } => {
                 say(&format!("{}:{line}:{column}: {message}", self.name));
                 Failure::Text(self.name.clone(), 1)

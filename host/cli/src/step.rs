@@ -203,28 +203,29 @@ impl Stepper {
                 break;
             }
             let text = String::from_utf8_lossy(&line).into_owned();
-            let text = text.trim();
-            let order = match Order::of(text) {
-                Ok(None) if terminal && text.is_empty() => Ok(Some(Order::Next(1))),
-                order => order,
-            };
-            match order {
-                Ok(None) => {}
-                Ok(Some(order)) => {
-                    let echo = if terminal { "" } else { text };
-                    if !self.told(echo, order)? {
-                        break;
-                    }
-                }
-                Err(error) if terminal => self.put(&format!("{}\n", error.message))?,
-                Err(error) => {
-                    self.out.show_now()?;
-                    say(&format!("{input}:{number}:{}: {}", error.column, error.message));
-                    return Err(Failure::Text(input.to_string(), 1));
-                }
+            if !self.heard(text.trim_end(), number, terminal)? {
+                break;
             }
         }
         Ok(())
+    }
+
+    /// Does what a line says, and says whether to go on. On a terminal an empty line is next, and a
+    /// wrong one is told.
+    fn heard(&mut self, text: &str, number: u64, terminal: bool) -> Result<bool, Failure> {
+        let echo = if terminal { "" } else { text.trim() };
+        match Order::of(text) {
+            Ok(None) if terminal && text.is_empty() => self.told(echo, Order::Next(1)),
+            Ok(None) => Ok(true),
+            Ok(Some(order)) => self.told(echo, order),
+            Err(error) if terminal => self.put(&format!("{}\n", error.message)).map(|()| true),
+            Err(error) => {
+                let input = Input::standard();
+                self.out.show_now()?;
+                say(&format!("{input}:{number}:{}: {}", error.column, error.message));
+                Err(Failure::Text(input.to_string(), 1))
+            }
+        }
     }
 
     /// Does what it is told, shows it, and says whether to go on.

@@ -237,29 +237,10 @@ impl Rows {
         told: &mut Told,
         take: &mut Take<'_>,
     ) -> Result<(), WaveError> {
-        let cell = |column: usize| {
-            let place = |cell: &str| cell.as_ptr() as usize - text.as_ptr() as usize + 1;
-            let found = cells(text, self.columns.separator).nth(column);
-            found.map(|cell| (cell, place(cell))).ok_or_else(|| {
-                WaveError::at(line, &format!("the row has no column {}", column + 1))
-            })
-        };
-        let time = match self.columns.times {
-            Times::Rate(rate) => of_sample(self.count, rate),
-            Times::Column(column, unit) => {
-                let (text, column) = cell(column)?;
-                let wrong =
-                    |message: &str| WaveError::Line { line, column, message: message.to_string() };
-                let time = unit.decimal(text).ok_or_else(|| wrong("the time is no number"))?;
-                if self.time.is_some_and(|before| time < before) {
-                    return Err(wrong("the time is before the last one"));
-                }
-                time
-            }
-        };
+        let time = self.time_of(text, line)?;
         let mut levels = Levels::default();
         for (wire, &column) in self.columns.signals.iter().enumerate() {
-            let (text, column) = cell(column)?;
+            let (text, column) = self.cell(text, column, line)?;
             let letter = if text.len() == 1 { text.as_bytes()[0] } else { b' ' };
             // No row before it has a say: x is wrong in every row.
             let letter = if letter.eq_ignore_ascii_case(&b'x') { b' ' } else { letter };
@@ -272,6 +253,37 @@ impl Rows {
             return Ok(());
         }
         take(time, Some(wires), line)
+    }
+
+    /// A cell of a row, and its column in bytes, counted from 1.
+    fn cell<'a>(
+        &self,
+        text: &'a str,
+        column: usize,
+        line: u64,
+    ) -> Result<(&'a str, usize), WaveError> {
+        let place = |cell: &str| cell.as_ptr() as usize - text.as_ptr() as usize + 1;
+        let found = cells(text, self.columns.separator).nth(column);
+        found
+            .map(|cell| (cell, place(cell)))
+            .ok_or_else(|| WaveError::at(line, &format!("the row has no column {}", column + 1)))
+    }
+
+    fn time_of(&self, text: &str, line: u64) -> Result<Femtoseconds, WaveError> {
+        let (column, unit) = match self.columns.times {
+            Times::Rate(rate) => return Ok(of_sample(self.count, rate)),
+            Times::Column(column, unit) => (column, unit),
+        };
+        let (text, column) = self.cell(text, column, line)?;
+        let wrong =
+            |message: &str| Err(WaveError::Line { line, column, message: message.to_string() });
+        match unit.decimal(text) {
+            None => wrong("the time is no number"),
+            Some(time) if self.time.is_some_and(|before| time < before) => {
+                wrong("the time is before the last one")
+            }
+            Some(time) => Ok(time),
+        }
     }
 
     fn end(self, line: u64, take: &mut Take<'_>) -> Result<(), WaveError> {

@@ -203,6 +203,12 @@ fn rest(reader: &mut Reader, line: u64, column: usize) -> Result<Vec<String>, Wa
     Err(WaveError::Line { line, column, message: "its $end is missing".into() })
 }
 
+/// A time of the dump, in digits alone.
+fn time_of(digits: &[u8]) -> Option<u64> {
+    let digits = std::str::from_utf8(digits).ok()?;
+    digits.bytes().all(|byte| byte.is_ascii_digit()).then(|| digits.parse().ok())?
+}
+
 /// The changes.
 struct Body {
     codes: [Vec<u8>; 3],
@@ -224,17 +230,13 @@ impl Body {
         let wrong =
             |message: &str| Err(WaveError::Line { line, column, message: message.to_string() });
         match word[0] {
-            b'#' => {
-                let digits = std::str::from_utf8(&word[1..]).ok();
-                let time = digits.filter(|it| it.bytes().all(|byte| byte.is_ascii_digit()));
-                match time.and_then(|digits| digits.parse().ok()) {
-                    Some(time) if self.time.is_some_and(|before| time < before) => {
-                        wrong("the time is before the last one")
-                    }
-                    Some(time) => self.pass(time, line, told, take),
-                    None => wrong("a time is a number after #"),
+            b'#' => match time_of(&word[1..]) {
+                Some(time) if self.time.is_some_and(|before| time < before) => {
+                    wrong("the time is before the last one")
                 }
-            }
+                Some(time) => self.pass(time, line, told, take),
+                None => wrong("a time is a number after #"),
+            },
             letter @ (b'0' | b'1' | b'x' | b'X' | b'z' | b'Z') => {
                 self.change(&word[1..], letter, line, column, told)
             }

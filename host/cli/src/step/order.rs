@@ -33,33 +33,27 @@ impl Order {
     /// Of a line; none where it has nothing but a comment.
     pub fn of(line: &str) -> Result<Option<Order>, LineError> {
         let text = line.split(';').next().unwrap_or("");
-        let mut words = text.split_whitespace();
+        let mut words = text.split_whitespace().peekable();
         let Some(word) = words.next() else {
             return Ok(None);
         };
         let wrong = |part: &str, message: String| {
             let before = &line[..part.as_ptr() as usize - line.as_ptr() as usize];
-            Err(LineError { column: before.chars().count() + 1, message })
+            LineError { column: before.chars().count() + 1, message }
         };
         let small = word.to_lowercase();
         let known = NAMES.iter().find(|name| **name == small || name[..1] == small);
         let Some(&name) = known else {
             let names = NAMES.join(", ");
-            return wrong(word, format!("`{word}` is no command: {names}"));
+            return Err(wrong(word, format!("`{word}` is no command: {names}")));
         };
-        let number = match words.next() {
-            None => None,
-            Some(word) if !matches!(name, "next" | "cell" | "answers") => {
-                return wrong(word, format!("`{word}` is too much after {name}"));
-            }
-            Some(word) => match word.parse::<u64>() {
-                Ok(number) if name != "cell" || number < 256 => Some(number),
-                Ok(_) => return wrong(word, "cells are 0 to 255".to_string()),
-                Err(_) => return wrong(word, format!("{name} needs a number, not `{word}`")),
-            },
-        };
+        let counted = matches!(name, "next" | "cell" | "answers");
+        let number = words
+            .next_if(|_| counted)
+            .map(|word| number(name, word).map_err(|message| wrong(word, message)));
+        let number = number.transpose()?;
         if let Some(word) = words.next() {
-            return wrong(word, format!("`{word}` is too much after {name}"));
+            return Err(wrong(word, format!("`{word}` is too much after {name}")));
         }
         Ok(Some(match name {
             "next" => Order::Next(number.unwrap_or(1)),
@@ -72,6 +66,15 @@ impl Order {
             "help" => Order::Help,
             _ => Order::Quit,
         }))
+    }
+}
+
+/// The number after a command's name.
+fn number(name: &str, word: &str) -> Result<u64, String> {
+    match word.parse() {
+        Ok(256..) if name == "cell" => Err("cells are 0 to 255".to_string()),
+        Ok(number) => Ok(number),
+        Err(_) => Err(format!("{name} needs a number, not `{word}`")),
     }
 }
 
