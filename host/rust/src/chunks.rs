@@ -113,6 +113,16 @@ impl<R: Read> Chunks<R> {
         Ok((self.start > 0).then_some(&held[..self.start]))
     }
 
+    /// The chunk that was handed out last.
+    pub fn last(&self) -> &[u8] {
+        &self.buffer[..self.start]
+    }
+
+    /// The source of the bytes, to look at.
+    pub fn source(&self) -> &R {
+        &self.source
+    }
+
     /// The source of the bytes.
     pub fn source_mut(&mut self) -> &mut R {
         &mut self.source

@@ -27,7 +27,7 @@
 //! - States: [`Machine::image`] to save and [`Machine::from_image`] to restore; [`State`] to look at.
 //! - For people: [`table`], [`vcd`], [`describe`], and `Display` of nearly everything.
 //! - Captures from before SN retired on the drives' own registers: [`convert`].
-//! - What of a capture can touch the clock: [`Touches`].
+//! - What of a capture can touch the clock: [`Touches`]; its clock transactions: [`Decoding`].
 //! - A keyboard, by itself: [`Keyboard`].
 //! - Settings of a bench: [`Sheets`], [`compact`], and as text [`sheet_text`].
 //! - The C functions as they are: [`sys`].
@@ -47,6 +47,7 @@ mod chip;
 mod chunks;
 mod command;
 mod convert;
+pub mod decode;
 pub mod describe;
 mod error;
 mod item;
@@ -76,6 +77,9 @@ pub use chip::Chip;
 pub use chunks::{pieces, Chunks, Piece, Pieces, CHUNK_LEN};
 pub use command::{Command, Target};
 pub use convert::{convert, convert_in, Conversion};
+pub use decode::{
+    Asked, Decoder, Decoding, Fate, Place, SeenBits, SeenDate, Transaction, Watch,
+};
 pub use error::ParseError;
 pub use item::{Drive, InLine, Item, SenseRegister, Timed};
 pub use keyboard::{Keyboard, KeyboardFull, KeyboardState, INQUIRY_TICKS, KEYBOARD_LEN};
