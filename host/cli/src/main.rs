@@ -8,9 +8,13 @@ mod conflicts;
 mod contents;
 mod convert;
 mod cut;
+mod decode;
+mod diff;
 mod draft;
 mod failure;
+mod fields;
 mod files;
+mod filter;
 mod help;
 mod image;
 mod keyboard;
@@ -23,11 +27,14 @@ mod request;
 mod run;
 mod sheet;
 mod source;
+mod states;
 mod style;
+mod summarize;
 mod summary;
 mod sys;
 mod touches;
 mod tour;
+mod walk;
 mod words;
 
 use commands::{COMMANDS, GROUPS};
@@ -102,6 +109,9 @@ fn command(mut words: Vec<OsString>) -> Result<u8, Failure> {
 fn act(command: &str, given: &Given) -> Result<u8, Failure> {
     match command {
         "run" => run::run(&request::Options::of(given)?),
+        "decode" => decode::decode(given),
+        "summary" => summarize::summary(given),
+        "diff" => diff::diff(given),
         "asm" => assemble::asm(given),
         "disasm" => assemble::disasm(given),
         "convert" => convert::convert(given),
@@ -110,8 +120,15 @@ fn act(command: &str, given: &Given) -> Result<u8, Failure> {
         "touches" => touches::touches(given),
         "image" => {
             let input = Input::of(given.need()?);
+            let rows = fields::Rows::of("image", given)?;
             let machine = image::read(&input, source::open(&input)?)?;
-            print(&describe::image(&machine)).map(|()| 0)
+            let mut text = String::new();
+            match rows {
+                fields::Rows::Words => text = describe::image(&machine),
+                fields::Rows::Json => states::fields(&machine).json(&mut text),
+                fields::Rows::Csv => states::fields(&machine).csv_pairs(&mut text),
+            }
+            print(&text).map(|()| 0)
         }
         "keyboard" => keyboard::keyboard(given),
         "sheet get" => sheet::get(given),

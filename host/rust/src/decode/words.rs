@@ -84,7 +84,7 @@ impl Transaction {
             Fate::Written { target, byte, before } => written(target, byte, before),
             Fate::Protected { .. } => "kept out by protect".into(),
             Fate::Half { of } => self.half(of),
-            Fate::Illegal => "illegal: ignored".into(),
+            Fate::Illegal => self.illegal().into(),
             Fate::Read { sent, falls, seen, .. } => read(sent, falls, seen),
             Fate::Before => "settled before the list".into(),
         };
@@ -93,6 +93,11 @@ impl Transaction {
             if seen.clock != seen.seconds {
                 words.push_str(&format!(", while the clock had {}", date(seen.clock)));
             }
+        }
+        let extra = self.extra_bits();
+        if extra > 0 {
+            let more = if extra == 1 { "" } else { "s" };
+            words.push_str(&format!("; {extra} bit{more} more, ignored"));
         }
         if self.end.is_none() {
             words.push_str("; enable is still 0 at the end");
@@ -106,6 +111,26 @@ impl Transaction {
             count => words.push_str(&format!("; {count} records refused meanwhile")),
         }
         words
+    }
+
+    fn illegal(&self) -> &'static str {
+        match self.asked {
+            Asked::Command { first, second: None, .. } if Command::is_first_of_two(first) => {
+                "illegal: ignored (of two bytes on a chip with 256 cells)"
+            }
+            _ => "illegal: ignored",
+        }
+    }
+
+    /// Bits that came after those of a whole write.
+    pub fn extra_bits(&self) -> u64 {
+        let two = matches!(self.asked, Asked::Command { second: Some(_), .. });
+        match self.fate {
+            Fate::Written { .. } | Fate::Protected { .. } => {
+                self.bits.saturating_sub(if two { 24 } else { 16 })
+            }
+            _ => 0,
+        }
     }
 
     fn half(&self, of: Option<u8>) -> String {
