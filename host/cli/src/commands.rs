@@ -75,15 +75,18 @@ const TO: Flag = Flag {
     value: "PLACE",
     help: "shows what is there or before: item:N, offset:N (bytes), or a VIA tick as 12000t",
 };
-const ONLY: Flag = Flag {
-    name: "--only",
-    value: "PART",
-    help: "shows what is about this: clock, via or disk",
+const ONLY: Flag =
+    Flag { name: "--only", value: "PART", help: "shows what is about this: clock, via or disk" };
+const JSON: Flag = Flag {
+    name: "--json",
+    value: "",
+    help: "writes JSON, an object a line; docs/FORMATS.md has its names",
 };
-const JSON: Flag =
-    Flag { name: "--json", value: "", help: "writes JSON, an object a line; docs/FORMATS.md has its names" };
-const CSV: Flag =
-    Flag { name: "--csv", value: "", help: "writes comma-separated values; docs/FORMATS.md has their names" };
+const CSV: Flag = Flag {
+    name: "--csv",
+    value: "",
+    help: "writes comma-separated values; docs/FORMATS.md has their names",
+};
 
 const RUN: [Flag; 17] = [
     Flag { name: "--text", value: "", help: "LIST is in the text form" },
@@ -167,7 +170,7 @@ pub const GROUPS: [Group; 1] = [Group {
 }];
 
 /// All commands.
-pub const COMMANDS: [Command; 22] = [
+pub const COMMANDS: [Command; 23] = [
     Command {
         name: "run",
         operand: "LIST",
@@ -223,6 +226,19 @@ pub const COMMANDS: [Command; 22] = [
                 \n\
                 Exit status: 1 where a record is cut; what comes before it is counted.",
         flags: &[OUT, JSON, CSV, CAPTURE_TEXT, CAPTURE_RECORDS, CAPTURE_CELLS, CAPTURE_IMAGE],
+    },
+    Command {
+        name: "report",
+        operand: "CAPTURE",
+        brief: "a page with the waveform, the clock transactions and the refusals",
+        about: "Runs a capture and writes one page that opens in a browser from a disk: the waveform of the\n\
+                clock's wires and the disk lines, with zoom; the clock transactions; the refusals, what they\n\
+                mean and what to do; the state at the end. It can be printed in black and white. Of a long\n\
+                capture the page has the first 20,000 changes of the lines and 2,000 transactions, and says\n\
+                so; --from and --to choose a part.\n\
+                \n\
+                Exit status: 1 where a record is cut; the page has what comes before it.",
+        flags: &[OUT, FROM, TO, CAPTURE_TEXT, CAPTURE_RECORDS, CAPTURE_CELLS, CAPTURE_IMAGE],
     },
     Command {
         name: "diff",

@@ -87,12 +87,8 @@ fn head(text: bool) -> String {
 fn row(it: &Transaction, text: bool, out: &mut String) {
     use std::fmt::Write;
     let Place { offset, line, via_ticks, .. } = it.start;
-    let _ = write!(
-        out,
-        "{:>9}  {via_ticks:>14}  {:>13}  {offset:>10}",
-        it.number,
-        seconds(via_ticks)
-    );
+    let _ =
+        write!(out, "{:>9}  {via_ticks:>14}  {:>13}  {offset:>10}", it.number, seconds(via_ticks));
     if text {
         let line = line.map_or("-".to_string(), |line| line.to_string());
         let _ = write!(out, "  {line:>6}");

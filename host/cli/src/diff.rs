@@ -191,7 +191,8 @@ impl Side {
         let answer = Answer::read(answer)
             .map_or_else(|| format!("{answer:02X?}"), |answer| answer.to_string());
         let byte = grouped(at.offset);
-        let record = format!("{}: byte {byte}{line}, after {ticks}: {}", self.input, table::record(piece));
+        let record =
+            format!("{}: byte {byte}{line}, after {ticks}: {}", self.input, table::record(piece));
         Told { answer: format!("{record}: {answer}"), record }
     }
 }

@@ -171,7 +171,11 @@ pub struct Fields(pub Vec<(Cow<'static, str>, Value)>);
 
 impl Fields {
     /// One more.
-    pub fn put(&mut self, name: impl Into<Cow<'static, str>>, value: impl Into<Value>) -> &mut Self {
+    pub fn put(
+        &mut self,
+        name: impl Into<Cow<'static, str>>,
+        value: impl Into<Value>,
+    ) -> &mut Self {
         self.0.push((name.into(), value.into()));
         self
     }
@@ -235,9 +239,9 @@ impl Fields {
             match value {
                 Value::All(values) => {
                     let named = values.iter().enumerate();
-                    all.extend(named.map(|(i, value)| {
-                        (Cow::from(format!("{name}[{i}]")), value.clone())
-                    }));
+                    all.extend(
+                        named.map(|(i, value)| (Cow::from(format!("{name}[{i}]")), value.clone())),
+                    );
                 }
                 value => all.push((name.clone(), value.clone())),
             }
@@ -277,7 +281,8 @@ mod tests {
         fields.put("d", Value::all([true, false])).put("e", 0xA5u8);
         let mut out = String::new();
         fields.json(&mut out);
-        let wanted = r#"{"a":7,"b":null,"c":"x,\"y\"\n\u003c/script\u003e","d":[true,false],"e":165}"#;
+        let wanted =
+            r#"{"a":7,"b":null,"c":"x,\"y\"\n\u003c/script\u003e","d":[true,false],"e":165}"#;
         assert_eq!(out.trim_end(), wanted);
         out.clear();
         fields.csv_head(&mut out);

@@ -3,7 +3,7 @@
 use super::failure::Failure;
 use super::place::shown;
 use super::words::Given;
-use swarmtempo::{Address, Place, Piece, Register, Transaction, ANSWER_LEN};
+use swarmtempo::{Address, Piece, Place, Register, Transaction, ANSWER_LEN};
 
 /// A place in a list.
 #[derive(Clone, Copy, Debug, PartialEq, Eq)]
@@ -121,7 +121,8 @@ impl Filter {
     /// Whether a transaction is shown. One that is open at the end lasts on.
     pub fn transaction(&self, it: &Transaction) -> bool {
         let last = Place { item: u64::MAX, offset: u64::MAX, line: None, via_ticks: u64::MAX };
-        (!self.refused || it.refused > 0) && self.within(&it.start, it.end.as_ref().unwrap_or(&last))
+        (!self.refused || it.refused > 0)
+            && self.within(&it.start, it.end.as_ref().unwrap_or(&last))
     }
 }
 

@@ -23,6 +23,7 @@ mod manual;
 mod numbers;
 mod place;
 mod progress;
+mod report;
 mod request;
 mod run;
 mod sheet;
@@ -111,6 +112,7 @@ fn act(command: &str, given: &Given) -> Result<u8, Failure> {
         "run" => run::run(&request::Options::of(given)?),
         "decode" => decode::decode(given),
         "summary" => summarize::summary(given),
+        "report" => report::report(given),
         "diff" => diff::diff(given),
         "asm" => assemble::asm(given),
         "disasm" => assemble::disasm(given),

@@ -290,7 +290,9 @@ fn head(rows: Rows, of_text: bool, style: Style) -> String {
     let mut out = String::new();
     match rows {
         Rows::Words => out = style.heading(if of_text { HEAD_OF_TEXT } else { HEAD }),
-        Rows::Csv => fields(&Place::default(), Piece::Rest(&[]), &[0; ANSWER_LEN]).csv_head(&mut out),
+        Rows::Csv => {
+            fields(&Place::default(), Piece::Rest(&[]), &[0; ANSWER_LEN]).csv_head(&mut out)
+        }
         Rows::Json => {}
     }
     out

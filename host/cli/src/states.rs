@@ -71,9 +71,8 @@ pub fn differences(a: &Machine, b: &Machine) -> Vec<(String, Value, Value)> {
     let more = theirs.iter().map(|(name, _)| &**name).filter(|name| !names.contains(name));
     let more: Vec<&str> = more.collect();
     names.extend(more);
-    let pairs = names.into_iter().map(|name| {
-        (name.to_string(), value(&ours, name), value(&theirs, name))
-    });
+    let pairs =
+        names.into_iter().map(|name| (name.to_string(), value(&ours, name), value(&theirs, name)));
     let mut all: Vec<_> = pairs.filter(|(_, a, b)| a != b).collect();
     if all.is_empty() && a.image() != b.image() {
         // A field of the image that has no name here.

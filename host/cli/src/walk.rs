@@ -66,11 +66,6 @@ impl Walk {
         &self.machine
     }
 
-    /// What is run.
-    pub fn input(&self) -> &Input {
-        &self.input
-    }
-
     /// Runs the next part, and takes each record of it; false at the end.
     pub fn part(
         &mut self,
@@ -126,7 +121,10 @@ impl Walk {
     /// Says so where the capture is cut; the number that its run stops with.
     pub fn stopped(&self) -> u8 {
         if let Some(refusal) = self.stop {
-            super::files::say(&format!("swarmtempo: {}: {refusal}; the rest is not run", self.input));
+            super::files::say(&format!(
+                "swarmtempo: {}: {refusal}; the rest is not run",
+                self.input
+            ));
         }
         self.stop.map_or(0, Refusal::number)
     }

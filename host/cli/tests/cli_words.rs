@@ -8,8 +8,12 @@ use std::process::Command;
 use swarmtempo::text::assemble;
 use swarmtempo::{Chip, Machine, CHUNK_LEN};
 
-const COMMANDS: [&str; 19] = [
+const COMMANDS: [&str; 23] = [
     "run",
+    "decode",
+    "summary",
+    "report",
+    "diff",
     "asm",
     "disasm",
     "convert",
@@ -300,8 +304,11 @@ fn microseconds_are_shown_as_ticks() {
                  the first, line 2: 12,000 microseconds are 9,401 VIA ticks\n";
     assert!(stderr(&output).contains(words), "{}", stderr(&output));
     let table = stdout(&output);
-    for row in ["1           9401  9401t SE", "2           9411  10t SE", "3           9412  1t SE"]
-    {
+    for row in [
+        "       1           0       2           9401  9401t SE",
+        "       2           6       3           9411  10t SE",
+        "       3          12       4           9412  1t SE",
+    ] {
         assert!(table.contains(row), "{table}");
     }
     assert!(table.lines().next().expect("a heading").contains("VIA ticks"));

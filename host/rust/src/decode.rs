@@ -26,9 +26,7 @@
 
 mod words;
 
-use crate::{
-    pieces, Chip, Command, Machine, Phase, Piece, Run, State, Target, Wires, ANSWER_LEN,
-};
+use crate::{pieces, Chip, Command, Machine, Phase, Piece, Run, State, Target, Wires, ANSWER_LEN};
 
 /// Where and when an item of a list is.
 #[derive(Clone, Copy, Debug, Default, PartialEq, Eq, Hash)]
@@ -450,8 +448,7 @@ impl Decoder {
             }
             Phase::Sending { byte: sent, falls } => {
                 (open.step, open.falls, open.it.asked) = (Step::Sending, falls, Asked::Before);
-                open.it.fate =
-                    Fate::Read { sent, falls: 0, seen: SeenBits::default(), date: None };
+                open.it.fate = Fate::Read { sent, falls: 0, seen: SeenBits::default(), date: None };
                 0
             }
             Phase::Ignoring => {

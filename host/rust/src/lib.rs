@@ -77,9 +77,7 @@ pub use chip::Chip;
 pub use chunks::{pieces, Chunks, Piece, Pieces, CHUNK_LEN};
 pub use command::{Command, Target};
 pub use convert::{convert, convert_in, Conversion};
-pub use decode::{
-    Asked, Decoder, Decoding, Fate, Place, SeenBits, SeenDate, Transaction, Watch,
-};
+pub use decode::{Asked, Decoder, Decoding, Fate, Place, SeenBits, SeenDate, Transaction, Watch};
 pub use error::ParseError;
 pub use item::{Drive, InLine, Item, SenseRegister, Timed};
 pub use keyboard::{Keyboard, KeyboardFull, KeyboardState, INQUIRY_TICKS, KEYBOARD_LEN};

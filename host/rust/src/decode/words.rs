@@ -56,7 +56,9 @@ impl Transaction {
     /// The byte in words: sent by a write, seen by the program at a read, or the bits that came.
     pub fn byte(&self) -> String {
         match (self.fate, self.asked) {
-            (Fate::Written { byte, .. } | Fate::Protected { byte, .. }, _) => format!("${byte:02X}"),
+            (Fate::Written { byte, .. } | Fate::Protected { byte, .. }, _) => {
+                format!("${byte:02X}")
+            }
             (Fate::Read { seen, .. }, _) => seen.to_string(),
             (_, Asked::Bits { count, value } | Asked::First { count, value, .. }) if count > 0 => {
                 bits(count, value)
@@ -147,7 +149,9 @@ fn written(target: Target, byte: u8, before: u8) -> String {
     match target {
         Target::Protect if byte & 0x80 != 0 => "written: protect is set".into(),
         Target::Protect => "written: protect is clear".into(),
-        Target::Test if byte & 0xC0 != 0 => format!("written (was ${before:02X}): the seconds stop"),
+        Target::Test if byte & 0xC0 != 0 => {
+            format!("written (was ${before:02X}): the seconds stop")
+        }
         _ if byte == before => "written (the same as before)".into(),
         _ => format!("written (was ${before:02X})"),
     }

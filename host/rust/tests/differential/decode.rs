@@ -182,7 +182,13 @@ impl Kept {
 }
 
 /// What decode calls written is what changes, item by item, and nothing else does.
-fn changes_are_told(start: &State, list: &[u8], states: &[State], all: &[Transaction], ok: &[bool]) {
+fn changes_are_told(
+    start: &State,
+    list: &[u8],
+    states: &[State],
+    all: &[Transaction],
+    ok: &[bool],
+) {
     let mut kept = Kept::of(start);
     let mut left = all.iter().filter(|it| matches!(it.fate, Fate::Written { .. })).peekable();
     for ((piece, item), (state, ok)) in pieces(list).zip(1u64..).zip(states.iter().zip(ok)) {
