@@ -173,7 +173,7 @@ impl Side {
         for (i, (piece, answer)) in pieces(&self.held[begin.from..]).zip(answers).enumerate() {
             at.via_ticks += u64::from(waited(piece, answer));
             if i == number {
-                told = self.tell(&at, piece, answer);
+                told = self.tell(&at, piece, *answer);
                 break;
             }
             at.offset += piece.as_ref().len() as u64;
@@ -181,14 +181,14 @@ impl Side {
         told
     }
 
-    fn tell(&self, at: &Place, piece: Piece<'_>, answer: &[u8; ANSWER_LEN]) -> Told {
+    fn tell(&self, at: &Place, piece: Piece<'_>, answer: [u8; ANSWER_LEN]) -> Told {
         let line = match self.chunks.source() {
             List::Text(lines) => lines.line_at(at.offset),
             List::Records(_) => None,
         };
         let line = line.map_or(String::new(), |line| format!(", line {}", grouped(line)));
         let ticks = counted(at.via_ticks, "VIA tick");
-        let answer = Answer::read(answer)
+        let answer = Answer::read(&answer)
             .map_or_else(|| format!("{answer:02X?}"), |answer| answer.to_string());
         let byte = grouped(at.offset);
         let record =

@@ -112,7 +112,7 @@ impl Filter {
     }
 
     /// Whether a record is shown.
-    pub fn record(&self, at: &Place, piece: Piece<'_>, answer: &[u8; ANSWER_LEN]) -> bool {
+    pub fn record(&self, at: &Place, piece: Piece<'_>, answer: [u8; ANSWER_LEN]) -> bool {
         (!self.refused || answer[2..4] != *b"OK")
             && self.within(at, at)
             && self.only.is_none_or(|part| part.has(piece.as_ref()))

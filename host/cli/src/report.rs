@@ -227,7 +227,7 @@ impl Page<'_> {
             ". Times are in VIA ticks, 783,360 a second, from the start of the capture.</p>\n",
         );
         self.left_out(stop, &mut out);
-        self.waveform(&mut out);
+        out.push_str(WAVEFORM);
         self.transactions(&mut out);
         self.refusals(&mut out);
         out.push_str("<h2>Summary</h2>\n<pre>");
@@ -284,28 +284,6 @@ impl Page<'_> {
             let lines = lines.join("</p>\n<p>");
             out.push_str(&format!("<div class=\"left\" id=\"left\"><p>{lines}</p></div>\n"));
         }
-    }
-
-    fn waveform(&self, out: &mut String) {
-        out.push_str(
-            "<h2>Waveform</h2>\n<div class=\"bar\">\
-             <button data-act=\"in\" title=\"key +\">zoom in</button>\
-             <button data-act=\"out\" title=\"key -\">zoom out</button>\
-             <button data-act=\"all\" title=\"key 0\">all</button>\
-             <button data-act=\"left\" title=\"left arrow\">&larr;</button>\
-             <button data-act=\"right\" title=\"right arrow\">&rarr;</button>\
-             <button data-act=\"before\" title=\"key p\">previous transaction</button>\
-             <button data-act=\"after\" title=\"key n\">next transaction</button>\
-             <span>across:</span>\
-             <button data-mode=\"item\" aria-pressed=\"true\">items</button>\
-             <button data-mode=\"time\" aria-pressed=\"false\">VIA ticks</button></div>\n\
-             <div id=\"whole\" title=\"the whole capture; click to move\"><div id=\"part\"></div></div>\n\
-             <svg id=\"wave\" viewBox=\"0 0 1200 440\" role=\"img\" aria-label=\"levels of the clock's wires \
-             and the disk lines\"><text x=\"20\" y=\"40\">The waveform is drawn by a script, which is turned \
-             off here. All else on this page is text.</text></svg>\n\
-             <div id=\"seen\">Move over the waveform to see the levels; turn the wheel to zoom, drag to move.\n\
-             A click on a transaction, here or in the table, goes there.</div>\n",
-        );
     }
 
     fn transactions(&self, out: &mut String) {
@@ -534,6 +512,26 @@ fn guide(refusal: Refusal) -> (&'static str, &'static str) {
     }
 }
 
+/// Above the table: the waveform, which the script draws.
+const WAVEFORM: &str = "<h2>Waveform</h2>\n<div class=\"bar\">\
+             <button data-act=\"in\" title=\"key +\">zoom in</button>\
+             <button data-act=\"out\" title=\"key -\">zoom out</button>\
+             <button data-act=\"all\" title=\"key 0\">all</button>\
+             <button data-act=\"left\" title=\"left arrow\">&larr;</button>\
+             <button data-act=\"right\" title=\"right arrow\">&rarr;</button>\
+             <button data-act=\"before\" title=\"key p\">previous transaction</button>\
+             <button data-act=\"after\" title=\"key n\">next transaction</button>\
+             <span>across:</span>\
+             <button data-mode=\"item\" aria-pressed=\"true\">items</button>\
+             <button data-mode=\"time\" aria-pressed=\"false\">VIA ticks</button></div>\n\
+             <div id=\"whole\" title=\"the whole capture; click to move\"><div id=\"part\"></div></div>\n\
+             <svg id=\"wave\" viewBox=\"0 0 1200 440\" role=\"img\" aria-label=\"levels of the clock's wires \
+             and the disk lines\"><text x=\"20\" y=\"40\">The waveform is drawn by a script, which is turned \
+             off here. All else on this page is text.</text></svg>\n\
+             <div id=\"seen\">Move over the waveform to see the levels; turn the wheel to zoom, drag to move.\n\
+             A click on a transaction, here or in the table, goes there.</div>\n";
+
+/// At its end.
 const GLOSSARY: &str = "\
 <h2>Words on this page</h2>
 <p><b>VIA tick</b>: 1/783,360 of a second, about 1.277 microseconds. <b>Seconds</b> in a table are counted from the

@@ -235,7 +235,7 @@ impl Runner {
             self.at.item += 1;
             self.at.offset = begins;
             self.at.via_ticks += u64::from(waited(piece, answer));
-            if !self.filter.record(&self.at, piece, answer) {
+            if !self.filter.record(&self.at, piece, *answer) {
                 continue;
             }
             self.at.line = lines.and_then(|lines| lines.line_at(self.at.offset));
@@ -248,8 +248,8 @@ impl Runner {
                         rows.replace_range(start.., &row);
                     }
                 }
-                Rows::Json => fields(&self.at, piece, answer).json(&mut rows),
-                Rows::Csv => fields(&self.at, piece, answer).csv_row(&mut rows),
+                Rows::Json => fields(&self.at, piece, *answer).json(&mut rows),
+                Rows::Csv => fields(&self.at, piece, *answer).csv_row(&mut rows),
             }
             if rows.len() > ROWS_LEN {
                 table.put(rows.as_bytes())?;
@@ -291,7 +291,7 @@ fn head(rows: Rows, of_text: bool, style: Style) -> String {
     match rows {
         Rows::Words => out = style.heading(if of_text { HEAD_OF_TEXT } else { HEAD }),
         Rows::Csv => {
-            fields(&Place::default(), Piece::Rest(&[]), &[0; ANSWER_LEN]).csv_head(&mut out)
+            fields(&Place::default(), Piece::Rest(&[]), [0; ANSWER_LEN]).csv_head(&mut out);
         }
         Rows::Json => {}
     }
@@ -299,10 +299,10 @@ fn head(rows: Rows, of_text: bool, style: Style) -> String {
 }
 
 /// A record and its answer as named values.
-fn fields(at: &Place, piece: Piece<'_>, answer: &[u8; ANSWER_LEN]) -> Fields {
+fn fields(at: &Place, piece: Piece<'_>, answer: [u8; ANSWER_LEN]) -> Fields {
     let mut fields = Fields::default();
     fields.place("", Some(at)).put("record", table::record(piece));
-    let (seen, refusal) = match Answer::read(answer) {
+    let (seen, refusal) = match Answer::read(&answer) {
         Some(Answer::Ok(seen)) => (Some(seen), None),
         Some(Answer::No(refusal)) => (None, Some(refusal)),
         None => (None, None),

@@ -239,7 +239,7 @@ fn filters() {
     let refused = table(&["--refused"]);
     assert_eq!(refused, ["     569        6205          62165  5t DI internal 0 0 0           NO 8: a disk is there already, or none is"]);
     assert_eq!(table(&["--only", "disk"]).len(), 7);
-    assert_eq!(table(&["--only=disk", "--from=item:260"]).len(), 2);
+    assert_eq!(table(&["--only=disk", "--from=item:262"]).len(), 2);
     let [all, clock, via] =
         [&[][..], &["--only=clock"], &["--only=via"]].map(|words| table(words).len());
     assert_eq!((all, clock, via), (all, all - 7, all - 7));
@@ -501,7 +501,7 @@ fn two_captures() {
     let folder = Folder::new("diff");
     folder.put("a", LAB.as_bytes());
     folder.put("b", LAB.as_bytes());
-    let same = "the records are the same: 729 items\nthe answers are the same\nthe states reached are the same\n";
+    let same = "the records are the same: 743 items\nthe answers are the same\nthe states reached are the same\n";
     assert_eq!(compared(&folder, "--text --cells 256 a b"), (0, same.to_string()));
     // Another byte is written: the answer is seen where it is read.
     let at = LAB.find("; Cell 200").expect("there");
@@ -567,11 +567,8 @@ fn two_images() {
     assert_eq!(compared(&folder, "a b"), (0, "the images are the same\n".into()));
     let (status, shown) = compared(&folder, "a c");
     assert_eq!(status, 1);
-    assert!(shown.contains("\n  chip_cells   20      256\n"), "{shown}");
-    assert!(
-        shown.contains("\n  cells[20]    -       $00\n") && shown.contains(" more\n"),
-        "{shown}"
-    );
+    assert!(shown.contains("\n  chip_cells   20   256\n"), "{shown}");
+    assert!(shown.contains("\n  cells[20]    -    $00\n") && shown.contains(" more\n"), "{shown}");
     let mut image = folder.get("a");
     (image[33], image[100]) = (0xAA, 79);
     folder.put("b", &image);

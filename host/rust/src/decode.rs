@@ -320,11 +320,11 @@ impl Decoder {
             b"WR" | b"MW" => self.write_all(at, kind, body, watch),
             b"RD" if body == ORB => self.read(answer[4] & 1 != 0),
             b"SE" => self.pass(1),
-            b"RS" => self.ports(at, 0, 0, watch),
+            b"RS" => self.begin_anew(at, watch),
             b"PW" => {
                 let off = body.first_chunk::<4>().map_or(0, |&off| u32::from_le_bytes(off));
                 self.pass(off);
-                self.ports(at, 0, 0, watch);
+                self.begin_anew(at, watch);
             }
             _ => {}
         }
@@ -348,6 +348,12 @@ impl Decoder {
         if let Some(stretch) = self.stretch {
             watch.transaction(self.ended(stretch, None));
         }
+    }
+
+    /// The ports become inputs, and the program begins anew: it has no seconds byte any more.
+    fn begin_anew(&mut self, at: Place, watch: &mut impl Watch) {
+        self.ports(at, 0, 0, watch);
+        self.date = [None; 4];
     }
 
     /// Seconds go by, unless the test byte stops them.
@@ -613,11 +619,12 @@ impl Decoder {
     /// A seconds byte was read: the date where it is the last of four.
     fn seen_seconds(&mut self, k: u8, seen: SeenBits, clock: u32) -> Option<SeenDate> {
         self.date[usize::from(k & 3)] = seen.byte();
-        let [Some(a), Some(b), Some(c), Some(d)] = self.date else {
-            return None;
-        };
+        let mut bytes = [0; 4];
+        for (byte, seen) in bytes.iter_mut().zip(self.date) {
+            *byte = seen?;
+        }
         self.date = [None; 4];
-        Some(SeenDate { seconds: u32::from_le_bytes([a, b, c, d]), clock })
+        Some(SeenDate { seconds: u32::from_le_bytes(bytes), clock })
     }
 }
 
