@@ -340,38 +340,39 @@ impl Page<'_> {
             return;
         }
         for refusal in Refusal::ALL {
-            let number = refusal.number();
-            let count = self.gathered.refusals[usize::from(number & 15)];
-            if count == 0 {
-                continue;
+            if self.gathered.refusals[usize::from(refusal.number() & 15)] > 0 {
+                self.refusal(refusal, out);
             }
-            let (meaning, advice) = guide(refusal);
+        }
+    }
+
+    /// The records refused with one number, what that means and what to do.
+    fn refusal(&self, refusal: Refusal, out: &mut String) {
+        let number = refusal.number();
+        let count = self.gathered.refusals[usize::from(number & 15)];
+        let (meaning, advice) = guide(refusal);
+        out.push_str(&format!(
+            "<h3 id=\"no{number}\">NO {number}: {refusal} ({})</h3>\n<p>{meaning}</p>\n\
+             <p><b>What to do:</b> {advice}</p>\n<table><thead><tr><th class=\"n\">item</th>\
+             <th class=\"n\">offset (bytes)</th><th class=\"n\">line</th><th class=\"n\">VIA ticks</th>\
+             <th>record</th></tr></thead><tbody>\n",
+            counted(count, "record")
+        ));
+        let listed = self.gathered.refused.iter().filter(|it| it.number == number);
+        for it in listed.take(LISTED_MOST) {
+            let Place { item, offset, line, via_ticks } = it.at;
+            let line = line.map_or("-".into(), grouped);
+            let cells = [grouped(item), grouped(offset), line, grouped(via_ticks)];
+            let cells = cells.map(|cell| format!("<td class=\"n\">{cell}</td>")).concat();
+            let record = escaped(&it.record);
+            out.push_str(&format!("<tr>{cells}<td class=\"b\">{record}</td></tr>\n"));
+        }
+        out.push_str("</tbody></table>\n");
+        if count > LISTED_MOST as u64 {
+            let more = grouped(count - LISTED_MOST as u64);
             out.push_str(&format!(
-                "<h3 id=\"no{number}\">NO {number}: {refusal} ({})</h3>\n<p>{meaning}</p>\n<p><b>What to do:</b> {advice}</p>\n\
-                 <table><thead><tr><th class=\"n\">item</th><th class=\"n\">offset (bytes)</th>\
-                 <th class=\"n\">line</th><th class=\"n\">VIA ticks</th><th>record</th></tr></thead><tbody>\n",
-                counted(count, "record")
+                "<p>And {more} more: <code>swarmtempo run --refused</code> shows all.</p>\n"
             ));
-            let listed = self.gathered.refused.iter().filter(|it| it.number == number);
-            for it in listed.take(LISTED_MOST) {
-                let Place { item, offset, line, via_ticks } = it.at;
-                let line = line.map_or("-".into(), grouped);
-                out.push_str(&format!(
-                    "<tr><td class=\"n\">{}</td><td class=\"n\">{}</td><td class=\"n\">{line}</td>\
-                     <td class=\"n\">{}</td><td class=\"b\">{}</td></tr>\n",
-                    grouped(item),
-                    grouped(offset),
-                    grouped(via_ticks),
-                    escaped(&it.record)
-                ));
-            }
-            out.push_str("</tbody></table>\n");
-            if count > LISTED_MOST as u64 {
-                let more = grouped(count - LISTED_MOST as u64);
-                out.push_str(&format!(
-                    "<p>And {more} more: <code>swarmtempo run --refused</code> shows all.</p>\n"
-                ));
-            }
         }
     }
 

@@ -89,6 +89,12 @@ fn the_lab_capture() {
         "$BE $20 read cell 200 $33 read",
     ];
     assert_eq!(ends(&shown), wanted);
+    // The manual shows rows of it.
+    let manual = include_str!("../../../docs/MANUAL.md");
+    for number in [0, 6, 7, 11, 13, 15, 16, 17] {
+        let row = shown.lines().nth(number).expect("a row").trim_start();
+        assert!(manual.contains(row), "{row}");
+    }
     // From records there is no line; with 20 cells the commands of two bytes are none.
     let records = assemble(LAB).expect("in the form");
     let shown = decoded(&[], &records);
@@ -544,6 +550,8 @@ fn two_captures() {
         port_a_out     $01  $02\n  \
         port_a_levels  $01  $02\n";
     assert_eq!(compared(&folder, "--text a b"), (1, wanted.to_string()));
+    let manual = include_str!("../../../docs/MANUAL.md");
+    assert!(wanted.lines().all(|line| manual.contains(line)), "the manual shows it");
     // One is longer; one is cut.
     folder.put("a", &SECOND.repeat(50_000));
     folder.put("b", &SECOND.repeat(50_001));

@@ -184,8 +184,20 @@ fn images() {
 fn the_program() {
     let folder = Folder::new("robust");
     folder.put("nothing", b"");
-    let commands: [&[&str]; 22] = [
+    let commands: &[&[&str]] = &[
         &["run", "file"],
+        &["run", "file", "--records", "--json", "--from", "item:2", "--only", "clock"],
+        &["run", "-", "--text", "--csv", "--refused", "--to", "100t"],
+        &["decode", "file", "--records"],
+        &["decode", "-", "--text", "--json", "--cells", "256"],
+        &["decode", "-", "--image", "file", "--csv"],
+        &["summary", "file", "--records", "--csv"],
+        &["report", "file", "--records", "-o", "page", "--from", "offset:9"],
+        &["report", "-", "--text", "--cells", "256"],
+        &["diff", "file", "nothing"],
+        &["diff", "nothing", "file", "--records"],
+        &["diff", "-", "file", "--text"],
+        &["image", "file", "--json"],
         &["run", "file", "--text"],
         &["run", "file", "--records", "--vcd", "vcd", "--quiet"],
         &["run", "file", "--records", "--save", "save", "--answers", "answers"],

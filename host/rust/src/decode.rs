@@ -434,50 +434,47 @@ impl Decoder {
         }
         let mut open = self.opened(Place::default());
         open.it.begun = true;
-        let bytes = match phase {
-            Phase::Idle | Phase::Listening { .. } => 0,
-            Phase::Taking { command, .. } => {
-                open.first = command;
-                self.command(&mut open, Place::default());
-                1
+        match phase {
+            Phase::Idle => {}
+            Phase::Listening { bits, value } => self.taken(&mut open, &[], bits, value),
+            Phase::Taking { command: first, bits, value }
+            | Phase::Second { first, bits, value } => {
+                self.taken(&mut open, &[first], bits, value);
             }
-            Phase::Second { first, .. } => {
-                open.first = first;
-                self.command(&mut open, Place::default());
-                1
-            }
-            Phase::TakingExtended { first, second, .. } => {
-                (open.first, open.second) = (first, second);
-                self.command(&mut open, Place::default());
-                self.second(&mut open, Place::default());
-                2
+            Phase::TakingExtended { first, second, bits, value } => {
+                self.taken(&mut open, &[first, second], bits, value);
             }
             Phase::Sending { byte: sent, falls } => {
+                let seen = SeenBits::default();
                 (open.step, open.falls, open.it.asked) = (Step::Sending, falls, Asked::Before);
-                open.it.fate = Fate::Read { sent, falls: 0, seen: SeenBits::default(), date: None };
-                0
+                open.it.fate = Fate::Read { sent, falls: 0, seen, date: None };
             }
             Phase::Ignoring => {
-                (open.step, open.it.asked, open.it.fate) =
-                    (Step::Over, Asked::Before, Fate::Before);
-                0
-            }
-        };
-        open.it.settled = None;
-        if let Phase::Listening { bits, value }
-        | Phase::Taking { bits, value, .. }
-        | Phase::Second { bits, value, .. }
-        | Phase::TakingExtended { bits, value, .. } = phase
-        {
-            open.taken = bits;
-            open.it.bits = 8 * bytes + u64::from(bits);
-            match open.step {
-                Step::First => open.first = value,
-                Step::Second => open.second = value,
-                _ => open.data = value,
+                (open.step, open.it.asked) = (Step::Over, Asked::Before);
+                open.it.fate = Fate::Before;
             }
         }
         Some(open)
+    }
+
+    /// Whole bytes, and bits of the next one, that came before the list.
+    fn taken(&self, open: &mut Stretch, bytes: &[u8], bits: u8, value: u8) {
+        let start = Place::default();
+        if let Some(&first) = bytes.first() {
+            open.first = first;
+            self.command(open, start);
+        }
+        if let Some(&second) = bytes.get(1) {
+            open.second = second;
+            self.second(open, start);
+        }
+        open.taken = bits;
+        open.it.bits = 8 * bytes.len() as u64 + u64::from(bits);
+        match open.step {
+            Step::First => open.first = value,
+            Step::Second => open.second = value,
+            Step::Data | Step::Sending | Step::Over => open.data = value,
+        }
     }
 
     /// Data-clock rises: the bit is taken, unless the chip sends or ignores.
@@ -521,7 +518,7 @@ impl Decoder {
     }
 
     /// The first byte is whole.
-    fn command(&mut self, open: &mut Stretch, at: Place) {
+    fn command(&self, open: &mut Stretch, at: Place) {
         if self.chip == Chip::Later && Command::is_first_of_two(open.first) {
             open.step = Step::Second;
             let reads = open.first & 0x80 != 0;
@@ -532,13 +529,13 @@ impl Decoder {
     }
 
     /// The second byte is whole.
-    fn second(&mut self, open: &mut Stretch, at: Place) {
+    fn second(&self, open: &mut Stretch, at: Place) {
         let command = Command::of_two(open.first, open.second);
         self.commanded(open, command, 24, at);
     }
 
     /// The command is whole: a read is done at once, a write needs so many bits in all.
-    fn commanded(&mut self, open: &mut Stretch, command: Option<Command>, of: u8, at: Place) {
+    fn commanded(&self, open: &mut Stretch, command: Option<Command>, of: u8, at: Place) {
         let second = (of == 24).then_some(open.second);
         open.it.asked = Asked::Command { first: open.first, second, command };
         open.command = command;
