@@ -16,6 +16,11 @@ use swarmtempo::{Asked, Decoder, Fate, Place, Transaction};
 /// Bytes of rows gathered before they are written.
 const ROWS_LEN: usize = 1 << 15;
 
+/// The names of places.
+const STARTS: [&str; 4] = ["start_item", "start_offset", "start_line", "start_via_ticks"];
+const SETTLED: [&str; 4] = ["settled_item", "settled_offset", "settled_line", "settled_via_ticks"];
+const ENDS: [&str; 4] = ["end_item", "end_offset", "end_line", "end_via_ticks"];
+
 /// Shows the transactions, and gives the exit status.
 pub fn decode(given: &Given) -> Result<u8, Failure> {
     let input = Input::of(given.need()?);
@@ -114,11 +119,11 @@ fn nothing() -> Transaction {
 
 /// All of a transaction.
 pub fn fields(it: &Transaction) -> Fields {
-    let mut fields = Fields::default();
+    let mut fields = Fields(Vec::with_capacity(40));
     fields.put("number", it.number);
-    fields.place("start_", Some(&it.start));
+    fields.place(STARTS, Some(&it.start));
     fields.put("start_seconds", Value::Decimal(seconds(it.start.via_ticks)));
-    fields.place("settled_", it.settled.as_ref()).place("end_", it.end.as_ref());
+    fields.place(SETTLED, it.settled.as_ref()).place(ENDS, it.end.as_ref());
     fields.put("begun", it.begun).put("asked", it.asked.to_string());
     let (first, second, command) = match it.asked {
         Asked::Command { first, second, command } => (Some(first), second, command),

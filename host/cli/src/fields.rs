@@ -3,6 +3,7 @@
 use super::failure::Failure;
 use super::words::Given;
 use std::borrow::Cow;
+use std::fmt::Write;
 use swarmtempo::{Command, Place, TICKS_PER_SECOND};
 
 /// How rows are written.
@@ -93,8 +94,8 @@ impl Value {
         match self {
             Value::Nothing => out.push_str("null"),
             Value::Flag(flag) => out.push_str(if *flag { "true" } else { "false" }),
-            Value::Number(number) => out.push_str(&number.to_string()),
-            Value::Byte(byte) => out.push_str(&byte.to_string()),
+            Value::Number(number) => digits(*number, out),
+            Value::Byte(byte) => digits(u64::from(*byte), out),
             Value::Decimal(number) => out.push_str(number),
             Value::Text(text) => quoted(text, out),
             Value::All(values) => {
@@ -148,6 +149,12 @@ impl Value {
     }
 }
 
+/// A number in decimal digits.
+fn digits(number: u64, out: &mut String) {
+    // Into a String there is no error.
+    let _ = write!(out, "{number}");
+}
+
 /// A text between quotes, as JSON has it. What could end a script of a page is written by its number.
 pub fn quoted(text: &str, out: &mut String) {
     out.push('"');
@@ -165,7 +172,7 @@ pub fn quoted(text: &str, out: &mut String) {
     out.push('"');
 }
 
-/// Named values, in their order.
+/// Named values, in their order. Names are of small letters, digits and `_`.
 #[derive(Clone, Debug, Default, PartialEq, Eq)]
 pub struct Fields(pub Vec<(Cow<'static, str>, Value)>);
 
@@ -180,13 +187,11 @@ impl Fields {
         self
     }
 
-    /// Where and when an item is, each name after a prefix.
-    pub fn place(&mut self, prefix: &'static str, at: Option<&Place>) -> &mut Self {
-        let name = |what: &str| -> Cow<'static, str> { format!("{prefix}{what}").into() };
-        self.put(name("item"), at.map(|at| at.item));
-        self.put(name("offset"), at.map(|at| at.offset));
-        self.put(name("line"), at.and_then(|at| at.line));
-        self.put(name("via_ticks"), at.map(|at| at.via_ticks))
+    /// Where and when an item is, under these names: its number, offset, line and VIA ticks.
+    pub fn place(&mut self, names: [&'static str; 4], at: Option<&Place>) -> &mut Self {
+        let [item, offset, line, via_ticks] = names;
+        self.put(item, at.map(|at| at.item)).put(offset, at.map(|at| at.offset));
+        self.put(line, at.and_then(|at| at.line)).put(via_ticks, at.map(|at| at.via_ticks))
     }
 
     /// An object, and a line end.
@@ -196,8 +201,9 @@ impl Fields {
             if i > 0 {
                 out.push(',');
             }
-            quoted(name, out);
-            out.push(':');
+            out.push('"');
+            out.push_str(name);
+            out.push_str("\":");
             value.json(out);
         }
         out.push_str("}\n");

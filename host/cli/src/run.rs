@@ -301,7 +301,9 @@ fn head(rows: Rows, of_text: bool, style: Style) -> String {
 /// A record and its answer as named values.
 fn fields(at: &Place, piece: Piece<'_>, answer: [u8; ANSWER_LEN]) -> Fields {
     let mut fields = Fields::default();
-    fields.place("", Some(at)).put("record", table::record(piece));
+    fields
+        .place(["item", "offset", "line", "via_ticks"], Some(at))
+        .put("record", table::record(piece));
     let (seen, refusal) = match Answer::read(&answer) {
         Some(Answer::Ok(seen)) => (Some(seen), None),
         Some(Answer::No(refusal)) => (None, Some(refusal)),

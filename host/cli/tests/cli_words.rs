@@ -451,7 +451,7 @@ fn completions_complete() {
     let script = "source <(\"$0\" completions bash); COMP_WORDS=(swarmtempo \"$@\"); \
                   COMP_CWORD=$#; _swarmtempo; echo ${COMPREPLY[@]}";
     for (words, expected) in [
-        (&["di"][..], "disasm"),
+        (&["dis"][..], "disasm"),
         (&["run", "--st"], "--strict"),
         (&["run", "--color", "al"], "always"),
         (&["run", "--save", "li"], "list.bin"),
