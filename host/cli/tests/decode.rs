@@ -6,7 +6,7 @@ use common::{feed, program, shell, status, stderr, stdout, Folder, PROGRAM, SECO
 use std::process::Command;
 use std::time::{Duration, Instant};
 use swarmtempo::text::assemble;
-use swarmtempo::{Address, Chip, Item, List, Machine, Register, ViaTicks};
+use swarmtempo::{Address, Chip, Item, List, Machine, Register, State, ViaTicks};
 
 const LAB: &str = include_str!("../../captures/lab.txt");
 const LATER: [&str; 2] = ["--cells", "256"];
@@ -566,6 +566,16 @@ fn two_captures() {
     assert!(shown.ends_with("b: record cut short; the rest is not run\n"), "{shown}");
 }
 
+/// Where a byte of a state stands in an image.
+fn place_of(image: &[u8], read: impl Fn(&State) -> u8) -> usize {
+    let sets = |&at: &usize| {
+        let mut image = image.to_vec();
+        image[at] = 7;
+        Machine::from_image(&image).is_ok_and(|machine| read(&machine.state()) == 7)
+    };
+    (4..image.len()).find(sets).expect("a byte of the image")
+}
+
 #[test]
 fn two_images() {
     let folder = Folder::new("diff-images");
@@ -578,7 +588,8 @@ fn two_images() {
     assert!(shown.contains("\n  chip_cells   20   256\n"), "{shown}");
     assert!(shown.contains("\n  cells[20]    -    $00\n") && shown.contains(" more\n"), "{shown}");
     let mut image = folder.get("a");
-    (image[33], image[100]) = (0xAA, 79);
+    image[place_of(&image, |state| state.cells[0])] = 0xAA;
+    image[place_of(&image, |state| state.drives[0].track)] = 79;
     folder.put("b", &image);
     let wanted = "the images differ:\n  field           a    b\n  cells[0]        $00  $AA\n  internal_track  0    79\n";
     assert_eq!(compared(&folder, "a b"), (1, wanted.to_string()));

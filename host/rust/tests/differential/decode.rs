@@ -252,11 +252,11 @@ impl Reached {
 #[test]
 fn decode_equals_history_and_states() {
     let mut reached = Reached::default();
+    let protect = protect_at();
     each(|random, chip| {
         let mut image = some_state(random, chip);
         if random.one_in(4) {
-            // Protect is set.
-            image[27] = 1;
+            image[protect] = 1;
         }
         let mut parts = some_list(random, chip, 8);
         reads(random, chip, &mut parts);
@@ -287,6 +287,17 @@ fn decode_equals_history_and_states() {
     for count in [written, protected, half, illegal, read, far, seen, in_part, begun, open] {
         assert!(count > 1_000, "too little of something: {count}");
     }
+}
+
+/// Where protect stands in an image.
+fn protect_at() -> usize {
+    let image = Machine::fresh(Chip::First).image().to_vec();
+    let sets = |&at: &usize| {
+        let mut image = image.clone();
+        image[at] = 1;
+        Machine::from_image(&image).is_ok_and(|machine| machine.state().protect)
+    };
+    (4..image.len()).find(sets).expect("a byte for protect")
 }
 
 /// What a read is said to send is what the chip has in its state.
