@@ -588,8 +588,9 @@ fn two_images() {
     assert!(shown.contains("\n  chip_cells   20   256\n"), "{shown}");
     assert!(shown.contains("\n  cells[20]    -    $00\n") && shown.contains(" more\n"), "{shown}");
     let mut image = folder.get("a");
-    image[place_of(&image, |state| state.cells[0])] = 0xAA;
-    image[place_of(&image, |state| state.drives[0].track)] = 79;
+    let (cell, track) =
+        (place_of(&image, |state| state.cells[0]), place_of(&image, |state| state.drives[0].track));
+    (image[cell], image[track]) = (0xAA, 79);
     folder.put("b", &image);
     let wanted = "the images differ:\n  field           a    b\n  cells[0]        $00  $AA\n  internal_track  0    79\n";
     assert_eq!(compared(&folder, "a b"), (1, wanted.to_string()));
