@@ -305,6 +305,9 @@ fn sent(it: &Transaction, states: &[State]) {
     let (Fate::Read { sent, .. }, Some(at)) = (it.fate, it.settled) else {
         return;
     };
+    if it.end.is_some_and(|end| end.item == at.item) {
+        return;
+    }
     let place = usize::try_from(at.item - 1).expect("a number of items");
     if let Phase::Sending { byte, falls: 0 } = states[place].phase {
         assert_eq!(sent, byte);
