@@ -394,13 +394,13 @@ fn the_first_list_and_what_it_names() {
     }
     let (_, next) = tour.split_once("\nNext:\n").expect("what comes next");
     let commands: Vec<&str> = next.lines().filter_map(|line| line.split("  ").nth(1)).collect();
-    assert_eq!(commands.len(), 6, "{next}");
+    assert_eq!(commands.len(), 8, "{next}");
     for command in commands {
         let script = command.replacen("swarmtempo", "\"$0\"", 1);
         let output = shell(&folder, &script, &[], b"");
         assert_eq!(status(&output), 0, "{command}: {}", stderr(&output));
     }
-    assert_eq!(folder.names(), ["end.st", "first.txt", "first.vcd"]);
+    assert_eq!(folder.names(), ["end.st", "first.html", "first.txt", "first.vcd"]);
     assert_eq!(
         Machine::from_image(&folder.get("end.st")).expect("accepted").state().cells[0],
         0xAA

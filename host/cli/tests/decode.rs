@@ -6,7 +6,7 @@ use common::{feed, program, shell, status, stderr, stdout, Folder, PROGRAM, SECO
 use std::process::Command;
 use std::time::{Duration, Instant};
 use swarmtempo::text::assemble;
-use swarmtempo::{Address, Chip, Item, List, Machine, Register, State, ViaTicks};
+use swarmtempo::{Address, Answer, Chip, Item, List, Machine, Register, State, ViaTicks};
 
 const LAB: &str = include_str!("../../captures/lab.txt");
 const LATER: [&str; 2] = ["--cells", "256"];
@@ -417,6 +417,29 @@ fn json_and_csv_of_answers() {
                   3,20,3,5,RAW 05 00 53 45 00 00 00,NO,,,,,3,length wrong for the kind\n";
     assert_eq!(csv, wanted);
     documented(&csv.lines().next().expect("a heading").split(',').collect::<Vec<_>>());
+    // A capture with half-sent, illegal, protected and extended transactions, as the library answers it.
+    let words = ["run", "--text", "-", "--json", "--cells=256"];
+    let json = stdout(&program(&words, LAB.as_bytes()));
+    let records = assemble(LAB).expect("in the form");
+    let mut machine = Machine::fresh(Chip::Later);
+    let transcript = machine.run_items(&records);
+    assert_eq!(json.lines().count(), transcript.iter().count());
+    let mut offset = 0;
+    for (row, done) in json.lines().map(object).zip(&transcript) {
+        assert_eq!(get(&row, "offset"), offset.to_string());
+        offset += done.record.len();
+        let record = done.item.map(|timed| timed.to_string()).expect("items alone");
+        assert_eq!(get(&row, "record"), format!("\"{record}\""));
+        match done.answer {
+            Answer::No(refusal) => assert_eq!(get(&row, "refusal"), refusal.number().to_string()),
+            Answer::Ok(seen) => {
+                let read = record.contains(" RD ");
+                let value = if read { seen.value.to_string() } else { "null".into() };
+                assert_eq!((get(&row, "answer"), get(&row, "value")), ("\"OK\"", &*value));
+                assert_eq!(get(&row, "level"), seen.level.to_string());
+            }
+        }
+    }
     // Bytes to a file, and rows beside them.
     let folder = Folder::new("decode-answers");
     let output = shell(&folder, "exec \"$0\" run --text - --csv --answers a", &[], list.as_bytes());

@@ -17,7 +17,6 @@
 //! let mut decoding = Decoding::new(Machine::fresh(Chip::First));
 //! decoding.run(list.as_bytes(), &mut |transaction| seen.push(transaction));
 //! decoding.finish(&mut |transaction| seen.push(transaction));
-//! // Enable was 0 between the write to the directions and the end, too, with no bit sent before.
 //! assert_eq!(seen.len(), 1);
 //! assert_eq!((seen[0].bits, seen[0].fate), (3, Fate::Half { of: None }));
 //! assert_eq!(seen[0].to_string(), "3 bits of a command: half sent (3 bits)");
