@@ -300,16 +300,17 @@ fn head(rows: Rows, of_text: bool, style: Style) -> String {
 
 /// A record and its answer as named values.
 fn fields(at: &Place, piece: Piece<'_>, answer: [u8; ANSWER_LEN]) -> Fields {
+    let item = Timed::try_from(piece);
+    // All of an item; the first bytes of what is none.
+    let record = item.map_or_else(|_| table::record(piece), |timed| timed.to_string());
     let mut fields = Fields::default();
-    fields
-        .place(["item", "offset", "line", "via_ticks"], Some(at))
-        .put("record", table::record(piece));
+    fields.place(["item", "offset", "line", "via_ticks"], Some(at)).put("record", record);
     let (seen, refusal) = match Answer::read(&answer) {
         Some(Answer::Ok(seen)) => (Some(seen), None),
         Some(Answer::No(refusal)) => (None, Some(refusal)),
         None => (None, None),
     };
-    let read = Timed::try_from(piece).is_ok_and(|timed| matches!(timed.item, Item::Read(_)));
+    let read = item.is_ok_and(|timed| matches!(timed.item, Item::Read(_)));
     fields.put("answer", if seen.is_some() { "OK" } else { "NO" });
     fields.put("value", seen.filter(|_| read).map(|seen| seen.value));
     fields.put("level", seen.map(|seen| u64::from(seen.level)));
