@@ -31,7 +31,18 @@ pub const JOBS: Flag = Flag {
 };
 
 /// Options that are for one list.
-const OF_ONE: [&str; 4] = ["--save", "--answers", "--vcd", "--room"];
+const OF_ONE: [&str; 10] = [
+    "--save",
+    "--answers",
+    "--vcd",
+    "--room",
+    "--from",
+    "--to",
+    "--only",
+    "--refused",
+    "--json",
+    "--csv",
+];
 
 /// True where the words ask for a row for each list.
 pub fn asked(given: &Given) -> bool {

@@ -8,10 +8,14 @@ mod conflicts;
 mod contents;
 mod convert;
 mod cut;
+mod decode;
+mod diff;
 mod draft;
 mod export;
 mod failure;
+mod fields;
 mod files;
+mod filter;
 mod gtkw;
 mod help;
 mod image;
@@ -23,16 +27,20 @@ mod manual;
 mod numbers;
 mod place;
 mod progress;
+mod report;
 mod request;
 mod run;
 mod sheet;
 mod source;
+mod states;
 mod step;
 mod style;
+mod summarize;
 mod summary;
 mod sys;
 mod touches;
 mod tour;
+mod walk;
 mod words;
 
 use commands::{COMMANDS, GROUPS};
@@ -108,6 +116,10 @@ fn act(command: &str, given: &Given) -> Result<u8, Failure> {
     match command {
         "run" if jobs::asked(given) => jobs::run(given),
         "run" => run::run(&request::Options::of(given)?),
+        "decode" => decode::decode(given),
+        "summary" => summarize::summary(given),
+        "report" => report::report(given),
+        "diff" => diff::diff(given),
         "asm" => assemble::asm(given),
         "disasm" => assemble::disasm(given),
         "convert" => convert::convert(given),
@@ -119,8 +131,15 @@ fn act(command: &str, given: &Given) -> Result<u8, Failure> {
         "step" => step::step(given),
         "image" => {
             let input = Input::of(given.need()?);
+            let rows = fields::Rows::of("image", given)?;
             let machine = image::read(&input, source::open(&input)?)?;
-            print(&describe::image(&machine)).map(|()| 0)
+            let mut text = String::new();
+            match rows {
+                fields::Rows::Words => text = describe::image(&machine),
+                fields::Rows::Json => states::fields(&machine).json(&mut text),
+                fields::Rows::Csv => states::fields(&machine).csv_pairs(&mut text),
+            }
+            print(&text).map(|()| 0)
         }
         "keyboard" => keyboard::keyboard(given),
         "sheet get" => sheet::get(given),

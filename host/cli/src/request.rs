@@ -2,6 +2,8 @@
 
 use super::conflicts::Uses;
 use super::failure::Failure;
+use super::fields::Rows;
+use super::filter::Filter;
 use super::gtkw;
 use super::place::{Input, Output};
 use super::style::When;
@@ -56,6 +58,10 @@ pub struct Options {
     pub vcd: Option<Output>,
     /// Answer bytes in all.
     pub room: Option<u64>,
+    /// How the rows of the table are written.
+    pub rows: Rows,
+    /// Which of them are shown.
+    pub filter: Filter,
     /// The list.
     pub list: Input,
 }
@@ -77,15 +83,22 @@ impl Options {
             answers: output("--answers"),
             vcd: output("--vcd"),
             room: given.number("--room")?,
+            rows: Rows::of("run", given)?,
+            filter: Filter::of("run", given)?,
             list: Input::of(given.need()?),
         };
+        if !options.table() && (options.rows != Rows::Words || options.filter.some()) {
+            let what = "--json, --csv, --from, --to, --only and --refused are about rows, which \
+                        --quiet leaves out, and --answers unless there is --json or --csv";
+            return Err(Failure::usage("run", what));
+        }
         options.uses().check()?;
         Ok(options)
     }
 
     /// True where a table is shown.
     pub fn table(&self) -> bool {
-        self.answers.is_none() && !self.quiet
+        (self.answers.is_none() || self.rows != Rows::Words) && !self.quiet
     }
 
     /// What is read, and what is written.

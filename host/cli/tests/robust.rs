@@ -199,8 +199,20 @@ fn the_program() {
     let folder = Folder::new("robust");
     folder.put("nothing", b"");
     folder.put("orders", b"next 3\nrefusal\ncell\nend\nanswers 5\nwhere\nstate\n");
-    let commands: [&[&str]; 28] = [
+    let commands: &[&[&str]] = &[
         &["run", "file"],
+        &["run", "file", "--records", "--json", "--from", "item:2", "--only", "clock"],
+        &["run", "-", "--text", "--csv", "--refused", "--to", "100t"],
+        &["decode", "file", "--records"],
+        &["decode", "-", "--text", "--json", "--cells", "256"],
+        &["decode", "-", "--image", "file", "--csv"],
+        &["summary", "file", "--records", "--csv"],
+        &["report", "file", "--records", "-o", "page", "--from", "offset:9"],
+        &["report", "-", "--text", "--cells", "256"],
+        &["diff", "file", "nothing"],
+        &["diff", "nothing", "file", "--records"],
+        &["diff", "-", "file", "--text"],
+        &["image", "file", "--json"],
         &["run", "file", "--text"],
         &["run", "file", "--records", "--vcd", "vcd", "--quiet"],
         &["run", "file", "--records", "--save", "save", "--answers", "answers"],

@@ -129,6 +129,16 @@ impl<R: Read> Chunks<R> {
         !matches!(whole_record(&self.buffer[..self.end]), Found::Short)
     }
 
+    /// The chunk that was handed out last.
+    pub fn last(&self) -> &[u8] {
+        &self.buffer[..self.start]
+    }
+
+    /// The source of the bytes, to look at.
+    pub fn source(&self) -> &R {
+        &self.source
+    }
+
     /// The source of the bytes.
     pub fn source_mut(&mut self) -> &mut R {
         &mut self.source

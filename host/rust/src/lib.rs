@@ -29,7 +29,7 @@
 //! - The clock's wires as an analyser sees them: [`WireDump`] writes them, [`WireImport`] makes items of
 //!   them.
 //! - Captures from before SN retired on the drives' own registers: [`convert`].
-//! - What of a capture can touch the clock: [`Touches`].
+//! - What of a capture can touch the clock: [`Touches`]; its clock transactions: [`Decoding`].
 //! - A keyboard, by itself: [`Keyboard`].
 //! - Settings of a bench: [`Sheets`], [`compact`], and as text [`sheet_text`].
 //! - The C functions as they are: [`sys`].
@@ -49,6 +49,7 @@ mod chip;
 mod chunks;
 mod command;
 mod convert;
+pub mod decode;
 pub mod describe;
 mod error;
 mod item;
@@ -80,6 +81,7 @@ pub use chip::Chip;
 pub use chunks::{pieces, Chunks, Piece, Pieces, CHUNK_LEN};
 pub use command::{Command, Target};
 pub use convert::{convert, convert_in, Conversion};
+pub use decode::{Asked, Decoder, Decoding, Fate, Place, SeenBits, SeenDate, Transaction, Watch};
 pub use error::ParseError;
 pub use item::{Drive, InLine, Item, SenseRegister, Timed};
 pub use keyboard::{Keyboard, KeyboardFull, KeyboardState, INQUIRY_TICKS, KEYBOARD_LEN};
