@@ -133,18 +133,19 @@ fn the_same_as_from_a_file() {
     let folder = Folder::new("live-same");
     let text = include_str!("../../captures/first.txt");
     let records = swarmtempo::text::assemble(text).expect("in the form");
-    let file = folder.put("list", &records);
-    let wanted = program(&["run", &file], b"");
-    for step in [1, 2, 3, 7, 64, 5_000] {
-        let mut live = Live::new(&["run", "-"]);
-        records.chunks(step).for_each(|part| live.feed(part));
-        live.until(|seen| seen.len() == wanted.stdout.len());
-        assert_eq!(live.seen, wanted.stdout);
-        assert_eq!(live.end(), status(&wanted));
-        let mut live = Live::new(&["run", "--text", "-"]);
-        text.as_bytes().chunks(step).for_each(|part| live.feed(part));
-        live.until(|seen| seen.len() == wanted.stdout.len());
-        assert_eq!(String::from_utf8(live.seen.clone()).expect("text"), stdout(&wanted));
-        assert_eq!(live.end(), status(&wanted));
+    for (name, words, bytes) in [
+        ("list", &["run", "-"][..], &records[..]),
+        ("list.txt", &["run", "-", "--text"], text.as_bytes()),
+    ] {
+        let file = folder.put(name, bytes);
+        let from_file = [&["run", &file][..], &words[2..]].concat();
+        let wanted = program(&from_file, b"");
+        for step in [1, 2, 3, 7, 64, 5_000] {
+            let mut live = Live::new(words);
+            bytes.chunks(step).for_each(|part| live.feed(part));
+            live.until(|seen| seen.len() == wanted.stdout.len());
+            assert_eq!(String::from_utf8(live.seen.clone()).expect("text"), stdout(&wanted));
+            assert_eq!(live.end(), status(&wanted));
+        }
     }
 }
