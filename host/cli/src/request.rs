@@ -2,6 +2,9 @@
 
 use super::conflicts::Uses;
 use super::failure::Failure;
+use super::fields::Rows;
+use super::filter::Filter;
+use super::gtkw;
 use super::place::{Input, Output};
 use super::style::When;
 use super::words::Given;
@@ -57,6 +60,10 @@ pub struct Options {
     pub vcd: Option<Output>,
     /// Answer bytes in all.
     pub room: Option<u64>,
+    /// How the rows of the table are written.
+    pub rows: Rows,
+    /// Which of them are shown.
+    pub filter: Filter,
     /// The list.
     pub list: Input,
 }
@@ -79,15 +86,22 @@ impl Options {
             answers: output("--answers"),
             vcd: output("--vcd"),
             room: given.number("--room")?,
+            rows: Rows::of("run", given)?,
+            filter: Filter::of("run", given)?,
             list: Input::of(given.need()?),
         };
+        if !options.table() && (options.rows != Rows::Words || options.filter.some()) {
+            let what = "--json, --csv, --from, --to, --only and --refused are about rows, which \
+                        --quiet leaves out, and --answers unless there is --json or --csv";
+            return Err(Failure::usage("run", what));
+        }
         options.uses().check()?;
         Ok(options)
     }
 
     /// True where a table is shown.
     pub fn table(&self) -> bool {
-        self.answers.is_none() && !self.quiet
+        (self.answers.is_none() || self.rows != Rows::Words) && !self.quiet
     }
 
     /// What is read, and what is written.
@@ -106,6 +120,9 @@ impl Options {
             if let Some(output) = output {
                 uses.writes(word, output);
             }
+        }
+        if let Some(beside) = self.vcd.as_ref().and_then(gtkw::beside) {
+            uses.writes("the .gtkw beside --vcd", &beside);
         }
         uses
     }

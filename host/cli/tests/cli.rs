@@ -88,7 +88,9 @@ fn exit_statuses() {
         (&["run", &list, "--image", &bad], 7),
         (&["image", &bad], 7),
         (&["run"], 64),
-        (&["run", &list, &list], 64),
+        (&["run", &list, &list], 0),
+        (&["run", &list, &cut, &bad], 1),
+        (&["disasm", &list, &list], 64),
         (&["run", &list, "--rom", "5"], 64),
         (&["run", &list, "--room", "x"], 64),
         (&["run", &list, "--save"], 64),
@@ -182,7 +184,8 @@ fn table_for_people() {
     let rows: Vec<&str> = table.lines().collect();
     assert_eq!(rows.len(), 6);
     let words = |row: &str| row.split_whitespace().map(String::from).collect::<Vec<_>>();
-    assert_eq!(words(rows[3]), ["3", "12", "0t", "RD", "VIA.IFR", "$81", "1", "1", "-"]);
+    // Item, byte offset, line, VIA ticks, the record and its answer.
+    assert_eq!(words(rows[3]), ["3", "17", "3", "12", "0t", "RD", "VIA.IFR", "$81", "1", "1", "-"]);
     assert!(rows[4].ends_with("NO 3: length wrong for the kind"));
     assert!(rows[5].ends_with("Q6"));
 }

@@ -278,7 +278,7 @@ fn synced_before_it_takes_its_place() {
     let calls = String::from_utf8(folder.get("calls")).expect("UTF-8");
     let at = |part: &str| calls.lines().position(|line| line.contains(part)).expect(part);
     let syncs = calls.lines().take(at("rename")).filter(|line| line.contains("sync(")).count();
-    assert_eq!(syncs, 2, "{calls}");
+    assert_eq!(syncs, 3, "{calls}");
 }
 
 /// A signal while finished files take their places: all of them do, and then it acts. The system's
@@ -311,5 +311,5 @@ fn a_signal_while_files_take_their_places() {
     assert!(sent.expect("sent").success());
     let ended = child.wait().expect("ended");
     assert!(!ended.success(), "the signal acts in the end: {ended}");
-    assert_eq!(folder.names(), ["a.st", "b.vcd", "x"]);
+    assert_eq!(folder.names(), ["a.st", "b.gtkw", "b.vcd", "x"]);
 }

@@ -65,6 +65,45 @@ const TRACKS: [(&str, &str, u32); COUNT] = [
     ("list", "refused", 4),
 ];
 
+/// What a save file of `GTKWave` begins with: the dump, the save file itself (by which `GTKWave` finds
+/// the dump beside it), and a zoom at which all units of time up to the end are in sight.
+pub(crate) fn save_head(dump: &str, save: &str, end: u64) -> String {
+    // 200 pixels are 2 to the power of the zoom; a window of the size below shows about 800.
+    let zoom = (end.max(4) as f64 / 4.0).log2();
+    format!(
+        "[*] Swarmtempo\n[dumpfile] \"{dump}\"\n[savefile] \"{save}\"\n[timestart] 0\n\
+         [size] 1280 800\n[pos] -1 -1\n*-{zoom:.6} -1\n"
+    )
+}
+
+/// A save file of `GTKWave`, named `save`, for a dump that stands beside it, named `dump`, and ends at
+/// so many nanoseconds: all tracks in place, scope by scope, numbers as people read them.
+///
+/// ```
+/// let text = swarmtempo::vcd::save_file("cell.vcd", "cell.gtkw", 222_130);
+/// assert!(text.contains("[dumpfile] \"cell.vcd\"\n"));
+/// assert!(text.contains("@28\nswarmtempo.clock.enable\n"));
+/// ```
+pub fn save_file(dump: &str, save: &str, end: u64) -> String {
+    let mut out = save_head(dump, save, end);
+    let mut scope = "";
+    for (of, name, bits) in TRACKS {
+        if of != scope {
+            out.push_str(&format!("@200\n-{of}\n"));
+            scope = of;
+        }
+        // Binary for a wire, hexadecimal for a byte, decimal for a count, text for words.
+        let (flags, range) = match bits {
+            0 => ("820", String::new()),
+            1 => ("28", String::new()),
+            8 => ("22", "[7:0]".to_string()),
+            bits => ("24", format!("[{}:0]", bits - 1)),
+        };
+        out.push_str(&format!("@{flags}\nswarmtempo.{of}.{name}{range}\n"));
+    }
+    out
+}
+
 /// Runs a list record by record, with room for every answer, and writes the dump.
 ///
 /// # Errors
@@ -212,12 +251,17 @@ impl<W: Write> Vcd<W> {
         Ok(())
     }
 
+    /// Where the dump ends, in nanoseconds.
+    pub fn end(&self) -> u64 {
+        self.nanoseconds.saturating_add(GAP_NANOSECONDS)
+    }
+
     /// The end of the list. The output is given back, flushed.
     ///
     /// # Errors
     /// Those of the output.
     pub fn finish(mut self) -> io::Result<W> {
-        let end = format!("#{}\n", self.nanoseconds.saturating_add(GAP_NANOSECONDS));
+        let end = format!("#{}\n", self.end());
         self.out.write_all(end.as_bytes())?;
         self.out.flush()?;
         Ok(self.out)

@@ -279,7 +279,7 @@ fn runs_give_items_with_answers() {
     assert!(rows[0].contains("VIA ticks"));
     assert!(rows[1].ends_with("9  9t WR VIA.IER $81                  -      0    1  -"), "{table}");
     assert!(rows[2].ends_with("NO 3: length wrong for the kind"));
-    assert!(rows[3].starts_with("       3             12  3t SE"));
+    assert!(rows[3].starts_with("       3          18             12  3t SE"), "{table}");
     assert_eq!(rows.len(), 5);
     let run = transcript.run();
     assert_eq!(run.to_string(), "stop 1 (record cut short): 4 answers, 24 bytes consumed");

@@ -5,6 +5,8 @@
 //! lists.
 //! A difference is made small and printed.
 
+#[path = "differential/decode.rs"]
+mod decode;
 #[path = "differential/laws.rs"]
 mod laws;
 #[path = "differential/touches.rs"]
