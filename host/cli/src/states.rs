@@ -36,7 +36,7 @@ fn via(fields: &mut Fields, state: &State) {
     fields.put("t2_counter_via_ticks", u64::from(state.t2.counter.0));
     fields.put("t2_low_latch", state.t2.low).put("t2_armed", state.t2.armed);
     fields.put("sr", state.sr).put("acr", state.acr).put("pcr", state.pcr);
-    fields.put("flags", state.flags).put("enables", state.enables);
+    fields.put("flags", state.flags).put("enables", state.enables).put("pulses", state.pulses);
     fields.put("level", u64::from(state.level()));
 }
 

@@ -6,7 +6,7 @@
 //! follows is late by that much.
 
 use crate::vcd::save_head;
-use crate::{Item, Timed, ViaTicks, Wires, TICKS_PER_SECOND};
+use crate::{Timed, ViaTicks, Wires, TICKS_PER_SECOND};
 use std::io::{self, Write};
 
 /// Steps of 100 nanoseconds in a second.
@@ -18,18 +18,7 @@ pub const WIRES: [&str; 3] = ["enable", "data_clock", "data"];
 /// The items that one stands for where the wires are compared, one after the other: done in its place
 /// they leave the same state.
 pub fn wire_steps(timed: Timed) -> impl Iterator<Item = Timed> {
-    match timed.item {
-        // These move the wires once at most. A kind that moves them more often is taken apart here.
-        Item::Read(_)
-        | Item::Write(..)
-        | Item::Blank
-        | Item::Second
-        | Item::In(..)
-        | Item::Sense(..)
-        | Item::Disk { .. }
-        | Item::Reset
-        | Item::Power(_) => std::iter::once(timed),
-    }
+    timed.singles()
 }
 
 /// How the wires are written.
