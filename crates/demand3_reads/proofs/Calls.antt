@@ -5,6 +5,7 @@ use mathlib.Core.List.{List, _∷_, _++_}
 use Prim.Native.Nat.{ℕ, _+_, _*_, _≤_}
 use native.Mathlib.Omega.{arith}
 use lib.ListN.{length, getD, drop, List·getD-append}
+use Rattle.units.specs.declared.WaitTicks.{WaitTicks}
 use Rattle.octets.specs.Octets.{Bytes}
 use Rattle.via_bits.specs.Bytes.{bit}
 use Rattle.item_spec.specs.declared.Item.the-variants.{ReadVia}
@@ -60,7 +61,7 @@ module _ (i l d : List ℕ) (e : validImage i ≡ true) (bi : Bytes i) (bl : Byt
       ap (λ (x : List ℕ). getD x (8 * length is + 4) 0) memory
       ∙ List·getD-append (o .answers) (drop (length (o .answers)) d) 0 (8 * length is + 4) (omega (arith, shows .long ls is p q))
 
-  seen : (ls is : List Piece) (s : List ℕ) (w : ℕ) → ls ++ (whole s ∷ is) ≡ answeredPieces l (length d) → decodedOf s ≡ Done (ReadVia w 0)
+  seen : (ls is : List Piece) (s : List ℕ) (w : WaitTicks) → ls ++ (whole s ∷ is) ≡ answeredPieces l (length d) → decodedOf s ≡ Done (ReadVia w 0)
       → bit 0 (getD (callAnswers i l d) (8 * length is + 4) 0) ≡ lineAfterPieces m is
   seen ls is s w q f = ap (bit 0) (stands ls is (whole s) q) ∙ shows .reads ls is s w q f
 

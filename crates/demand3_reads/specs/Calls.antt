@@ -4,6 +4,7 @@ use mathlib.Core.Bool.{false}
 use mathlib.Core.List.{List, _∷_, _++_}
 use Prim.Native.Nat.{ℕ, _+_, _*_, _≤_}
 use lib.ListN.{length, getD}
+use Rattle.units.specs.declared.WaitTicks.{WaitTicks}
 use Rattle.via_bits.specs.Bytes.{bit}
 use Rattle.item_spec.specs.declared.Item.the-variants.{ReadVia}
 use Rattle.item_spec.specs.declared.Decoded.the-variants.{Done}
@@ -24,9 +25,9 @@ pub record CallShows (i l d i′ : List ℕ) : Type 0 where
   -- The answer to the piece p, after those to the pieces is, stands in the memory.
   pub long : (ls is : List Piece) (p : Piece) → ls ++ (p ∷ is) ≡ answeredPieces l (length d) → 8 * length is + 8 ≤ length d
   -- A RD of register 0 after the pieces is: bit 0 of its answer's fifth byte is PB0's level.
-  pub reads : (ls is : List Piece) (s : List ℕ) (w : ℕ) → ls ++ (whole s ∷ is) ≡ answeredPieces l (length d) → decodedOf s ≡ Done (ReadVia w 0)
+  pub reads : (ls is : List Piece) (s : List ℕ) (w : WaitTicks) → ls ++ (whole s ∷ is) ≡ answeredPieces l (length d) → decodedOf s ≡ Done (ReadVia w 0)
       → bit 0 (getD (callAnswers i l d) (8 * length is + 4) 0) ≡ lineAfterPieces (machineOf i) is
   -- And with PB0 an input it is the level that the chip gives the line, by the history of the pieces is.
-  pub input : (ls is : List Piece) (s : List ℕ) (w : ℕ) → ls ++ (whole s ∷ is) ≡ answeredPieces l (length d) → decodedOf s ≡ Done (ReadVia w 0)
+  pub input : (ls is : List Piece) (s : List ℕ) (w : WaitTicks) → ls ++ (whole s ∷ is) ≡ answeredPieces l (length d) → decodedOf s ≡ Done (ReadVia w 0)
       → bit 0 (machineAfterPieces (machineOf i) is .via .ports .dirb) ≡ false
       → bit 0 (getD (callAnswers i l d) (8 * length is + 4) 0) ≡ shownAfterPieces (machineOf i) is
