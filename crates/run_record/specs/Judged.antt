@@ -10,7 +10,7 @@ use Rattle.machine_spec.specs.Step.{stepOf}
 use Rattle.run_spec.specs.declared.Turn.{Turn}
 use Rattle.run_spec.specs.Turn.{refusedTurn, doneTurn, manyTurn}
 
--- "The state unchanged" where it is refused, else carried out: nothing is left to ask.
+-- Where it is refused: "state unchanged". Else it is carried out: nothing is left to ask.
 unfoldable pub turnJudged : Machine → List ℕ → Decoded → Turn
 turnJudged m s (Refused n) = refusedTurn m n
 turnJudged m s (Done i) = doneTurn (stepOf m i)

@@ -26,7 +26,7 @@ refusedTurn m n = record { machine = m; answer = noOf n }
 abbrev pub doneTurn : Did → Turn
 doneTurn d = record { machine = d .machine; answer = answerOf d }
 
--- "The state unchanged" where the item is refused, by itself or by the state; else it is carried out.
+-- Where the item is refused, by itself or by the state: "state unchanged". Else it is carried out.
 abbrev pub turnUnless : Machine → Item → ℕ → Turn
 turnUnless m x n = cond (eqb n 0) (doneTurn (stepOf m x)) (refusedTurn m n)
 

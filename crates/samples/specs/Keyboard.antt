@@ -36,7 +36,7 @@ pub record KeyboardSamples : Type 0 where
   pub level : levels 7 4 (ran (wr 0 14 0x84 ++ seven ++ kc 0 1 ++ rd 0 10) .answers) ≡ 0 ∷ 0 ∷ 1 ∷ 0 ∷ []
   -- $A7 out, whatever the levels: its bits, high-order first; then register 10 holds it as before.
   pub byteOut : valuesFrom 2 10 (shiftOut ++ wr 0 10 0xa7 ++ pulsesOf 8 8 0x3c ++ rd 0 13 ++ rd 0 10) ≡ 1 ∷ 0 ∷ 1 ∷ 0 ∷ 0 ∷ 1 ∷ 1 ∷ 1 ∷ 4 ∷ 0xa7 ∷ []
-  -- In another mode nothing moves and nothing counts: ACR bits 4 to 2 as 101, then one pulse in.
+  -- In another mode nothing moves and nothing counts: ACR bits 4 to 2 as 101.
   pub otherMode : valuesFrom 2 11 (wr 0 11 0x14 ++ wr 0 10 0xa7 ++ pulsesOf 8 8 0xff ++ rd 0 13 ++ shiftIn ++ rd 0 10) ≡ 0 ∷ 0 ∷ 0 ∷ 0 ∷ 0 ∷ 0 ∷ 0 ∷ 0 ∷ 0 ∷ 0 ∷ 0xa7 ∷ []
   -- Level 2 is refusal 5 in every mode, a byte too few or too many 3; a refused KC does not count.
   pub refused : valuesFrom 0 3 (kc 0 2 ++ (4 ∷ 0 ∷ 75 ∷ 67 ∷ 0 ∷ 0 ∷ []) ++ (6 ∷ 0 ∷ 75 ∷ 67 ∷ 0 ∷ 0 ∷ 2 ∷ 0 ∷ [])) ≡ 5 ∷ 3 ∷ 3 ∷ []
