@@ -519,10 +519,12 @@ fn many_writes_and_pulses() {
     let table = stdout(&output);
     let rows: Vec<Vec<&str>> =
         table.lines().skip(1).map(|row| row.split_whitespace().collect()).collect();
-    assert_eq!(rows[2], ["3", "4", "4t", "MW", "VIA.ORB", "$00", "..", "(34)", "-", "0", "1", "-"]);
-    assert_eq!(rows[7][..7], ["8", "12", "2t", "MW", "VIA.ORB", "$02", "$00"]);
+    // Item, byte offset, line of the text, VIA ticks, record.
+    assert_eq!(rows[2][..8], ["3", "22", "8", "4", "4t", "MW", "VIA.ORB", "$00"]);
+    assert_eq!(rows[2][8..], ["..", "(34)", "-", "0", "1", "-"]);
+    assert_eq!(rows[7][..9], ["8", "127", "14", "12", "2t", "MW", "VIA.ORB", "$02", "$00"]);
     let value = |kind: &str| -> Vec<u8> {
-        let values = rows.iter().filter(|row| row[3] == kind).map(|row| &row[row.len() - 4][1..]);
+        let values = rows.iter().filter(|row| row[5] == kind).map(|row| &row[row.len() - 4][1..]);
         values.map(|value| u8::from_str_radix(value, 16).expect("a value")).collect()
     };
     let byte = |bits: &[u8]| bits.iter().fold(0u8, |byte, bit| byte << 1 | bit & 1);

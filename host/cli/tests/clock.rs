@@ -84,7 +84,7 @@ fn refusals() {
         ("cut read 3", 7, "cut: not the image of an accepted state"),
         ("missing read 3", 74, "missing: "),
         ("missing write 3 1", 74, "missing: "),
-        ("", 64, "IMAGE ASK.. is missing"),
+        ("", 64, "IMAGE ASK is missing"),
         ("first", 64, "what is asked for is missing: read CELL, write CELL BYTE, seconds"),
         ("first reed 3", 64, "`reed` asks for nothing; what does is read CELL"),
         ("first read", 64, "`read` has other words after it"),

@@ -96,7 +96,7 @@ fn states_cells_and_ends() {
         shell(&folder, "exec \"$0\" step --text far --cells 256", &[], b"cell 255\nstate\nhelp\n");
     let shown = stdout(&done);
     assert!(shown.contains("cell 255: $00 before, $AA after\n"), "{shown}");
-    assert!(shown.contains("State image of kind SX, 360 bytes") && shown.contains("next [COUNT]"));
+    assert!(shown.contains("State image of kind SX, 361 bytes") && shown.contains("next [COUNT]"));
     // On the first chip that transaction writes nothing.
     let done = shell(&folder, "exec \"$0\" step --text far", &[], b"cell\n");
     assert!(stdout(&done).contains("no cell is written up to the end"), "{}", stdout(&done));

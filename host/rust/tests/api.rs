@@ -335,7 +335,8 @@ fn dumps_of_many_writes() {
     assert_eq!(items.len(), 5, "none, and four items: {items:?}");
 }
 
-/// The table has an MW's first value and their number, the bit that a KC shifts out, and one row each.
+/// The table has an MW's first value and their number, the bit that a KC shifts out, and one row each,
+/// with the byte offset of its record.
 #[test]
 fn tables_of_both_kinds() {
     let list: List =
@@ -345,11 +346,11 @@ fn tables_of_both_kinds() {
     let table = Machine::fresh(Chip::First).run_items(&list).to_string();
     let rows: Vec<&str> = table.lines().skip(1).collect();
     for (row, part) in rows.iter().zip([
-        "       1              5  5t MW VIA.SR $01 $80               -      0    1  -",
-        "       2              6  1t MW VIA.ACR $00 .. (4)           -      0    1  -",
-        "       3              6  0t KC 0                          $01      0    1  -",
-        "       4              6  0t KC 0                          $00      0    1  -",
-        "       5              6  0t WR VIA.ORB $01                  -      0    1  -",
+        "       1           0              5  5t MW VIA.SR $01 $80               -      0    1  -",
+        "       2          13              6  1t MW VIA.ACR $00 .. (4)           -      0    1  -",
+        "       3          28              6  0t KC 0                          $01      0    1  -",
+        "       4          35              6  0t KC 0                          $00      0    1  -",
+        "       5          42              6  0t WR VIA.ORB $01                  -      0    1  -",
     ]) {
         assert_eq!(*row, part);
     }
