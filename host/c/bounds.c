@@ -14,6 +14,9 @@
 
 #define GUARD 0x5A
 
+/* Items of the list that is run. */
+enum { ITEMS = 8 };
+
 struct buffer {
     uint8_t *page; /* the page that may be touched, between two that may not */
     size_t size;   /* of the page, in bytes */
@@ -65,7 +68,8 @@ static void call(const uint8_t *state, size_t state_len, const uint8_t *items, s
     place(&list, items, items_len, at_end);
     place(&answers, blank, room, at_end);
     memset(answers.at, 0xC3, room);
-    uint8_t stop = swarmtempo_run(image.at, state_len, list.at, items_len, answers.at, room, &counts[1], &counts[2]);
+    /* Both engines, by turns. */
+    uint8_t stop = (calls % 2 ? swarmtempo_run_plain : swarmtempo_run)(image.at, state_len, list.at, items_len, answers.at, room, &counts[1], &counts[2]);
     calls++;
     guards_hold(&image);
     guards_hold(&list);
@@ -135,7 +139,7 @@ static void fresh_images(void)
 static void null_buffers(const uint8_t *state, size_t state_len, const uint8_t *items, size_t len)
 {
     for (int i = 0; i < 8; i++) {
-        uint8_t copy[SWARMTEMPO_IMAGE_LEN_LATER], room[64];
+        uint8_t copy[SWARMTEMPO_IMAGE_LEN_LATER], room[8 * ITEMS];
         uint64_t consumed = 77, written = 78;
         int no_image = i & 1, no_list = i >> 1 & 1, no_room = i >> 2 & 1;
         memcpy(copy, state, state_len);
@@ -146,7 +150,7 @@ static void null_buffers(const uint8_t *state, size_t state_len, const uint8_t *
         int runs = !no_image && !no_list && !no_room;
         calls++;
         if (stop != expected) fail("a stop with NULL");
-        if (consumed != (runs ? len : 0) || written != (runs ? 48u : 0)) fail("counts with NULL");
+        if (consumed != (runs ? len : 0) || written != (runs ? 8u * ITEMS : 0)) fail("counts with NULL");
         if (!runs && memcmp(copy, state, state_len)) fail("the image changed with NULL");
     }
     if (swarmtempo_fresh(NULL, 0, SWARMTEMPO_CELLS_FIRST) != SWARMTEMPO_REFUSED_ROOM) fail("fresh at NULL");
@@ -159,7 +163,36 @@ static void null_buffers(const uint8_t *state, size_t state_len, const uint8_t *
     uint8_t answered = 81, answer = 82;
     if (swarmtempo_keyboard_fresh(NULL, 0, 3) != SWARMTEMPO_REFUSED_ROOM) fail("a fresh keyboard at NULL");
     if (swarmtempo_keyboard_wait(NULL, 0, 1, &answered, &answer) != SWARMTEMPO_REFUSED_STATE || answered || answer) fail("a keyboard at NULL");
-    calls += 7;
+    if (swarmtempo_transaction(NULL, 0, SWARMTEMPO_READ_CELL, 0, 0, NULL, 0, &written) != SWARMTEMPO_REFUSED_STATE || written) fail("a transaction at NULL");
+    written = 83;
+    if (swarmtempo_transaction(state, state_len, SWARMTEMPO_READ_CELL, 0, 0, NULL, 0, &written) != SWARMTEMPO_REFUSED_ROOM || written) fail("a transaction to NULL");
+    calls += 9;
+}
+
+/* Transactions of each kind with rooms about their length, images whole and cut. */
+static void transactions(const uint8_t *state, size_t state_len)
+{
+    static const uint8_t blank[704];
+    for (uint8_t ask = 0; ask <= 6; ask++)
+        for (uint32_t number = 0; number <= 300; number += 1 + number / 4 * 5)
+            for (size_t room = 0; room <= sizeof blank; room += room % 88 > 80 || !room ? 1 : 7)
+                for (int at_end = 0; at_end < 2; at_end++) {
+                    uint64_t counts[3] = {~0ull, 77, ~0ull};
+                    size_t len = room % 5 == 4 ? state_len - 1 : state_len;
+                    place(&image, state, len, at_end);
+                    place(&answers, blank, room, at_end);
+                    memset(answers.at, 0xC3, room);
+                    uint8_t stop = swarmtempo_transaction(image.at, len, ask, number, 0x5A, answers.at, room, &counts[1]);
+                    calls++;
+                    guards_hold(&image);
+                    guards_hold(&answers);
+                    if (counts[0] != ~0ull || counts[2] != ~0ull) fail("a byte beside the count was written");
+                    if (memcmp(image.at, state, len)) fail("the image was written");
+                    if ((len != state_len) != (stop == SWARMTEMPO_REFUSED_STATE)) fail("an image of another length");
+                    if (counts[1] > room || (stop && counts[1]) || (!stop && counts[1] < SWARMTEMPO_WRITE_LEN)) fail("a transaction's count");
+                    for (size_t i = counts[1]; i < room; i++)
+                        if (answers.at[i] != 0xC3) fail("bytes past the transaction changed");
+                }
 }
 
 /* Sheets of every length, sound and cut, with every room. */
@@ -201,9 +234,9 @@ static void runs(const uint8_t *state, size_t state_len, const uint8_t *items, s
 {
     uint64_t seed = 1;
     for (int at_end = 0; at_end < 2; at_end++) {
-        for (size_t n = 0; n <= 2 * SWARMTEMPO_IMAGE_LEN_LATER; n++) call(state, n, items, len, 48, at_end);
+        for (size_t n = 0; n <= 2 * SWARMTEMPO_IMAGE_LEN_LATER; n++) call(state, n, items, len, 8 * ITEMS, at_end);
         for (size_t n = 0; n <= len; n++)
-            for (size_t room = 0; room <= 56; room += 1 + room % 3) call(state, state_len, items, n, room, at_end);
+            for (size_t room = 0; room <= 8 * ITEMS + 8; room += 1 + room % 3) call(state, state_len, items, n, room, at_end);
     }
     for (unsigned long i = 0; i < rounds; i++) {
         uint8_t odd_items[256], odd_state[SWARMTEMPO_IMAGE_LEN_LATER];
@@ -212,13 +245,14 @@ static void runs(const uint8_t *state, size_t state_len, const uint8_t *items, s
         memcpy(odd_state, state, state_len);
         odd_items[(seed >> 33) % len] = (uint8_t)(seed >> 56);
         if (seed >> 20 & 1) odd_state[(seed >> 41) % state_len] = (uint8_t)(seed >> 25);
-        call(odd_state, state_len, odd_items, (seed >> 13) % (len + 1), (seed >> 7) % 64, (int)(seed >> 62 & 1));
+        call(odd_state, state_len, odd_items, (seed >> 13) % (len + 1), (seed >> 7) % 96, (int)(seed >> 62 & 1));
     }
 }
 
 int main(int argc, char **argv)
 {
     static const uint32_t cells[] = {SWARMTEMPO_CELLS_FIRST, SWARMTEMPO_CELLS_LATER};
+    static const uint8_t values[] = {0x0C, 0x00, 0x1C};
     uint8_t items[256];
     unsigned long rounds = argc > 1 ? strtoul(argv[1], NULL, 10) : 20000;
     size_t len = 0;
@@ -229,6 +263,8 @@ int main(int argc, char **argv)
     len += swarmtempo_sn(items + len, 65535, 1, 15, 0);
     len += swarmtempo_pw(items + len, 0, 0xFFFFFFFF);
     len += swarmtempo_in(items + len, 0, 4, 0);
+    len += swarmtempo_mw(items + len, 3, SWARMTEMPO_VIA(11), values, sizeof values);
+    len += swarmtempo_kc(items + len, 4, 1);
     len += swarmtempo_rd(items + len, 0, SWARMTEMPO_IWM(14));
     sheets();
     for (int at_end = 0; at_end < 2; at_end++)
@@ -238,6 +274,7 @@ int main(int argc, char **argv)
         size_t state_len = (size_t)swarmtempo_image_len(cells[i]);
         if (swarmtempo_fresh(state, sizeof state, cells[i])) fail("fresh");
         null_buffers(state, state_len, items, len);
+        transactions(state, state_len);
         runs(state, state_len, items, len, rounds);
     }
     printf("%lu calls\n", calls);

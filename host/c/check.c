@@ -1,6 +1,7 @@
 /*
- * Runs S2, S4, a save and restore amid a half-sent command, the later chip, and a conversion; asks for versions
- * and words, and reads answers. Fails where something differs.
+ * Runs S2, S4, a save and restore amid a half-sent command, many writes in one item, pulses of the keyboard's
+ * clock, the later chip, and a conversion; asks for versions and words, and reads answers. Fails where something
+ * differs.
  */
 #include <stdio.h>
 #include <stdlib.h>
@@ -82,7 +83,7 @@ static void save_and_restore(void)
     expect(len == sizeof list, "length of the transaction");
     fresh(whole);
     run(whole, list, len, answers, ITEMS);
-    expect(whole[33] == 0xAA, "cell 0");
+    expect(whole[34] == 0xAA, "cell 0");
     for (size_t cut = 0; cut <= ITEMS; cut++) {
         uint8_t image[SWARMTEMPO_IMAGE_LEN], saved[SWARMTEMPO_IMAGE_LEN];
         fresh(image);
@@ -92,6 +93,64 @@ static void save_and_restore(void)
         run(saved, list + cut * ITEM, (ITEMS - cut) * ITEM, parts + 8 * cut, ITEMS - cut);
         expect(memcmp(saved, whole, sizeof whole) == 0, "state after a restore");
         expect(memcmp(parts, answers, sizeof answers) == 0, "answers after a restore");
+    }
+}
+
+/* The bytes of an MW and of a KC; counts that no MW has. */
+static void writers(void)
+{
+    static const uint8_t values[] = {0xF9, 0xFB};
+    static const uint8_t many[] = {11, 0, 'M', 'W', 2, 3, 0xFE, 0xE1, 0xEF, 0, 2, 0xF9, 0xFB, 0xEE};
+    static const uint8_t pulse[] = {5, 0, 'K', 'C', 1, 2, 1, 0xEE};
+    uint8_t item[SWARMTEMPO_ITEM_MAX + 1], full[SWARMTEMPO_VALUES_MAX + 1] = {0};
+    memset(item, 0xEE, sizeof item);
+    expect(swarmtempo_mw(item, 1, SWARMTEMPO_VIA(0), full, 0) == 0, "an MW of no values");
+    expect(swarmtempo_mw(item, 1, SWARMTEMPO_VIA(0), full, sizeof full) == 0, "an MW of 65 values");
+    for (size_t i = 0; i < sizeof item; i++) expect(item[i] == 0xEE, "nothing is written of them");
+    expect(swarmtempo_mw(item, 0x0302, SWARMTEMPO_VIA(0), values, 2) == 13 && memcmp(item, many, sizeof many) == 0, "an MW's bytes");
+    memset(item, 0xEE, sizeof item);
+    expect(swarmtempo_kc(item, 0x0201, 1) == 7 && memcmp(item, pulse, sizeof pulse) == 0, "a KC's bytes");
+    expect(swarmtempo_mw(item, 0, SWARMTEMPO_VIA(0), full, SWARMTEMPO_VALUES_MAX) == SWARMTEMPO_ITEM_MAX, "the longest item");
+    expect(item[SWARMTEMPO_ITEM_MAX] == 0xEE, "no byte past it");
+}
+
+/* W-211: the transaction's writes of port B in one MW leave what they leave one by one. */
+static void many_writes(void)
+{
+    enum { ITEMS = 36, ITEM = 11, VALUES = ITEMS - 2 };
+    uint8_t list[ITEMS * ITEM], values[VALUES], item[SWARMTEMPO_ITEM_MAX], answers[8 * ITEMS], answer[8];
+    uint8_t single[SWARMTEMPO_IMAGE_LEN], many[SWARMTEMPO_IMAGE_LEN];
+    size_t len = transaction(list);
+    for (size_t i = 0; i < VALUES; i++) values[i] = list[(2 + i) * ITEM + 10];
+    fresh(single);
+    fresh(many);
+    run(single, list, len, answers, ITEMS);
+    run(many, list, 2 * ITEM, answers, 2);
+    run(many, item, swarmtempo_mw(item, 0, SWARMTEMPO_VIA(0), values, VALUES), answer, 1);
+    expect(many[34] == 0xAA, "cell 0 by an MW");
+    expect(memcmp(many, single, sizeof many) == 0, "state after an MW");
+    expect(memcmp(answer, answers + 8 * (ITEMS - 1), 8) == 0, "the answer of an MW is that of its last write");
+}
+
+/* W-210: eight pulses in leave their levels in register 10 and set flag 2; eight pulses out give them back. */
+static void pulses(void)
+{
+    static const uint8_t modes[] = {0x0C, 0x1C};
+    uint8_t image[SWARMTEMPO_IMAGE_LEN], item[SWARMTEMPO_ITEM_MAX], answer[8];
+    fresh(image);
+    run(image, item, swarmtempo_wr(item, 0, SWARMTEMPO_VIA(SWARMTEMPO_IER), 0x84), answer, 1);
+    for (unsigned mode = 0; mode < 2; mode++) {
+        run(image, item, swarmtempo_wr(item, 0, SWARMTEMPO_VIA(SWARMTEMPO_ACR), modes[mode]), answer, 1);
+        for (unsigned i = 0; i < 8; i++) {
+            uint8_t bit = 0xB2 >> (7 - i) & 1;
+            expect(image[23] == i, "pulses counted");
+            run(image, item, swarmtempo_kc(item, 0, mode ? 0 : bit), answer, 1);
+            expect(swarmtempo_answer_value(answer) == (mode ? bit : 0), "the value of a pulse");
+            expect(swarmtempo_answer_level(answer) == (i == 7), "the eighth pulse sets flag 2");
+        }
+        expect(image[18] == 0xB2 && image[23] == 0, "register 10 after eight pulses");
+        run(image, item, swarmtempo_rd(item, 0, SWARMTEMPO_VIA(SWARMTEMPO_SR)), answer, 1);
+        expect(swarmtempo_answer_value(answer) == 0xB2 && swarmtempo_answer_level(answer) == 0, "reading it clears flag 2");
     }
 }
 
@@ -117,10 +176,10 @@ static void later_chip(void)
         run(first, list, len, answers, 2);
         run_of(later, sizeof later, list, len, answers, 2);
         for (size_t cell = 20; cell < 256; cell++)
-            expect(later[103 + cell] == (cell == 255 && rise == 24 ? 0xAA : 0), "cells 20 to 255");
-        expect(first[23] == (rise < 8 ? 1 : 4), "the first chip ignores $3F");
+            expect(later[104 + cell] == (cell == 255 && rise == 24 ? 0xAA : 0), "cells 20 to 255");
+        expect(first[24] == (rise < 8 ? 1 : 4), "the first chip ignores $3F");
     }
-    for (size_t cell = 0; cell < 20; cell++) expect(first[33 + cell] == 0 && later[33 + cell] == 0, "cells 0 to 19");
+    for (size_t cell = 0; cell < 20; cell++) expect(first[34 + cell] == 0 && later[34 + cell] == 0, "cells 0 to 19");
     expect(swarmtempo_fresh(later, 0, 21) == SWARMTEMPO_REFUSED_RANGE, "a number of cells that no chip has");
     expect(swarmtempo_image_len(0) == 0 && swarmtempo_image_len(255) == 0 && swarmtempo_image_len(276) == 0, "its length");
 }
@@ -141,7 +200,7 @@ static void version(void)
     expect(strcmp(numbers, SWARMTEMPO_VERSION) == 0, "numbers of the version");
 }
 
-/* Words for every number that a run or an answer has, all different; the same ones for all others. */
+/* Words for every number of a refusal, 0 to 11, all different; the same ones for all others. */
 static void refusals(void)
 {
     const char *unknown = swarmtempo_refusal(255);
@@ -149,8 +208,8 @@ static void refusals(void)
     for (unsigned i = 0; i < 256; i++) {
         const char *words = swarmtempo_refusal((uint8_t)i);
         expect(words != NULL && *words, "words");
-        expect((strcmp(words, unknown) == 0) == (i > SWARMTEMPO_REFUSED_RETIRED && i != SWARMTEMPO_REFUSED_KEY), "numbers that have words");
-        for (unsigned j = 0; j < i && j <= SWARMTEMPO_REFUSED_RETIRED; j++)
+        expect((strcmp(words, unknown) == 0) == (i > SWARMTEMPO_REFUSED_KEY), "numbers that have words");
+        for (unsigned j = 0; j < i && j <= SWARMTEMPO_REFUSED_KEY; j++)
             expect(strcmp(words, swarmtempo_refusal((uint8_t)j)) != 0, "words of two numbers");
     }
 }
@@ -213,6 +272,9 @@ int main(void)
     refusals();
     readers();
     save_and_restore();
+    writers();
+    many_writes();
+    pulses();
     later_chip();
     conversion();
     return failures ? EXIT_FAILURE : EXIT_SUCCESS;

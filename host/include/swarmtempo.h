@@ -28,9 +28,9 @@ extern "C" {
 #endif
 
 /* The version of this header; swarmtempo_version() has that of the library. */
-#define SWARMTEMPO_VERSION "0.2.0"
+#define SWARMTEMPO_VERSION "0.3.0"
 #define SWARMTEMPO_VERSION_MAJOR 0
-#define SWARMTEMPO_VERSION_MINOR 2
+#define SWARMTEMPO_VERSION_MINOR 3
 #define SWARMTEMPO_VERSION_PATCH 0
 
 /* VIA ticks a second. */
@@ -44,10 +44,12 @@ extern "C" {
  * Bytes of a state image of this version, with the first chip (kind ST) and with the later one (kind SX);
  * swarmtempo_image_len(cells) has those of the library.
  */
-#define SWARMTEMPO_IMAGE_LEN 123
-#define SWARMTEMPO_IMAGE_LEN_LATER 360
-/* Bytes of the longest item that the functions below write. */
-#define SWARMTEMPO_ITEM_MAX 11
+#define SWARMTEMPO_IMAGE_LEN 124
+#define SWARMTEMPO_IMAGE_LEN_LATER 361
+/* Values of a swarmtempo_mw at most. */
+#define SWARMTEMPO_VALUES_MAX 64
+/* Bytes of the longest item that the functions below write: a swarmtempo_mw. Of all others it is 11. */
+#define SWARMTEMPO_ITEM_MAX 75
 
 /* How a run stopped (0, 1, 6, 7), and the numbers of NO answers (1 to 5, 8, 9). swarmtempo_fresh has 5 and 6. */
 #define SWARMTEMPO_END 0u             /* the end of the list */
@@ -55,7 +57,7 @@ extern "C" {
 #define SWARMTEMPO_REFUSED_KIND 2u    /* unknown kind */
 #define SWARMTEMPO_REFUSED_LENGTH 3u  /* length wrong for the kind */
 #define SWARMTEMPO_REFUSED_ADDRESS 4u /* none of the 32 addresses */
-#define SWARMTEMPO_REFUSED_RANGE 5u   /* line, drive, register or level out of range */
+#define SWARMTEMPO_REFUSED_RANGE 5u   /* line, drive, register, level or count out of range */
 #define SWARMTEMPO_REFUSED_ROOM 6u    /* list bytes remain, fewer than 8 answer bytes left; the item is not done */
 #define SWARMTEMPO_REFUSED_STATE 7u   /* the image is none of an accepted state; no buffer is changed */
 #define SWARMTEMPO_REFUSED_DISK 8u    /* a disk inserted where one is, or removed where none is */
@@ -114,6 +116,14 @@ uint8_t swarmtempo_run(uint8_t *image, size_t image_len, const uint8_t *list, si
                        uint8_t *answers, size_t answers_len, uint64_t *consumed, uint64_t *written);
 
 /*
+ * The same by the plain engine: the clock chip's command bytes are told by their bit patterns, where
+ * swarmtempo_run looks them up in its table. Both are proved to do the same; this one is for those who
+ * want to see it.
+ */
+uint8_t swarmtempo_run_plain(uint8_t *image, size_t image_len, const uint8_t *list, size_t list_len,
+                             uint8_t *answers, size_t answers_len, uint64_t *consumed, uint64_t *written);
+
+/*
  * Bytes of a state image of a machine whose clock chip has so many cells: SWARMTEMPO_CELLS_FIRST or
  * SWARMTEMPO_CELLS_LATER. 0 for any other number.
  */
@@ -139,11 +149,52 @@ uint8_t swarmtempo_fresh(uint8_t *image, size_t image_len, uint32_t cells);
 uint8_t swarmtempo_convert(const uint8_t *list, size_t list_len, uint8_t *out, size_t out_len,
                            uint64_t *written, uint64_t *count);
 
+/*
+ * ---- Transactions with the clock chip, written as items.
+ */
+/* What is asked for. */
+#define SWARMTEMPO_WRITE_CELL 1u    /* number: the cell; value: the byte */
+#define SWARMTEMPO_READ_CELL 2u     /* number: the cell */
+#define SWARMTEMPO_WRITE_SECONDS 3u /* number: the seconds byte, 0 (lowest) to 3; value: the byte */
+#define SWARMTEMPO_READ_SECONDS 4u  /* number: the seconds byte */
+#define SWARMTEMPO_WRITE_PROTECT 5u /* value: 0x80 sets write-protect, 0 clears it; its bit 7 alone counts */
+
+/* Bytes of a transaction, and its items: of cells 20 to 255 (FAR), and of all else. */
+#define SWARMTEMPO_WRITE_LEN 396
+#define SWARMTEMPO_WRITE_ITEMS 36
+#define SWARMTEMPO_READ_LEN 487
+#define SWARMTEMPO_READ_ITEMS 45
+#define SWARMTEMPO_WRITE_FAR_LEN 572
+#define SWARMTEMPO_WRITE_FAR_ITEMS 52
+#define SWARMTEMPO_READ_FAR_LEN 663
+#define SWARMTEMPO_READ_FAR_ITEMS 61
+/* Of the longest. */
+#define SWARMTEMPO_TRANSACTION_MAX 663
+#define SWARMTEMPO_TRANSACTION_ITEMS_MAX 61
+
+/* The clock's enable line is down: a transaction is under way. */
+#define SWARMTEMPO_REFUSED_ENABLE 10u
+
+/*
+ * Writes the items of one whole transaction with the clock chip of the state in `image` to `out`, each
+ * wait 0 VIA ticks; `*written` is their number of bytes. The image is only read. A run of them on this
+ * image, with SWARMTEMPO_ANSWER_LEN bytes for each item, ends with 0, does what was asked for unless
+ * write-protect forbids it, and changes nothing else but bits 0 to 2 of port B's outputs and directions.
+ * swarmtempo_transaction_byte takes the byte of a read from the answers.
+ *
+ * Returns 0, or the first of: 7 where no accepted state has this image; 5 where the chip has no such cell or
+ * seconds byte, or `ask` is none of the five; 10 where enable is down; 6 where out_len is too little. On
+ * these nothing is written and `*written` is 0. `value` is not looked at in a read, `number` is not where
+ * write-protect is written. Bytes past those written keep their contents.
+ */
+uint8_t swarmtempo_transaction(const uint8_t *image, size_t image_len, uint8_t ask, uint32_t number, uint8_t value,
+                               uint8_t *out, size_t out_len, uint64_t *written);
+
 /* Microseconds as VIA ticks, rounded up: 12,000 gives 9,401. One wait takes 65,535 ticks at most. */
 uint32_t swarmtempo_ticks_of_micros(uint32_t micros);
 
 /*
- * The version of the library, as "0.2.0". While its first number is 0, another second number may
+ * The version of the library, as "0.3.0". While its first number is 0, another second number may
  * have another image: a program asks that the first two are those of its header.
  */
 const char *swarmtempo_version(void);
@@ -258,6 +309,20 @@ static inline size_t swarmtempo_wr(uint8_t *at, uint16_t wait_via_ticks, uint32_
     return swarmtempo_item(at, 'W', 'R', wait_via_ticks, 5);
 }
 
+/*
+ * Writes so many bytes to one address, the first after the wait and the others with none; it has one answer,
+ * that of the last write. Returns 0, and writes nothing at `at`, where count is 0 or above
+ * SWARMTEMPO_VALUES_MAX; else 11 + count.
+ */
+static inline size_t swarmtempo_mw(uint8_t *at, uint16_t wait_via_ticks, uint32_t address, const uint8_t *values, size_t count)
+{
+    if (count == 0 || count > SWARMTEMPO_VALUES_MAX) return 0;
+    swarmtempo_long(at + 6, address);
+    at[10] = (uint8_t)count;
+    for (size_t i = 0; i < count; i++) at[11 + i] = values[i];
+    return swarmtempo_item(at, 'M', 'W', wait_via_ticks, 5 + count);
+}
+
 /* Vertical blanking. */
 static inline size_t swarmtempo_vb(uint8_t *at, uint16_t wait_via_ticks)
 {
@@ -300,6 +365,17 @@ static inline size_t swarmtempo_di(uint8_t *at, uint16_t wait_via_ticks, uint8_t
     return swarmtempo_item(at, 'D', 'I', wait_via_ticks, 4);
 }
 
+/*
+ * A pulse of the keyboard's clock, with level 0 or 1 on its data line. Where ACR bits 4 to 2 are 011 it shifts
+ * the level into register 10; where they are 111 it shifts a bit out, which is the answer's value; else it
+ * does nothing. Each eighth pulse of either sets flag 2.
+ */
+static inline size_t swarmtempo_kc(uint8_t *at, uint16_t wait_via_ticks, uint8_t level)
+{
+    at[6] = level;
+    return swarmtempo_item(at, 'K', 'C', wait_via_ticks, 1);
+}
+
 /* Reset. */
 static inline size_t swarmtempo_rs(uint8_t *at, uint16_t wait_via_ticks)
 {
@@ -336,7 +412,7 @@ static inline int swarmtempo_answer_done(const uint8_t *at)
     return swarmtempo_answer_refusal(at) == SWARMTEMPO_END;
 }
 
-/* The value read; 0 unless the item reads. */
+/* The value read, or of swarmtempo_kc the bit shifted out; else 0. */
 static inline uint8_t swarmtempo_answer_value(const uint8_t *at)
 {
     return swarmtempo_answer_done(at) ? at[4] : 0;
@@ -361,6 +437,21 @@ static inline uint8_t swarmtempo_answer_lines(const uint8_t *at)
 static inline uint8_t swarmtempo_answer_sel(const uint8_t *at)
 {
     return swarmtempo_answer_done(at) ? at[7] : 0;
+}
+
+/*
+ * The byte that a read transaction got, of `items` answers, SWARMTEMPO_READ_ITEMS or
+ * SWARMTEMPO_READ_FAR_ITEMS of them: bit 0 of its eight looks, the high bit first. The looks are every
+ * third item of the 25 at the end.
+ */
+static inline uint8_t swarmtempo_transaction_byte(const uint8_t *answers, size_t items)
+{
+    uint8_t byte = 0;
+    for (size_t k = 0; k < 8; k++) {
+        const uint8_t *at = answers + (items - 24 + 3 * k) * SWARMTEMPO_ANSWER_LEN;
+        byte = (uint8_t)(byte << 1 | (swarmtempo_answer_value(at) & 1));
+    }
+    return byte;
 }
 
 #ifdef __cplusplus

@@ -22,7 +22,7 @@ pub fn is_retired(row: &[u8]) -> bool
 {
     let s = body(row);
     if item_decode::is(s, b"SN") {
-        return item_plain::refusal(item_decode::decode(s)) == 9;
+        return item_plain::refusal(item_ranged::sense_item(s)) == 9;
     }
     false
 }
@@ -34,7 +34,7 @@ fn is_line0(row: &[u8]) -> bool
 {
     let s = body(row);
     if item_decode::is(s, b"IN") {
-        if item_plain::refusal(item_decode::decode(s)) == 0 {
+        if item_plain::refusal(item_ranged::line_item(s)) == 0 {
             return row[6] == 0;
         }
         return false;

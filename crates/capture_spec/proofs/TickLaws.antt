@@ -42,7 +42,7 @@ next-line0 m r h = go (retiredOf r) (line0Of r) refl
 -- ---- one record
 
 -- the IN that is written is carried out, with the wait of the SN
-line-ticks : (m : Levels) (r : List ℕ) (e : Bool) → m .line0 ≤ 1 → passes refusalAfter e (lineFor m r) ≡ recordWait (bodyOf r)
+line-ticks : (m : Levels) (r : List ℕ) (e : Bool) → m .line0 ≤ 1 → passes refusalAfter e (lineFor m r) ≡ recordWait (bodyOf r) .0
 unfolding passes refusalAfter isDisk isKind decodedOf lineRecord le16Of lineFor
 line-ticks m r e h = simp (le-ltb 1 (m .line0) h, getD-drop 2 r 2 0, getD-drop 2 r 3 0)
 
@@ -58,7 +58,7 @@ unfolding passes isDisk isKind le16Of diskFor
 disk-ticks m r e = none 0 (eqb (refusalAfter (diskFor m r)) 0) true e refl
 
 -- a valid retired SN was carried out
-retired-ticks : (r : List ℕ) (e : Bool) → isDisk r ≡ false → retiredOf r ≡ true → passes refusalBefore e r ≡ recordWait (bodyOf r)
+retired-ticks : (r : List ℕ) (e : Bool) → isDisk r ≡ false → retiredOf r ≡ true → passes refusalBefore e r ≡ recordWait (bodyOf r) .0
 unfolding passes refusalBefore
 retired-ticks r e d h = simp (d, h)
 

@@ -20,7 +20,7 @@ isDisk r = isKind (bodyOf r) (68 ∷ 73 ∷ [])
 
 -- VIA ticks that a record passes: its wait, where it is carried out. `eight` says whether the state refuses a DI.
 unfoldable pub passes : (List ℕ → ℕ) → Bool → List ℕ → ℕ
-passes refusal eight r = cond (eqb (refusal r) 0) (cond (isDisk r) (cond eight 0 (recordWait (bodyOf r))) (recordWait (bodyOf r))) 0
+passes refusal eight r = cond (eqb (refusal r) 0) (cond (isDisk r) (cond eight 0 (recordWait (bodyOf r) .0)) (recordWait (bodyOf r) .0)) 0
 
 -- VIA ticks that a capture passes, whichever of its DI are refused with 8: `eight n` speaks of the record with n before it.
 unfoldable pub ticks : (List ℕ → ℕ) → (ℕ → Bool) → ℕ → Capture → ℕ

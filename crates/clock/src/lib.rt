@@ -3,6 +3,7 @@ ghost use mathlib.Core.Path.{_≡_};
 ghost use mathlib.Core.Bool.{true};
 ghost use Rattle.clock_spec.specs.Phase.{counts, fewBits, hear, acceptedPhase};
 ghost use Rattle.clock.specs.Step.{withPhase, freshClock, afterByte, afterEdge, stepWires};
+use clock_command::Engine;
 use clock_spec::Bytes;
 use clock_spec::Chip;
 use clock_spec::Edge;
@@ -34,12 +35,12 @@ pub fn fresh(chip: Chip) -> Clock
 
 impl Clock {
     // The last bit of a byte.
-    fn hear(self, bytes: Bytes, b: u8) -> Clock
+    fn hear(self, engine: Engine, bytes: Bytes, b: u8) -> Clock
         ensures { λ r. ⌜ r ≡ afterByte (self .store) bytes b (hear (self .store .chip) bytes b) ⌝ }
     {
         let s = self.store;
         let chip = s.chip;
-        match clock_command::hear(chip, bytes, b) {
+        match clock_command::hear(engine, chip, bytes, b) {
             Verdict::More => {
                 let more = clock_phase::with_byte(bytes, b);
                 Clock {
@@ -73,13 +74,13 @@ impl Clock {
     }
 
     // A rise while bits are taken.
-    fn take(self, bytes: Bytes, n: u8, v: u8, b: bool) -> Clock
+    fn take(self, engine: Engine, bytes: Bytes, n: u8, v: u8, b: bool) -> Clock
         requires { ⌜ fewBits n v ≡ true ⌝ }
         ensures { λ r. ⌜ r ≡ afterEdge (withPhase self (Phase.Listening bytes n v)) (Edge.Rise b) ⌝ }
     {
         let w = clock_phase::pushed(v, b);
         if n == 7 {
-            return self.hear(bytes, w);
+            return self.hear(engine, bytes, w);
         }
         let s = self.store;
         Clock {
@@ -92,13 +93,13 @@ impl Clock {
         }
     }
 
-    fn rise(self, b: bool) -> Clock
+    fn rise(self, engine: Engine, b: bool) -> Clock
         requires { ⌜ counts (self .phase) ≡ true ⌝ }
         ensures { λ r. ⌜ r ≡ afterEdge self (Edge.Rise b) ⌝ }
     {
         let p = self.phase;
         match p {
-            Phase::Listening { bytes, count, bits } => self.take(bytes, count, bits, b),
+            Phase::Listening { bytes, count, bits } => self.take(engine, bytes, count, bits, b),
             _ => self,
         }
     }
@@ -118,8 +119,8 @@ impl Clock {
         }
     }
 
-    // The levels before an item and after it.
-    pub fn step(self, before: Wires, after: Wires) -> Clock
+    // The levels before an item and after it; the engine is how command bytes are looked up.
+    pub fn step(self, engine: Engine, before: Wires, after: Wires) -> Clock
         requires { ⌜ acceptedPhase (self .store .chip) (self .phase) (before .enable) ≡ true ⌝ }
         ensures { λ r. ⌜ r ≡ stepWires self before after ⌝ }
     {
@@ -144,7 +145,7 @@ impl Clock {
             }
             Edge::Still => self,
             Edge::Fall => self.fall(),
-            Edge::Rise(b) => self.rise(b),
+            Edge::Rise(b) => self.rise(engine, b),
         }
     }
 }

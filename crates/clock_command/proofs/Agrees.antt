@@ -1,30 +1,54 @@
--- The arithmetic is the patterns: one computed test over the 256 bytes, carried to each of them.
+-- The table is the patterns, and so is the plain engine: one computed test of each over the 256 bytes, for each chip, carried to each of them.
 use mathlib.Core.Path.{_≡_, refl, sym, ap, _∙_}
 use mathlib.Core.Bool.{Bool, true, false, cond, _&&_}
-use Prim.Native.Nat.{ℕ, _+_, _*_, _/_, _%_, _<_}
+use Prim.Native.Nat.{ℕ, zero, suc, _+_, _*_, _/_, _%_, _<_}
 use native.Mathlib.Omega.{arith}
 use lib.Dec.{ltb, eqb}
+use lib.ListN.{getD}
 use borrow.Author.Tests.{ltb-true}
 use Rattle.levels.proofs.Laws.{both}
 use Rattle.clock_spec.specs.Command.{either, Legal}
 use Rattle.clock_spec.specs.Patterns.{secondMarks, bitsHighFirst, fits, digits, meant, secondMeant}
-use Rattle.clock_spec.proofs.Commands.{listed, at-each}
+use Rattle.clock_spec.proofs.Commands.{listed, at-each, one}
 use Rattle.clock_spec.proofs.CommandRange.{meant-legal}
 use Rattle.clock_spec.specs.declared.Chip.{Chip}
 use Rattle.clock_spec.specs.declared.Chip.the-variants.{First, Later}
 use Rattle.clock_spec.specs.declared.Target.the-variants.{Cell}
 use Rattle.clock_spec.specs.declared.Command.{Command}
 use Rattle.clock_spec.specs.declared.Command.the-variants.{Write, Read, Extended, Illegal}
-use Rattle.clock_command.specs.Decode.{named, decode, secondOf, HighInRange}
+use Rattle.clock_command.specs.Decode.{decode, shortOf, secondOf, HighInRange}
+use Rattle.clock_command.specs.Table.{table, entryOf}
+
+-- What the table says of a first byte.
+abbrev tableOf : Chip → ℕ → Command
+tableOf k c = entryOf k (getD table c 0)
+
+whole-table : (k : Chip) → listed (tableOf k) 256 ≡ listed (meant k) 256
+unfolding entryOf table meant
+whole-table First = refl
+whole-table Later = refl
+
+-- W-207: "every entry agrees with the bit patterns of document 01 and W-206".
+pub table-agrees : (k : Chip) (c : ℕ) → c < 256 → entryOf k (getD table c 0) ≡ meant k c
+table-agrees k c l = at-each (tableOf k) (meant k) 256 (whole-table k) c l
 
 computed : (k : Chip) → listed (decode k) 256 ≡ listed (meant k) 256
-unfolding decode named meant
+unfolding decode shortOf meant
 computed First = refl
 computed Later = refl
 
--- Every first byte means what the patterns say.
+-- Every first byte means to the plain engine what the patterns say.
 pub agrees : (k : Chip) (c : ℕ) → c < 256 → decode k c ≡ meant k c
 agrees k c l = at-each (decode k) (meant k) 256 (computed k) c l
+
+-- How many of the entries are legal first bytes: "66 legal first bytes on the later chip, 50 on the first".
+abbrev pub entries : Chip → ℕ → ℕ
+entries k zero = 0
+entries k (suc n) = entries k n + one (tableOf k n)
+
+pub entry-counts : (entries Later 256 ≡ 66) × (entries First 256 ≡ 50)
+unfolding entryOf table
+entry-counts = (refl, refl)
 
 -- Which second bytes are taken.
 abbrev taken : ℕ → Bool

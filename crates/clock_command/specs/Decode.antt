@@ -1,6 +1,7 @@
--- The commands by arithmetic, as the code works them out. What they mean is clock_spec's patterns: proofs/Agrees.antt.
+-- The commands as the plain engine works them out. What they mean is clock_spec's patterns: proofs/Agrees.antt.
 use mathlib.Core.Bool.{Bool, true, false, cond, _&&_}
-use Prim.Native.Nat.{ℕ, _+_, _-_, _*_, _/_, _%_, _<_}
+use Prim.Native.Nat.{ℕ, _+_, _*_, _/_, _%_, _<_}
+use lib.Bits.{bitAnd}
 use lib.Dec.{leb, ltb, eqb}
 use Rattle.clock_spec.specs.Command.{either}
 use Rattle.clock_spec.specs.declared.Chip.{Chip}
@@ -14,25 +15,18 @@ abbrev pub isLater : Chip → Bool
 isLater First = false
 isLater Later = true
 
--- A pattern with 0 in place of z: it can only be written.
-abbrev pub writeOnly : Bool → Target → Command
-writeOnly z t = cond z Illegal (Write t)
-
--- zkkkkk01.
-unfoldable pub named : Bool → ℕ → Command
-named z k =
-    cond (ltb k 4) (either z (Seconds k))
-    (cond (ltb k 8) Illegal
-    (cond (ltb k 12) (either z (Cell (k + 8)))
-    (cond (eqb k 12) (writeOnly z Test)
-    (cond (eqb k 13) (writeOnly z Protect)
-    (cond (ltb k 16) Illegal
-    (either z (Cell (k - 16))))))))
+-- Document 01's patterns in turn, by the bits that each fixes.
+unfoldable pub shortOf : ℕ → Command
+shortOf c =
+    cond (eqb (bitAnd c 0x73) 0x01) (either (leb 128 c) (Seconds (c / 4 % 4)))
+    (cond (eqb c 0x31) (Write Test)
+    (cond (eqb c 0x35) (Write Protect)
+    (cond (eqb (bitAnd c 0x73) 0x21) (either (leb 128 c) (Cell (16 + c / 4 % 4)))
+    (cond (eqb (bitAnd c 0x43) 0x41) (either (leb 128 c) (Cell (c / 4 % 16)))
+    Illegal))))
 
 unfoldable pub decode : Chip → ℕ → Command
-decode k c =
-    cond (isLater k && eqb (c % 128 / 8) 7) (Extended (leb 128 c) (c % 8))
-    (cond (eqb (c % 4) 1) (named (leb 128 c) (c % 128 / 4)) Illegal)
+decode k c = cond (isLater k && eqb (bitAnd c 0x78) 0x38) (Extended (leb 128 c) (c % 8)) (shortOf c)
 
 -- z and abc of the first byte, d the second.
 unfoldable pub secondOf : Bool → ℕ → ℕ → Command

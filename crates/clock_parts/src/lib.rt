@@ -6,6 +6,7 @@ ghost use Rattle.clock_spec.specs.Shared.{advance, stops};
 ghost use Rattle.clock.specs.Step.{stepWires};
 ghost use Rattle.clock_parts.specs.Parts.{wholeClock, corePhase, coreSeconds, FitsPhase};
 use clock::Clock;
+use clock_command::Engine;
 use clock_spec::Bytes;
 use clock_spec::Chip;
 use clock_spec::Edge;
@@ -13,13 +14,13 @@ use clock_spec::Phase;
 use clock_spec::Store;
 use clock_spec::Wires;
 
-// The clock but for its cells.
+// The clock but for its cells. The phase's six bytes stand across a multiple of eight: within one, compiled code packs and unpacks them at every item.
 pub struct Core {
-    pub phase: Phase,
     pub chip: Chip,
-    pub seconds: u32,
     pub protect: bool,
     pub test: u8,
+    pub phase: Phase,
+    pub seconds: u32,
 }
 
 pub fn core_of(c: Clock) -> Core
@@ -143,7 +144,7 @@ fn phase_after(p: Phase, e: Edge) -> PhaseAfter
 }
 
 // The clock's step by the levels before an item and after it. The cells are touched at the last bit of a byte alone.
-pub fn step(k: Core, before: Wires, after: Wires, cells: &mut [u8; 256]) -> Core
+pub fn step(engine: Engine, k: Core, before: Wires, after: Wires, cells: &mut [u8; 256]) -> Core
     requires { ⌜ acceptedPhase (k .chip) (k .phase) (before .enable) ≡ true ⌝ }
     ensures { λ r. ⌜ wholeClock r (now (cells .exit)) ≡ stepWires (wholeClock k (now (cells .entry))) before after ⌝ }
 {
@@ -158,7 +159,7 @@ pub fn step(k: Core, before: Wires, after: Wires, cells: &mut [u8; 256]) -> Core
             test: k.test,
         },
         PhaseAfter::ByStore => {
-            let c = whole_clock(k, *cells).step(before, after);
+            let c = whole_clock(k, *cells).step(engine, before, after);
             *cells = cells_of(c);
             core_of(c)
         }

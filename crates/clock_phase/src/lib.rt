@@ -4,6 +4,7 @@ ghost use Prim.Native.Nat.{_<_, _+_, _*_};
 ghost use Rattle.clock_spec.specs.Command.{bitNumber};
 ghost use Rattle.clock_spec.specs.Phase.{between, withByte, fallPhase, fewBits, isMore, moreFollows, shownLevel, acceptedPhase};
 ghost use Rattle.clock_spec.specs.declared.Phase.{Phase};
+use clock_command::Engine;
 use clock_spec::Bytes;
 use clock_spec::Chip;
 use clock_spec::Edge;
@@ -101,14 +102,14 @@ fn is_more(v: Verdict) -> bool
     }
 }
 
-// Whether another byte follows these.
+// Whether another byte follows these. Legality has one definition, so either engine will do here.
 fn more_follows(chip: Chip, bytes: Bytes) -> bool
     ensures { λ r. ⌜ r ≡ moreFollows chip bytes ⌝ }
 {
     match bytes {
         Bytes::Nothing => true,
-        Bytes::One(c) => is_more(clock_command::hear(chip, Bytes::Nothing, c)),
-        Bytes::Two(c, d) => is_more(clock_command::hear(chip, Bytes::One(c), d)),
+        Bytes::One(c) => is_more(clock_command::hear(Engine::Table, chip, Bytes::Nothing, c)),
+        Bytes::Two(c, d) => is_more(clock_command::hear(Engine::Table, chip, Bytes::One(c), d)),
     }
 }
 

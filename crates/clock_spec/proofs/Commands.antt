@@ -29,7 +29,7 @@ at-each f g (suc n) h c l =
     let r : listed f n ≡ listed g n = cc in
     last-or-before f g n c (eqb c n) refl (cc) (at-each f g n r c) l
 
-abbrev one : Command → ℕ
+abbrev pub one : Command → ℕ
 one (Write t) = 1
 one (Read t) = 1
 one (Extended z a) = 1

@@ -2,7 +2,7 @@
 use mathlib.Core.Path.{_≡_, refl}
 use mathlib.Core.List.{List, [], _∷_, _++_}
 use Prim.Native.Nat.{ℕ, zero, suc, _+_, _-_, _*_, _/_, _%_, _^_}
-use lib.ListN.{getD}
+use lib.ListN.{length, getD}
 use Rattle.levels.specs.Levels.{allBelow}
 use Rattle.octets.specs.Octets.{le16Of, le32Of}
 use Rattle.item_spec.specs.Record.{frameOf}
@@ -22,6 +22,7 @@ use Rattle.disk_spec.specs.Strobe.{acceptedStrobe}
 use Rattle.disk_spec.specs.Drives.{acceptedDrives}
 use Rattle.item_spec.specs.Addresses.{placeFrom, foundOf}
 use Rattle.item_spec.specs.Items.{writeRecord, powerRecord}
+use Rattle.item_spec.specs.Many.{countedRecord, manyRecord}
 use Rattle.item_spec.specs.Kinds.{isKind, decodedOf}
 use Rattle.machine_spec.specs.declared.Machine.{Machine}
 use Rattle.machine_spec.specs.Pins.{wiresOf}
@@ -34,7 +35,7 @@ use Rattle.run_spec.specs.Outcome.{cut, piecesFrom, onto, onPiece, runPieces, r
 use Rattle.history.specs.History.{History, wiresAt, rises, endingAt, protectAt, endingClear, last, secondsAt}
 use Rattle.history.specs.Start.{freshStart}
 use Rattle.history.specs.Items.{stateAfter, historyOf}
-use Rattle.demand3.specs.Runs.{answeredAfter, answeredPieces, historyOfPieces}
+use Rattle.demand3.specs.Runs.{entriesOfItems, answeredAfter, answeredPieces, historyOfPieces}
 
 -- WR of v to register 2, direction B, with no wait.
 abbrev direct : ℕ → List ℕ
@@ -94,6 +95,17 @@ Cell-0-is l room b = Cell-is First 0 l room b
 abbrev long : ℕ → ℕ → ℕ → ℕ → List ℕ
 long n c d b = down ++ bits 8 c ++ bits 8 d ++ bits n (b / 2 ^ (8 - n)) ++ up
 
+-- The same transaction as the values of one MW to register 2, 34 of them.
+abbrev edges : ℕ → ℕ → List ℕ
+edges zero b = []
+edges (suc n) b = (4 + 2 + (1 - b / 2 ^ n % 2)) ∷ (4 + (1 - b / 2 ^ n % 2)) ∷ edges n b
+
+abbrev many : List ℕ → List ℕ
+many vs = (9 + length vs) ∷ 0 ∷ 77 ∷ 87 ∷ 0 ∷ 0 ∷ 0xFE ∷ 0xE5 ∷ 0xEF ∷ 0 ∷ length vs ∷ vs
+
+abbrev sendMany : ℕ → ℕ → List ℕ
+sendMany c b = many (7 ∷ (edges 8 c ++ edges 8 b ++ (0 ∷ [])))
+
 -- Every edge is made by the direction register. The sixteenth rise of `send` is its 48th record.
 pub record RunExamples : Type 0 where
   pub write : Cell-0-is (send 0x41 0xAA) plenty 0xAA
@@ -108,12 +120,17 @@ pub record RunExamples : Type 0 where
   -- W-206: at the 24th rise and not at the 23rd.
   pub rise24 : Cell-is Later 0xFF (long 8 0x3F 0x7C 0xAA) plenty 0xAA
   pub rise23 : Cell-is Later 0xFF (long 7 0x3F 0x7C 0xAA) plenty 0
+  -- W-211: a write whole within one MW, its 34 entries in one record; under protect, set within one; cleared again within one.
+  pub manyWrite : Cell-0-is (sendMany 0x41 0xA6) 8 0xA6
+  pub manyProtected : Cell-0-is (sendMany 0x35 0x80 ++ sendMany 0x41 0xA6) plenty 0
+  pub manyCleared : Cell-0-is (sendMany 0x35 0x80 ++ sendMany 0x35 0x7F ++ sendMany 0x41 0xA6) plenty 0xA6
+  pub manyEntries : length (told First (sendMany 0x41 0xA6 ++ off5) plenty) ≡ 35
 
 pub runExamples : RunExamples
-unfolding runOf runPieces onPiece onto piecesFrom cut turnOf frameOf le16Of le32Of decodedOf isKind writeRecord powerRecord foundOf placeFrom
+unfolding runOf runPieces onPiece onto piecesFrom cut turnOf frameOf le16Of le32Of decodedOf isKind writeRecord powerRecord countedRecord manyRecord foundOf placeFrom
     stepOf itemWait eventOf actedOf refusesOf acceptedOf acceptedDrives acceptedDrive acceptedStrobe allBelow linesOff acceptedVia freshVia ticks viaWritten portsWritten wiresOf
     acceptedPhase shownLevel stepWires between next acts hear act put meant secondMeant unusedClear fetch replace
-    answeredAfter stateAfter historyOf wiresAt rises endingAt protectAt endingClear last secondsAt
+    entriesOfItems answeredAfter stateAfter historyOf wiresAt rises endingAt protectAt endingClear last secondsAt
 runExamples = record {
   write = (refl, refl);
   fifteenRises = (refl, refl);
@@ -126,4 +143,8 @@ runExamples = record {
   noRoomForIt = (refl, refl);
   rise24 = (refl, refl);
   rise23 = (refl, refl);
+  manyWrite = (refl, refl);
+  manyProtected = (refl, refl);
+  manyCleared = (refl, refl);
+  manyEntries = refl;
 }

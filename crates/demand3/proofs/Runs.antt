@@ -6,6 +6,7 @@ use Prim.Native.Nat.{ℕ, _-_, _^_, _<_}
 use native.Mathlib.Omega.{arith}
 use lib.Dec.{ltb, eqb}
 use lib.ListN.{length, getD}
+use Rattle.units.specs.declared.WaitTicks.{WaitTicks}
 use Rattle.levels.specs.Levels.{allBelow}
 use Rattle.via.specs.declared.Ports.{Ports}
 use Rattle.via.specs.Via.{freshVia, acceptedVia}
@@ -23,34 +24,37 @@ use Rattle.disk_spec.specs.Sense.{acceptedDrive}
 use Rattle.disk_spec.specs.Strobe.{acceptedStrobe}
 use Rattle.disk_spec.specs.Drives.{acceptedDrives}
 use Rattle.item_spec.specs.declared.Item.{Item}
-use Rattle.item_spec.specs.declared.Item.the-variants.{ReadVia, ReadIwm, WriteVia, WriteIwm, Blank, Second, Line, Sense, Reset, Power, Disk}
+use Rattle.item_spec.specs.declared.Item.the-variants.{ReadVia, ReadIwm, WriteVia, WriteIwm, Blank, Second, Line, Sense, Reset, Power, Disk, Pulse}
 use Rattle.item_spec.specs.declared.Decoded.{Decoded}
 use Rattle.item_spec.specs.declared.Decoded.the-variants.{Done, Refused}
+use Rattle.item_spec.specs.Many.{singlesOf}
 use Rattle.item_spec.specs.Kinds.{decodedOf}
 use Rattle.machine_spec.specs.declared.Machine.{Machine}
 use Rattle.machine_spec.specs.Pins.{pin, wiresOf}
 use Rattle.machine_spec.specs.Machine.{wires, acceptedOf, freshMachine}
-use Rattle.machine_spec.specs.Accesses.{viaRead, iwmRead}
+use Rattle.machine_spec.specs.Accesses.{viaRead, iwmRead, keyboardPulse}
 use Rattle.machine_spec.specs.Action.{eventOf, actedOf}
 use Rattle.machine_spec.specs.Stages.{itemWait, afterWait, refusesOf}
-use Rattle.machine_spec.specs.Step.{stepOf}
+use Rattle.machine_spec.specs.Step.{stepOf, afterItems}
 use Rattle.machine_spec.proofs.MachineLaws.{parts}
 use Rattle.machine_spec.proofs.Drives.{disk-wires}
+use Rattle.machine_spec.proofs.Stages.{waited-wires}
+use Rattle.machine_spec.proofs.Step.{pulse-quiet}
 use Rattle.run_spec.specs.Turn.{refusedTurn, doneTurn, turnBy, turnOf}
 use Rattle.run_spec.specs.Outcome.{Piece, whole, broken, pieces, halt, onto, onPiece, runPieces, runOf}
 use Rattle.history.specs.History.{wiresAt}
-use Rattle.history.specs.Start.{Accepted, freshStart}
+use Rattle.history.specs.Start.{startOf, Accepted, freshStart}
 use Rattle.history.specs.Demand3.{clockAfter, StoreIs}
 use Rattle.history.specs.Items.{stateAfter, FollowsEntries}
-use Rattle.demand3.specs.Runs.{afterPiece, eventBy, eventAt, traceOf, answeredAfter, historyOfPieces, answeredPieces, startOfRun, Run3}
+use Rattle.demand3.specs.Runs.{afterPiece, entryOf, eventUnless, entriesOfItems, entriesBy, traceOf, answeredAfter, historyOfPieces, answeredPieces, startOfRun, Run3}
 use Rattle.history.proofs.Keeps.{step-still}
-use Rattle.history.proofs.Driven.{machine3}
+use Rattle.history.proofs.Driven.{wires-append, clock-append, machine3}
 
 -- ---- one item
 
 -- Before the wires are compared an item has moved the clock's seconds by its event, and nothing else of the clock.
 acted-clock : (m : Machine) (i : Item) → actedOf m i .machine .clock ≡ withStore (m .clock) (withEvent (eventOf i) (m .clock .store))
-unfolding actedOf eventOf viaRead iwmRead
+unfolding actedOf eventOf viaRead iwmRead keyboardPulse
 acted-clock m (ReadVia w r) = refl
 acted-clock m (ReadIwm w k) = refl
 acted-clock m (WriteVia w r v) = refl
@@ -62,6 +66,7 @@ acted-clock m (Sense w d r v) = refl
 acted-clock m (Reset w) = refl
 acted-clock m (Power w s) = refl
 acted-clock m (Disk w d i l b) = refl
+acted-clock m (Pulse w l) = refl
 
 -- The step by the wires with the data line as it was shown before is the step by the wires as they are after.
 settled-wires : (p : Ports) (c : Clock) (w : Wires)
@@ -78,19 +83,42 @@ done-is m i =
     ∙ ap (λ (c : Clock). stepWires c (wires m) (wires (stepOf m i .machine))) (acted-clock (afterWait (itemWait i) m) i)
 
 -- A DI done leaves the whole clock as it is.
-pub disk-still : (m : Machine) (w d i l b : ℕ) → Accepted (m .clock) (wires m) → stepOf m (Disk w d i l b) .machine .clock ≡ m .clock
+pub disk-still : (m : Machine) (w : WaitTicks) (d i l b : ℕ) → Accepted (m .clock) (wires m) → stepOf m (Disk w d i l b) .machine .clock ≡ m .clock
 unfolding stepOf itemWait actedOf
 disk-still m w d i l b ok =
     ap (stepWires (m .clock) (wires m)) (disk-wires m w d i l b) ∙ step-still (m .clock) (wires m) ok
+
+-- And so does a KC.
+pub pulse-still : (m : Machine) (w : WaitTicks) (l : ℕ) → Accepted (m .clock) (wires m) → stepOf m (Pulse w l) .machine .clock ≡ m .clock
+unfolding stepOf itemWait actedOf keyboardPulse
+pulse-still m w l ok =
+    ap (stepWires (m .clock) (wires m)) (pulse-quiet w l (afterWait (w .0) m) .0 ∙ waited-wires (w .0) m) ∙ step-still (m .clock) (wires m) ok
 
 -- A refused one leaves all as it is.
 refused-is : (m : Machine) → Accepted (m .clock) (wires m) → m .clock ≡ stepClock quiet (m .clock) (wires m) (wires m)
 refused-is m ok = sym (step-still (m .clock) (wires m) ok)
 
-turn-is : (m : Machine) (d : Decoded) → Accepted (m .clock) (wires m)
-    → turnBy m d .machine .clock ≡ stepClock (eventBy m d) (m .clock) (wires m) (wires (turnBy m d .machine))
-turn-is m (Refused n) ok = refused-is m ok
-turn-is m (Done x) ok = go (eqb (refusesOf m x) 0)
+-- Items done one after the other are the clock's steps by their entries, and leave the wires of the newest.
+items-clock : (is : List Item) (m : Machine) → afterItems m is .clock ≡ clockAfter (m .clock) (wires m) (entriesOfItems m is)
+unfolding entriesOfItems clockAfter wiresAt
+items-clock [] m = refl
+items-clock (i ∷ is) m =
+    let n : Machine = stepOf m i .machine in
+    items-clock is n
+    ∙ ap (λ (c : Clock). clockAfter c (wires n) (entriesOfItems n is)) (done-is m i)
+    ∙ sym (clock-append (m .clock) (wires m) (entriesOfItems n is) (entryOf n (eventOf i) ∷ []))
+
+items-wires : (is : List Item) (m : Machine) → wires (afterItems m is) ≡ wiresAt (startOf (m .clock) (wires m)) (entriesOfItems m is)
+unfolding entriesOfItems wiresAt
+items-wires [] m = refl
+items-wires (i ∷ is) m =
+    let n : Machine = stepOf m i .machine in
+    items-wires is n ∙ sym (wires-append (m .clock) (wires m) (n .clock) (entriesOfItems n is) (entryOf n (eventOf i) ∷ []))
+
+-- An item, done or refused by the state.
+item-is : (m : Machine) (s : List ℕ) (x : Item) → Accepted (m .clock) (wires m)
+    → turnBy m s (Done x) .machine .clock ≡ stepClock (eventUnless m x) (m .clock) (wires m) (wires (turnBy m s (Done x) .machine))
+item-is m s x ok = go (eqb (refusesOf m x) 0)
   where
     turn : Bool → Machine
     turn t = cond t (doneTurn (stepOf m x)) (refusedTurn m (refusesOf m x)) .machine
@@ -99,15 +127,31 @@ turn-is m (Done x) ok = go (eqb (refusesOf m x) 0)
     go true = done-is m x
     go false = refused-is m ok
 
-met-is : (p : Piece) (m : Machine) → Accepted (m .clock) (wires m)
-    → afterPiece p m .clock ≡ stepClock (eventAt p m) (m .clock) (wires m) (wires (afterPiece p m))
-unfolding turnOf
-met-is (whole s) m ok = turn-is m (decodedOf s) ok
-met-is broken m ok = refused-is m ok
+turn-clock : (m : Machine) (s : List ℕ) (d : Decoded) → Accepted (m .clock) (wires m)
+    → turnBy m s d .machine .clock ≡ clockAfter (m .clock) (wires m) (entriesBy m s d)
+unfolding clockAfter wiresAt
+turn-clock m s (Done x) ok = item-is m s x ok
+turn-clock m s (Decoded.Many x) ok = items-clock (singlesOf x s) m
+turn-clock m s (Refused n) ok = refused-is m ok
+
+turn-wires : (m : Machine) (s : List ℕ) (d : Decoded) → wires (turnBy m s d .machine) ≡ wiresAt (startOf (m .clock) (wires m)) (entriesBy m s d)
+unfolding wiresAt
+turn-wires m s (Done x) = refl
+turn-wires m s (Decoded.Many x) = items-wires (singlesOf x s) m
+turn-wires m s (Refused n) = refl
+
+met-clock : (p : Piece) (m : Machine) → Accepted (m .clock) (wires m) → afterPiece p m .clock ≡ clockAfter (m .clock) (wires m) (traceOf p m)
+unfolding turnOf clockAfter wiresAt
+met-clock (whole s) m ok = turn-clock m s (decodedOf s) ok
+met-clock broken m ok = refused-is m ok
+
+met-wires : (p : Piece) (m : Machine) → Accepted (m .clock) (wires m) → wires (afterPiece p m) ≡ wiresAt (startOf (m .clock) (wires m)) (traceOf p m)
+unfolding turnOf wiresAt
+met-wires (whole s) m ok = turn-wires m s (decodedOf s)
+met-wires broken m ok = refl
 
 pub drives : FollowsEntries (λ (m : Machine). m .clock) wires afterPiece traceOf
-unfolding clockAfter wiresAt
-drives = record { clock-is = met-is; wires-are = λ p m ok. refl }
+drives = record { clock-is = met-clock; wires-are = met-wires }
 
 -- ---- the run
 

@@ -6,14 +6,17 @@ use Prim.Native.Nat.{ℕ, _-_}
 use lib.Dec.{ltb, eqb}
 use Rattle.clock_spec.specs.Shared.{Event, quiet}
 use Rattle.clock.specs.declared.Clock.{Clock}
+use Rattle.item_spec.specs.declared.Item.{Item}
 use Rattle.item_spec.specs.declared.Decoded.{Decoded}
 use Rattle.item_spec.specs.declared.Decoded.the-variants.{Done, Refused}
+use Rattle.item_spec.specs.Many.{singlesOf}
 use Rattle.item_spec.specs.Kinds.{decodedOf}
 use Rattle.machine_spec.specs.declared.Machine.{Machine}
 use Rattle.machine_spec.specs.Machine.{wires}
 use Rattle.machine_spec.specs.Action.{eventOf}
 use Rattle.machine_spec.specs.Stages.{refusesOf}
-use Rattle.run_spec.specs.Turn.{turnOf}
+use Rattle.machine_spec.specs.Step.{afterItem}
+use Rattle.run_spec.specs.Turn.{turnBy, turnOf}
 use Rattle.run_spec.specs.Outcome.{Piece, whole, broken, pieces}
 use Rattle.history.specs.History.{Start, Entry, History}
 use Rattle.history.specs.Start.{startOf}
@@ -25,18 +28,29 @@ abbrev pub afterPiece : Piece → Machine → Machine
 afterPiece (whole s) m = turnOf m s .machine
 afterPiece broken m = m
 
--- "An SE done adds 1 and a PW done its seconds off": a refused record has no event.
-abbrev pub eventBy : Machine → Decoded → Event
-eventBy m (Done x) = cond (eqb (refusesOf m x) 0) (eventOf x) quiet
-eventBy m (Refused n) = quiet
+-- "Enable, data-clock and data after it", and its event: n is the machine after it.
+abbrev pub entryOf : Machine → Event → Entry
+entryOf n e = record { wires = wires n; event = e }
 
-abbrev pub eventAt : Piece → Machine → Event
-eventAt (whole s) m = eventBy m (decodedOf s)
-eventAt broken m = quiet
+-- "An SE done adds 1 and a PW done its seconds off": an item that the state refuses has no event.
+abbrev pub eventUnless : Machine → Item → Event
+eventUnless m x = cond (eqb (refusesOf m x) 0) (eventOf x) quiet
 
--- "An entry .. for each item answered: enable, data-clock and data after it."
+-- The entries of items done one after the other, the newest first.
+unfoldable pub entriesOfItems : Machine → List Item → List Entry
+entriesOfItems m [] = []
+entriesOfItems m (i ∷ is) = entriesOfItems (afterItem m i) is ++ (entryOf (afterItem m i) (eventOf i) ∷ [])
+
+-- "An entry .. for each item answered", "unchanged by a refused one". W-211: "Each value counts as an item where the wires are compared, and their history has
+-- an entry for each."
+abbrev pub entriesBy : Machine → List ℕ → Decoded → List Entry
+entriesBy m s (Done x) = entryOf (turnBy m s (Done x) .machine) (eventUnless m x) ∷ []
+entriesBy m s (Decoded.Many x) = entriesOfItems m (singlesOf x s)
+entriesBy m s (Refused n) = entryOf m quiet ∷ []
+
 abbrev pub traceOf : Piece → Machine → List Entry
-traceOf p m = record { wires = wires (afterPiece p m); event = eventAt p m } ∷ []
+traceOf (whole s) m = entriesBy m s (decodedOf s)
+traceOf broken m = entryOf m quiet ∷ []
 
 -- The pieces answered, the newest first, after those before, as far as the run goes. Bytes refused with 1 are answered: they have an entry, which
 -- changes nothing, and are the last. The item at which the run stops with 6 is not answered and has none.
@@ -66,6 +80,7 @@ pub record Run3 (m : Machine) (list : List ℕ) (room : ℕ) (r : Machine) : Typ
   -- What is handed back is the state after the pieces answered.
   pub reached : r ≡ stateAfter afterPiece m (answeredPieces list room)
   pub store : StoreIs (startOfRun m) (historyOfPieces m (answeredPieces list room)) (r .clock .store)
-  -- "From the start or an item", after the items is, "up to any later item", after js too; ls are those after it.
+  -- "From the start or an item", after the items is, "up to any later item", after js too; ls are those after it. W-211: ""After any item" now means after the
+  -- whole MW": a piece is a whole record, and a clearing write within one ends it.
   pub underProtect : (is js ls : List Piece) → ls ++ (js ++ is) ≡ answeredPieces list room
       → UnderProtect (startOfRun m) (historyOfPieces m is) (entriesOfPieces m is js) (clockAfterPieces m is .store) (clockAfterPieces m (js ++ is) .store)

@@ -5,3 +5,4 @@ pub mod Widths
 pub mod Runs
 pub mod Samples
 pub mod Faithful
+pub mod Calls

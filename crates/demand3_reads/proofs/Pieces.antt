@@ -5,6 +5,7 @@ use mathlib.Core.List.{List}
 use Prim.Native.Nat.{ℕ, _/_, _%_, _^_, _<_}
 use native.Mathlib.Omega.{arith}
 use borrow.Author.Tests.{eq-eqb, ne-eqb}
+use Rattle.units.specs.declared.WaitTicks.{WaitTicks}
 use Rattle.via_bits.specs.Bytes.{bit}
 use Rattle.via.specs.declared.Ports.{Ports}
 use Rattle.via.specs.Via.{portLevel}
@@ -56,16 +57,16 @@ line-in true lines = eq-eqb (inputsOf true lines .b / 2 ^ 0 % 2) 1 (omega arith)
 line-in false lines = ne-eqb (inputsOf false lines .b / 2 ^ 0 % 2) 1 (λ e. omega arith)
 
 -- A RD of register 0 has PB0's level in bit 0.
-pub read-line : (m : Machine) (w : ℕ) → m .via .ports .dirb < 256
+pub read-line : (m : Machine) (w : WaitTicks) → m .via .ports .dirb < 256
     → bit 0 (stepOf m (ReadVia w 0) .value) ≡ pin (m .via .ports .outb) (m .via .ports .dirb) 1 (shownLevel (m .clock .phase))
 unfolding stepOf actedOf itemWait viaRead registerRead
 read-line m w l =
     let i : ℕ = inputsOf (shownLevel (m .clock .phase)) (m .inputs) .b in
-    ap (λ (p : Ports). bit 0 (portLevel (p .outb) (p .dirb) i)) (ticks-ports w (m .via))
+    ap (λ (p : Ports). bit 0 (portLevel (p .outb) (p .dirb) i)) (ticks-ports (w .0) (m .via))
     ∙ port-bit 0 (m .via .ports .outb) (m .via .ports .dirb) i (omega arith) l
     ∙ ap (λ (x : Bool). pin (m .via .ports .outb) (m .via .ports .dirb) 1 x) (line-in (shownLevel (m .clock .phase)) (m .inputs))
 
-answer-line : (m : Machine) (s : List ℕ) (w : ℕ) → decodedOf s ≡ Done (ReadVia w 0) → turnOf m s .answer .value ≡ stepOf m (ReadVia w 0) .value
+answer-line : (m : Machine) (s : List ℕ) (w : WaitTicks) → decodedOf s ≡ Done (ReadVia w 0) → turnOf m s .answer .value ≡ stepOf m (ReadVia w 0) .value
 unfolding refusesOf answerOf
 answer-line m s w d = ap (λ (t : Turn). t .answer .value) (carried-out m s (ReadVia w 0) d refl)
 

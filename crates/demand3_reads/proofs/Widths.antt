@@ -6,28 +6,33 @@ use Prim.Native.Nat.{ℕ, zero, suc, _-_, _<_}
 use native.Mathlib.Omega.{arith}
 use lib.Dec.{eqb, ltb}
 use lib.ListN.{take, drop}
+use Rattle.units.specs.Units.{forTicks}
+use Rattle.units.specs.declared.WaitTicks.{WaitTicks}
 use Rattle.octets.specs.Octets.{Bytes}
 use Rattle.via.specs.declared.Ports.{Ports}
 use Rattle.via.specs.Via.{freshVia, raisedOf, resetOf}
 use Rattle.via.specs.Writes.{viaWritten, portsWritten}
 use Rattle.via.specs.Registers.{registerRead}
 use Rattle.via.proofs.Kept.{ticks-ports}
+use Rattle.via.proofs.AccessKept.{pulse-ports}
 use Rattle.clock_spec.proofs.CommandRange.{cond-case}
 use Rattle.item_spec.specs.declared.Item.{Item}
-use Rattle.item_spec.specs.declared.Item.the-variants.{ReadVia, ReadIwm, WriteVia, WriteIwm, Blank, Second, Line, Sense, Reset, Power, Disk}
+use Rattle.item_spec.specs.declared.Item.the-variants.{ReadVia, ReadIwm, WriteVia, WriteIwm, Blank, Second, Line, Sense, Reset, Power, Disk, Pulse}
+use Rattle.item_spec.specs.declared.Many.{Many}
 use Rattle.item_spec.specs.declared.Decoded.{Decoded}
 use Rattle.item_spec.specs.declared.Decoded.the-variants.{Done, Refused}
 use Rattle.item_spec.specs.declared.Framed.{Framed}
 use Rattle.item_spec.specs.declared.Framed.the-variants.{Whole, Cut}
 use Rattle.item_spec.specs.Items.{ItemInWidth}
+use Rattle.item_spec.specs.Many.{single, singlesAfter, valuesOf}
 use Rattle.item_spec.specs.Kinds.{decodedOf}
 use Rattle.item_spec.specs.Record.{frameOf}
-use Rattle.item_spec.proofs.ItemRange.{decoded-width}
+use Rattle.item_spec.proofs.ItemRange.{decoded-width, many-width, single-width}
 use Rattle.machine_spec.specs.declared.Machine.{Machine}
-use Rattle.machine_spec.specs.Accesses.{viaRead, iwmRead}
+use Rattle.machine_spec.specs.Accesses.{viaRead, iwmRead, keyboardPulse}
 use Rattle.machine_spec.specs.Action.{actedOf}
 use Rattle.machine_spec.specs.Stages.{itemWait, afterWait, refusesOf}
-use Rattle.machine_spec.specs.Step.{stepOf}
+use Rattle.machine_spec.specs.Step.{stepOf, afterItems}
 use Rattle.run_spec.specs.Turn.{refusedTurn, doneTurn, turnBy, turnOf}
 use Rattle.run_spec.specs.Outcome.{Piece, whole, broken, pieces, cut, piecesFrom}
 use Rattle.history.specs.Items.{stateAfter}
@@ -43,7 +48,7 @@ waited-narrow : (n : ℕ) (m : Machine) → Narrow m → Narrow (afterWait n m)
 waited-narrow n m l = subst (λ (p : Ports). p .dirb < 256) (sym (ticks-ports n (m .via))) l
 
 acted-narrow : (x : Item) (m : Machine) → ItemInWidth x → Narrow m → Narrow (actedOf m x .machine)
-unfolding actedOf viaRead registerRead iwmRead viaWritten portsWritten raisedOf resetOf freshVia
+unfolding actedOf viaRead registerRead iwmRead keyboardPulse viaWritten portsWritten raisedOf resetOf freshVia
 acted-narrow (ReadVia w r) m i l = l
 acted-narrow (ReadIwm w k) m i l = l
 acted-narrow (WriteVia w r v) m i l = cond-case (λ (d : ℕ). d < 256) (eqb r 2) (λ e. i .1) (λ e. l)
@@ -55,13 +60,32 @@ acted-narrow (Sense w d r v) m i l = l
 acted-narrow (Reset w) m i l = omega arith
 acted-narrow (Power w s) m i l = omega arith
 acted-narrow (Disk w d i l b) m i′ l′ = l′
+acted-narrow (Pulse w n) m i l = subst (λ (p : Ports). p .dirb < 256) (sym (pulse-ports n (m .via))) l
 
 step-narrow : (x : Item) (m : Machine) → ItemInWidth x → Narrow m → Narrow (stepOf m x .machine)
 unfolding stepOf
 step-narrow x m i l = acted-narrow x (afterWait (itemWait x) m) i (waited-narrow (itemWait x) m l)
 
-turn-narrow : (s : List ℕ) (m : Machine) (d : Decoded) → decodedOf s ≡ d → Bytes s → Narrow m → Narrow (turnBy m d .machine)
+pub take-bytes : (n : ℕ) (l : List ℕ) → Bytes l → Bytes (take n l)
+take-bytes zero l bs i = omega arith
+take-bytes (suc n) [] bs i = omega arith
+take-bytes (suc n) (x ∷ xs) bs zero = bs 0
+take-bytes (suc n) (x ∷ xs) bs (suc i) = take-bytes n xs (λ j. bs (suc j)) i
+
+pub drop-bytes : (n : ℕ) (l : List ℕ) → Bytes l → Bytes (drop n l)
+drop-bytes zero l bs = bs
+drop-bytes (suc n) [] bs = bs
+drop-bytes (suc n) (x ∷ xs) bs = drop-bytes n xs (λ j. bs (suc j))
+
+-- The values of an MW are bytes, as its wait is of two.
+many-narrow : (x : Many) (vs : List ℕ) (m : Machine) (w : WaitTicks) → Bytes vs → w .0 < 65536 → Narrow m → Narrow (afterItems m (singlesAfter x w vs))
+many-narrow x [] m w bs h l = l
+many-narrow x (v ∷ vs) m w bs h l =
+    many-narrow x vs (stepOf m (single x w v) .machine) (forTicks 0) (λ j. bs (suc j)) (omega arith) (step-narrow (single x w v) m (single-width x w v h (bs 0)) l)
+
+turn-narrow : (s : List ℕ) (m : Machine) (d : Decoded) → decodedOf s ≡ d → Bytes s → Narrow m → Narrow (turnBy m s d .machine)
 turn-narrow s m (Refused n) q bs l = l
+turn-narrow s m (Decoded.Many x) q bs l = many-narrow x (valuesOf s) m (x .wait) (drop-bytes 9 s bs) (many-width s x bs q) l
 turn-narrow s m (Done x) q bs l = go (eqb (refusesOf m x) 0)
   where
     go : (t : Bool) → Narrow (cond t (doneTurn (stepOf m x)) (refusedTurn m (refusesOf m x)) .machine)
@@ -87,17 +111,6 @@ after-narrow : (m : Machine) → Narrow m → (is : List Piece) → All is → N
 unfolding stateAfter
 after-narrow m l [] a = l
 after-narrow m l (i ∷ is) (b, a) = met-narrow i (machineAfterPieces m is) b (after-narrow m l is a)
-
-pub take-bytes : (n : ℕ) (l : List ℕ) → Bytes l → Bytes (take n l)
-take-bytes zero l bs i = omega arith
-take-bytes (suc n) [] bs i = omega arith
-take-bytes (suc n) (x ∷ xs) bs zero = bs 0
-take-bytes (suc n) (x ∷ xs) bs (suc i) = take-bytes n xs (λ j. bs (suc j)) i
-
-pub drop-bytes : (n : ℕ) (l : List ℕ) → Bytes l → Bytes (drop n l)
-drop-bytes zero l bs = bs
-drop-bytes (suc n) [] bs = bs
-drop-bytes (suc n) (x ∷ xs) bs = drop-bytes n xs (λ j. bs (suc j))
 
 cut-bytes : (f : Framed) (s : List ℕ) (go : ℕ → List Piece) → Bytes s → ((k : ℕ) → All (go k)) → All (cut f s go)
 unfolding cut

@@ -1,3 +1,4 @@
 pub mod Shown
 pub mod Runs
 pub mod Samples
+pub mod Calls

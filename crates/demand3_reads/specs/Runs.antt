@@ -5,6 +5,7 @@ use mathlib.Core.Bool.{Bool}
 use mathlib.Core.List.{List, _∷_, _++_}
 use Prim.Native.Nat.{ℕ, _+_, _*_, _≤_, _<_}
 use lib.ListN.{length, getD}
+use Rattle.units.specs.declared.WaitTicks.{WaitTicks}
 use Rattle.via_bits.specs.Bytes.{bit}
 use Rattle.clock_spec.specs.Phase.{shownLevel}
 use Rattle.item_spec.specs.declared.Item.the-variants.{ReadVia}
@@ -37,8 +38,8 @@ pub record Shows (m : Machine) (is : List Piece) : Type 0 where
   pub chip : shownLevel (machineAfterPieces m is .clock .phase) ≡ shownAfterPieces m is
   pub wire : wires (machineAfterPieces m is) .dataline ≡ lineAfterPieces m is
   -- A RD of register 0 there, after whatever wait, has it in bit 0; and the answer to its record.
-  pub read : (w : ℕ) → machineAfterPieces m is .via .ports .dirb < 256 → bit 0 (stepOf (machineAfterPieces m is) (ReadVia w 0) .value) ≡ lineAfterPieces m is
-  pub answer : (s : List ℕ) (w : ℕ) → decodedOf s ≡ Done (ReadVia w 0) → machineAfterPieces m is .via .ports .dirb < 256
+  pub read : (w : WaitTicks) → machineAfterPieces m is .via .ports .dirb < 256 → bit 0 (stepOf (machineAfterPieces m is) (ReadVia w 0) .value) ≡ lineAfterPieces m is
+  pub answer : (s : List ℕ) (w : WaitTicks) → decodedOf s ≡ Done (ReadVia w 0) → machineAfterPieces m is .via .ports .dirb < 256
       → bit 0 (turnOf (machineAfterPieces m is) s .answer .value) ≡ lineAfterPieces m is
 
 -- Of a run of the list from the machine m, with so much room, that comes out as o.
@@ -48,5 +49,5 @@ pub record RunShows (m : Machine) (list : List ℕ) (room : ℕ) (o : Out) : Typ
   -- The pieces is, then p, then ls: the answer to p has eight bytes, after those of the answers before it.
   pub long : (ls is : List Piece) (p : Piece) → ls ++ (p ∷ is) ≡ answeredPieces list room → 8 * length is + 8 ≤ length (o .answers)
   -- The pieces is, then a RD of register 0, then ls: the fifth byte of its answer is the value read.
-  pub reads : (ls is : List Piece) (s : List ℕ) (w : ℕ) → ls ++ (whole s ∷ is) ≡ answeredPieces list room → decodedOf s ≡ Done (ReadVia w 0)
+  pub reads : (ls is : List Piece) (s : List ℕ) (w : WaitTicks) → ls ++ (whole s ∷ is) ≡ answeredPieces list room → decodedOf s ≡ Done (ReadVia w 0)
       → bit 0 (getD (o .answers) (8 * length is + 4) 0) ≡ lineAfterPieces m is

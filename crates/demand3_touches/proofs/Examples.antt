@@ -8,6 +8,7 @@ use Rattle.levels.specs.Levels.{allBelow}
 use Rattle.octets.specs.Octets.{le16Of, le32Of, replace}
 use Rattle.via.specs.Via.{freshVia, latchOf, tickOf, ticks, raisedOf, resetOf, acceptedVia}
 use Rattle.via.specs.Registers.{registerRead}
+use Rattle.via.specs.Shift.{pulseOf}
 use Rattle.via.specs.Writes.{viaWritten, portsWritten}
 use Rattle.clock_spec.specs.Patterns.{meant, secondMeant}
 use Rattle.clock_spec.specs.Store.{unusedClear, fetch, put, act}
@@ -25,11 +26,12 @@ use Rattle.disk_spec.specs.Drives.{acceptedDrives}
 use Rattle.item_spec.specs.Record.{frameOf}
 use Rattle.item_spec.specs.Addresses.{placeFrom, foundOf}
 use Rattle.item_spec.specs.Items.{readRecord, writeRecord, plainRecord, powerRecord}
-use Rattle.item_spec.specs.Ranged.{lineRecord}
+use Rattle.item_spec.specs.Ranged.{lineRecord, pulseRecord}
+use Rattle.item_spec.specs.Many.{countedRecord, manyRecord}
 use Rattle.item_spec.specs.Kinds.{isKind, decodedOf}
 use Rattle.machine_spec.specs.Pins.{wiresOf}
 use Rattle.machine_spec.specs.Machine.{acceptedOf, freshMachine}
-use Rattle.machine_spec.specs.Accesses.{viaRead, iwmRead}
+use Rattle.machine_spec.specs.Accesses.{viaRead, iwmRead, keyboardPulse}
 use Rattle.machine_spec.specs.Action.{actedOf}
 use Rattle.machine_spec.specs.Stages.{itemWait, refusesOf}
 use Rattle.machine_spec.specs.Step.{stepOf}
@@ -37,8 +39,8 @@ use Rattle.run_spec.specs.Turn.{turnOf}
 use Rattle.run_spec.specs.Outcome.{cut, piecesFrom, onto, onPiece, runPieces, runOf}
 use Rattle.history.specs.Items.{stateAfter}
 use Rattle.demand3.specs.Runs.{answeredAfter}
-use Rattle.samples.specs.Lists.{rd, wr, access, rs, se, begin, select, sent, byte}
-use Rattle.demand3_touches.specs.Touches.{Touch, portB, directionB, reset, tick, powerCut, touchesOf, touchesOfPieces, touches}
+use Rattle.samples.specs.Lists.{rd, wr, access, location, mwTo, mw, rs, se, kc, begin, select, sent, byte}
+use Rattle.demand3_touches.specs.Touches.{Touch, portB, directionB, reset, tick, powerCut, touchesOf, touchesOfItems, touchesOfPieces, touches}
 
 -- ---- lists
 
@@ -100,16 +102,19 @@ pub record Examples (k : Chip) : Type 0 where
   pub allFive : sequence k (wr 0 2 4 ++ wr 0 0 6 ++ rs ++ se ++ power 0 5) ≡ powerCut 5 ∷ tick ∷ reset ∷ portB 6 ∷ directionB 4 ∷ []
   -- With waits of 1 to 3 VIA ticks the sequence is the same.
   pub waits : sequence k (wr 3 2 4 ++ wr 1 0 6 ++ rsAfter 2 ++ seAfter 3 ++ power 1 5) ≡ powerCut 5 ∷ tick ∷ reset ∷ portB 6 ∷ directionB 4 ∷ []
-  -- Reads, VB, IN, accesses of the IWM, writes to other registers and refused records leave it as it is.
-  pub others : sequence k (rd 3 0 ++ blank 2 ++ seAfter 1 ++ line ++ access 1 3 ++ wr 2 1 7 ++ wr 2 3 7 ++ unknown ++ wr 3 0 3) ≡ portB 3 ∷ tick ∷ []
+  -- Reads, VB, IN, KC, accesses of the IWM, writes to other registers and refused records leave it as it is.
+  pub others : sequence k (rd 3 0 ++ blank 2 ++ seAfter 1 ++ line ++ access 1 3 ++ wr 0 11 12 ++ kc 1 1 ++ wr 2 1 7 ++ wr 2 3 7 ++ unknown ++ wr 3 0 3) ≡ portB 3 ∷ tick ∷ []
+  -- W-211: an MW counts as its single writes, to registers 0 and 2 and to no other.
+  pub many : sequence k (mw 3 2 (4 ∷ 7 ∷ []) ++ mw 1 3 (9 ∷ 8 ∷ []) ++ mwTo 0 (location 9) (1 ∷ []) ++ mw 0 0 (6 ∷ 2 ∷ 6 ∷ [])) ≡ portB 6 ∷ portB 2 ∷ portB 6 ∷ directionB 7 ∷ directionB 4 ∷ []
+  pub single : sequence k (wr 0 2 4 ++ wr 3 2 7 ++ wr 0 0 6 ++ wr 0 0 2 ++ wr 0 0 6) ≡ portB 6 ∷ portB 2 ∷ portB 6 ∷ directionB 7 ∷ directionB 4 ∷ []
   -- No room for the second answer: the second item is not carried out.
   pub noRoom : touches (freshMachine k) (se ++ se) 15 ≡ tick ∷ []
 
 pub examples : (k : Chip) → Examples k
-unfolding allBelow le16Of le32Of replace freshVia latchOf tickOf ticks raisedOf resetOf acceptedVia registerRead viaWritten portsWritten meant secondMeant unusedClear fetch put act
+unfolding allBelow le16Of le32Of replace freshVia latchOf tickOf ticks raisedOf resetOf acceptedVia registerRead pulseOf viaWritten portsWritten meant secondMeant unusedClear fetch put act
     between hear shownLevel acceptedPhase next acts stepWires linesOff afterAccess acceptedDrive acceptedStrobe acceptedDrives frameOf placeFrom foundOf readRecord writeRecord
-    plainRecord powerRecord lineRecord isKind decodedOf wiresOf acceptedOf viaRead iwmRead actedOf itemWait refusesOf stepOf turnOf cut piecesFrom onto onPiece runPieces runOf
-    stateAfter answeredAfter sent touchesOf touchesOfPieces
+    plainRecord powerRecord lineRecord pulseRecord countedRecord manyRecord isKind decodedOf wiresOf acceptedOf viaRead iwmRead keyboardPulse actedOf itemWait refusesOf stepOf turnOf cut piecesFrom onto onPiece runPieces runOf
+    stateAfter answeredAfter sent touchesOf touchesOfItems touchesOfPieces
 examples First =
     record {
       ofPortB = (refl, refl, refl);
@@ -120,6 +125,8 @@ examples First =
       allFive = refl;
       waits = refl;
       others = refl;
+      many = refl;
+      single = refl;
       noRoom = refl;
     }
 examples Later =
@@ -132,5 +139,7 @@ examples Later =
       allFive = refl;
       waits = refl;
       others = refl;
+      many = refl;
+      single = refl;
       noRoom = refl;
     }

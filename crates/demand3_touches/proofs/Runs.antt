@@ -1,43 +1,63 @@
 -- W-208: two runs from one accepted machine, with either chip, whose sequences of touches agree end with the same clock.
-use Prim.Native.Nat.{ℕ}
+use Prim.Native.Nat.{ℕ, _<_}
 use mathlib.Core.Path.{_≡_, refl, sym, ap, ap₂, _∙_}
 use mathlib.Core.Bool.{Bool, true, false, cond}
 use mathlib.Core.List.{List, [], _∷_, _++_}
 use lib.Dec.{eqb}
+use Rattle.units.specs.declared.WaitTicks.{WaitTicks}
+use Rattle.units.specs.Units.{forTicks}
 use Rattle.clock_spec.specs.declared.Chip.{Chip}
 use Rattle.clock.specs.declared.Clock.{Clock}
 use Rattle.item_spec.specs.declared.Item.{Item}
-use Rattle.item_spec.specs.declared.Item.the-variants.{ReadVia, ReadIwm, WriteVia, WriteIwm, Blank, Second, Line, Sense, Reset, Power, Disk}
+use Rattle.item_spec.specs.declared.Item.the-variants.{ReadVia, ReadIwm, WriteVia, WriteIwm, Blank, Second, Line, Sense, Reset, Power, Disk, Pulse}
+use Rattle.item_spec.specs.declared.Many.{Many}
 use Rattle.item_spec.specs.declared.Decoded.{Decoded}
 use Rattle.item_spec.specs.declared.Decoded.the-variants.{Done, Refused}
+use Rattle.item_spec.specs.Many.{single, singlesAfter, valuesOf}
 use Rattle.item_spec.specs.Kinds.{decodedOf}
+use Rattle.item_spec.proofs.ItemRange.{many-range, single-range}
 use Rattle.machine_spec.specs.declared.Machine.{Machine}
 use Rattle.machine_spec.specs.Machine.{acceptedOf, freshMachine}
 use Rattle.machine_spec.specs.Stages.{refusesOf}
-use Rattle.machine_spec.specs.Step.{stepOf}
+use Rattle.machine_spec.specs.Step.{stepOf, afterItems}
 use Rattle.machine_spec.proofs.MachineLaws.{parts}
+use Rattle.machine_spec.proofs.Keeps.{step-keeps}
 use Rattle.run_spec.specs.Turn.{refusedTurn, doneTurn, turnBy, turnOf}
 use Rattle.run_spec.specs.Outcome.{Piece, whole, broken, runOf}
 use Rattle.run_spec.proofs.Keeps.{turn-keeps}
 use Rattle.history.specs.Items.{stateAfter}
 use Rattle.demand3.specs.Runs.{afterPiece, answeredPieces}
 use Rattle.demand3.proofs.Runs.{ran-is, fresh-ok}
-use Rattle.demand3_touches.specs.Touches.{Touch, touchesOf, touchesBy, touchesAt, touchesOfPieces, touches, SameClock, TouchedAlike}
+use Rattle.demand3_touches.specs.Touches.{Touch, touchesOf, touchesOfItems, touchesBy, touchesAt, touchesOfPieces, touches, SameClock, TouchedAlike}
 use Rattle.demand3_touches.proofs.Seen.{Seen, seenOf, afterTouches, after-append, Fits, done}
 
 -- ---- one piece of the list
 
-turn-touches : (m : Machine) (d : Decoded) → Fits m → seenOf (turnBy m d .machine) ≡ afterTouches (touchesBy m d) (seenOf m)
-turn-touches m (Refused n) h = refl
-turn-touches m (Done x) h = go (eqb (refusesOf m x) 0)
+-- An MW, by its single WR items.
+many-touches : (x : Many) → x .number < 16 → (vs : List ℕ) (m : Machine) (w : WaitTicks) → acceptedOf m ≡ true
+    → seenOf (afterItems m (singlesAfter x w vs)) ≡ afterTouches (touchesOfItems (singlesAfter x w vs)) (seenOf m)
+unfolding touchesOfItems afterTouches
+many-touches x h [] m w a = refl
+many-touches x h (v ∷ vs) m w a =
+    let i : Item = single x w v in
+    let n : Machine = stepOf m i .machine in
+    let rest : List Touch = touchesOfItems (singlesAfter x (forTicks 0) vs) in
+    many-touches x h vs n (forTicks 0) (step-keeps m i (single-range x h w v) a)
+    ∙ ap (afterTouches rest) (done m i (parts m a .phase))
+    ∙ sym (after-append rest (touchesOf i) (seenOf m))
+
+turn-touches : (m : Machine) (s : List ℕ) (d : Decoded) → decodedOf s ≡ d → acceptedOf m ≡ true → seenOf (turnBy m s d .machine) ≡ afterTouches (touchesBy m s d) (seenOf m)
+turn-touches m s (Refused n) p a = refl
+turn-touches m s (Decoded.Many x) p a = many-touches x (many-range s x p .number) (valuesOf s) m (x .wait) a
+turn-touches m s (Done x) p a = go (eqb (refusesOf m x) 0)
   where
     go : (t : Bool) → seenOf (cond t (doneTurn (stepOf m x)) (refusedTurn m (refusesOf m x)) .machine) ≡ afterTouches (cond t (touchesOf x) []) (seenOf m)
-    go true = done m x h
+    go true = done m x (parts m a .phase)
     go false = refl
 
 piece-touches : (p : Piece) (m : Machine) → acceptedOf m ≡ true → seenOf (afterPiece p m) ≡ afterTouches (touchesAt p m) (seenOf m)
 unfolding turnOf
-piece-touches (whole s) m a = turn-touches m (decodedOf s) (parts m a .phase)
+piece-touches (whole s) m a = turn-touches m s (decodedOf s) refl a
 piece-touches broken m a = refl
 
 piece-keeps : (p : Piece) (m : Machine) → acceptedOf m ≡ true → acceptedOf (afterPiece p m) ≡ true
@@ -79,18 +99,20 @@ unrefused m (Line w l v) = refl
 unrefused m (Sense w d r v) = refl
 unrefused m (Reset w) = refl
 unrefused m (Power w s) = refl
+unrefused m (Pulse w l) = refl
 unrefused m (Disk w d i l b) = go (eqb (refusesOf m (Disk w d i l b)) 0)
   where
     go : (t : Bool) → _≡_ {A = List Touch} (cond t [] []) []
     go true = refl
     go false = refl
 
-any-by : (m n : Machine) (d : Decoded) → touchesBy m d ≡ touchesBy n d
-any-by m n (Done x) = unrefused m x ∙ sym (unrefused n x)
-any-by m n (Refused k) = refl
+any-by : (m n : Machine) (s : List ℕ) (d : Decoded) → touchesBy m s d ≡ touchesBy n s d
+any-by m n s (Done x) = unrefused m x ∙ sym (unrefused n x)
+any-by m n s (Decoded.Many x) = refl
+any-by m n s (Refused k) = refl
 
 any-at : (m n : Machine) (p : Piece) → touchesAt p m ≡ touchesAt p n
-any-at m n (whole s) = any-by m n (decodedOf s)
+any-at m n (whole s) = any-by m n s (decodedOf s)
 any-at m n broken = refl
 
 pub any-machine : (m n : Machine) (ps : List Piece) → touchesOfPieces m ps ≡ touchesOfPieces n ps

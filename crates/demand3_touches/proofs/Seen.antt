@@ -6,11 +6,13 @@ use mathlib.Core.List.{List, [], _∷_, _++_}
 use native.Mathlib.Omega.{arith}
 use lib.Dec.{eqb}
 use borrow.Author.Tests.{eqb-true}
+use Rattle.units.specs.declared.WaitTicks.{WaitTicks}
 use Rattle.via.specs.declared.Ports.{Ports}
-use Rattle.via.specs.Via.{freshVia, raisedOf, resetOf}
+use Rattle.via.specs.Via.{freshVia, ticks, raisedOf, resetOf}
 use Rattle.via.specs.Registers.{registerRead}
 use Rattle.via.specs.Writes.{viaWritten, portsWritten}
 use Rattle.via.proofs.Kept.{ticks-ports}
+use Rattle.via.proofs.AccessKept.{pulse-ports}
 use Rattle.clock_spec.specs.declared.Wires.{Wires}
 use Rattle.clock_spec.specs.Shared.{Event, quiet, second, off}
 use Rattle.clock_spec.specs.Store.{withEvent}
@@ -19,11 +21,11 @@ use Rattle.clock.specs.declared.Clock.{Clock}
 use Rattle.clock.specs.Step.{withStore, stepWires, stepClock}
 use Rattle.clock.proofs.Keep.{still}
 use Rattle.item_spec.specs.declared.Item.{Item}
-use Rattle.item_spec.specs.declared.Item.the-variants.{ReadVia, ReadIwm, WriteVia, WriteIwm, Blank, Second, Line, Sense, Reset, Power, Disk}
+use Rattle.item_spec.specs.declared.Item.the-variants.{ReadVia, ReadIwm, WriteVia, WriteIwm, Blank, Second, Line, Sense, Reset, Power, Disk, Pulse}
 use Rattle.machine_spec.specs.declared.Machine.{Machine}
 use Rattle.machine_spec.specs.Pins.{wiresOf}
 use Rattle.machine_spec.specs.Machine.{wires}
-use Rattle.machine_spec.specs.Accesses.{viaRead, iwmRead}
+use Rattle.machine_spec.specs.Accesses.{viaRead, iwmRead, keyboardPulse}
 use Rattle.machine_spec.specs.Action.{eventOf, actedOf}
 use Rattle.machine_spec.specs.Stages.{itemWait, afterWait}
 use Rattle.machine_spec.specs.Step.{stepOf}
@@ -79,7 +81,7 @@ afterAction m i = actedOf (afterWait (itemWait i) m) i .machine
 
 -- Before the wires are compared an item has moved the clock's seconds by its event, and nothing else of the clock.
 acted-clock : (m : Machine) (i : Item) → actedOf m i .machine .clock ≡ withStore (m .clock) (withEvent (eventOf i) (m .clock .store))
-unfolding actedOf eventOf viaRead iwmRead
+unfolding actedOf eventOf viaRead iwmRead keyboardPulse
 acted-clock m (ReadVia w r) = refl
 acted-clock m (ReadIwm w k) = refl
 acted-clock m (WriteVia w r v) = refl
@@ -91,6 +93,7 @@ acted-clock m (Sense w d r v) = refl
 acted-clock m (Reset w) = refl
 acted-clock m (Power w s) = refl
 acted-clock m (Disk w d i l b) = refl
+acted-clock m (Pulse w l) = refl
 
 -- The step is the move of port B with the item's event.
 step-move : (m : Machine) (i : Item) (o d : ℕ) → PortB (afterAction m i) o d → seenOf (stepOf m i .machine) ≡ afterMove o d (eventOf i) (seenOf m)
@@ -120,36 +123,39 @@ left m i h p e =
     ∙ no-move m h
 
 -- A WR to a VIA register: 0, 2, or another.
-wrote : (m : Machine) (w r v : ℕ) → Fits m → seenOf (stepOf m (WriteVia w r v) .machine) ≡ afterTouches (writes r v) (seenOf m)
+wrote : (m : Machine) (w : WaitTicks) (r v : ℕ) → Fits m → seenOf (stepOf m (WriteVia w r v) .machine) ≡ afterTouches (writes r v) (seenOf m)
 unfolding actedOf itemWait eventOf viaWritten portsWritten
 wrote m w r v h = go (eqb r 0) (eqb r 2) refl refl
   where
     x : Item
     x = WriteVia w r v
 
-    o : (t : Bool) → eqb r 0 ≡ t → afterAction m x .via .ports .outb ≡ cond t v (afterWait w m .via .ports .outb)
-    o t e = ap (λ (b : Bool). cond b v (afterWait w m .via .ports .outb)) e
+    o : (t : Bool) → eqb r 0 ≡ t → afterAction m x .via .ports .outb ≡ cond t v (afterWait (w .0) m .via .ports .outb)
+    o t e = ap (λ (b : Bool). cond b v (afterWait (w .0) m .via .ports .outb)) e
 
-    d : (t : Bool) → eqb r 2 ≡ t → afterAction m x .via .ports .dirb ≡ cond t v (afterWait w m .via .ports .dirb)
-    d t e = ap (λ (b : Bool). cond b v (afterWait w m .via .ports .dirb)) e
+    d : (t : Bool) → eqb r 2 ≡ t → afterAction m x .via .ports .dirb ≡ cond t v (afterWait (w .0) m .via .ports .dirb)
+    d t e = ap (λ (b : Bool). cond b v (afterWait (w .0) m .via .ports .dirb)) e
 
     go : (t u : Bool) → eqb r 0 ≡ t → eqb r 2 ≡ u → seenOf (stepOf m x .machine) ≡ afterTouches (cond t (portB v ∷ []) (cond u (directionB v ∷ []) [])) (seenOf m)
     go true true e f = absurd (omega (arith, eqb-true r 0 e, eqb-true r 2 f))
-    go true false e f = step-move m x v (m .via .ports .dirb) (o true e, d false f ∙ waited-port m w .1)
-    go false true e f = step-move m x (m .via .ports .outb) v (o false e ∙ waited-port m w .0, d true f)
-    go false false e f = left m x h (o false e ∙ waited-port m w .0, d false f ∙ waited-port m w .1) refl
+    go true false e f = step-move m x v (m .via .ports .dirb) (o true e, d false f ∙ waited-port m (w .0) .1)
+    go false true e f = step-move m x (m .via .ports .outb) v (o false e ∙ waited-port m (w .0) .0, d true f)
+    go false false e f = left m x h (o false e ∙ waited-port m (w .0) .0, d false f ∙ waited-port m (w .0) .1) refl
 
 -- Every item that is done.
 pub done : (m : Machine) (i : Item) → Fits m → seenOf (stepOf m i .machine) ≡ afterTouches (touchesOf i) (seenOf m)
-unfolding touchesOf actedOf itemWait eventOf viaRead iwmRead registerRead raisedOf resetOf freshVia
-done m (ReadVia w r) h = left m (ReadVia w r) h (waited-port m w) refl
-done m (ReadIwm w k) h = left m (ReadIwm w k) h (waited-port m w) refl
+unfolding touchesOf actedOf itemWait eventOf viaRead iwmRead keyboardPulse registerRead raisedOf resetOf freshVia
+done m (ReadVia w r) h = left m (ReadVia w r) h (waited-port m (w .0)) refl
+done m (ReadIwm w k) h = left m (ReadIwm w k) h (waited-port m (w .0)) refl
 done m (WriteVia w r v) h = wrote m w r v h
-done m (WriteIwm w k v) h = left m (WriteIwm w k v) h (waited-port m w) refl
-done m (Blank w) h = left m (Blank w) h (waited-port m w) refl
-done m (Second w) h = step-move m (Second w) (m .via .ports .outb) (m .via .ports .dirb) (waited-port m w)
-done m (Line w l v) h = left m (Line w l v) h (waited-port m w) refl
-done m (Sense w d r v) h = left m (Sense w d r v) h (waited-port m w) refl
+done m (WriteIwm w k v) h = left m (WriteIwm w k v) h (waited-port m (w .0)) refl
+done m (Blank w) h = left m (Blank w) h (waited-port m (w .0)) refl
+done m (Second w) h = step-move m (Second w) (m .via .ports .outb) (m .via .ports .dirb) (waited-port m (w .0))
+done m (Line w l v) h = left m (Line w l v) h (waited-port m (w .0)) refl
+done m (Sense w d r v) h = left m (Sense w d r v) h (waited-port m (w .0)) refl
 done m (Reset w) h = step-move m (Reset w) 0 0 (refl, refl)
 done m (Power w s) h = step-move m (Power w s) 0 0 (refl, refl)
-done m (Disk w d i l b) h = left m (Disk w d i l b) h (waited-port m w) refl
+done m (Disk w d i l b) h = left m (Disk w d i l b) h (waited-port m (w .0)) refl
+done m (Pulse w l) h =
+    let e = pulse-ports l (ticks (w .0) (m .via)) in
+    left m (Pulse w l) h (ap (λ (p : Ports). p .outb) e ∙ waited-port m (w .0) .0, ap (λ (p : Ports). p .dirb) e ∙ waited-port m (w .0) .1) refl

@@ -7,9 +7,10 @@ use mathlib.Core.List.{List, [], _∷_, _++_}
 use lib.Dec.{eqb}
 use Rattle.clock.specs.declared.Clock.{Clock}
 use Rattle.item_spec.specs.declared.Item.{Item}
-use Rattle.item_spec.specs.declared.Item.the-variants.{ReadVia, ReadIwm, WriteVia, WriteIwm, Blank, Second, Line, Sense, Reset, Power, Disk}
+use Rattle.item_spec.specs.declared.Item.the-variants.{ReadVia, ReadIwm, WriteVia, WriteIwm, Blank, Second, Line, Sense, Reset, Power, Disk, Pulse}
 use Rattle.item_spec.specs.declared.Decoded.{Decoded}
 use Rattle.item_spec.specs.declared.Decoded.the-variants.{Done, Refused}
+use Rattle.item_spec.specs.Many.{singlesOf}
 use Rattle.item_spec.specs.Kinds.{decodedOf}
 use Rattle.machine_spec.specs.declared.Machine.{Machine}
 use Rattle.machine_spec.specs.Stages.{refusesOf}
@@ -46,14 +47,21 @@ touchesOf (Sense w d r v) = []
 touchesOf (Reset w) = reset ∷ []
 touchesOf (Power w s) = powerCut s ∷ []
 touchesOf (Disk w d i l b) = []
+touchesOf (Pulse w l) = []
+
+-- The entries of items one after the other. W-211's MW counts as its single WR items.
+unfoldable pub touchesOfItems : List Item → List Touch
+touchesOfItems [] = []
+touchesOfItems (i ∷ is) = touchesOfItems is ++ touchesOf i
 
 -- "Items carried out": a refused record has none, nor have bytes that are no record.
-abbrev pub touchesBy : Machine → Decoded → List Touch
-touchesBy m (Done x) = cond (eqb (refusesOf m x) 0) (touchesOf x) []
-touchesBy m (Refused n) = []
+abbrev pub touchesBy : Machine → List ℕ → Decoded → List Touch
+touchesBy m s (Done x) = cond (eqb (refusesOf m x) 0) (touchesOf x) []
+touchesBy m s (Decoded.Many x) = touchesOfItems (singlesOf x s)
+touchesBy m s (Refused n) = []
 
 abbrev pub touchesAt : Piece → Machine → List Touch
-touchesAt (whole s) m = touchesBy m (decodedOf s)
+touchesAt (whole s) m = touchesBy m s (decodedOf s)
 touchesAt broken m = []
 
 -- The sequence of pieces of a list one after the other, the newest first.

@@ -5,6 +5,7 @@ ghost use Prim.Native.Nat.{_<_};
 ghost use Rattle.disk_spec.specs.Drive.{freshDrive, withDiskIn, withDiskOut, neighbour, driveTicks, afterPowerCut};
 ghost use Rattle.disk_spec.specs.Control.{diskMoved, registerWritten};
 use disk_spec::Drive;
+use units::WaitTicks;
 
 // The track that a step from `track` ends at.
 fn neighbour_of(heading: bool, track: u8) -> u8
@@ -62,10 +63,11 @@ pub fn remove(drive: Drive) -> Drive
     }
 }
 
-// `ticks` VIA ticks pass, worked out at once.
-pub fn wait(drive: Drive, ticks: u16) -> Drive
-    ensures { λ r. ⌜ r ≡ driveTicks ticks drive ⌝ }
+// The wait passes, worked out from its VIA ticks.
+pub fn wait(drive: Drive, wait: WaitTicks) -> Drive
+    ensures { λ r. ⌜ r ≡ driveTicks (wait .0) drive ⌝ }
 {
+    let ticks = units::tick_count(wait);
     if drive.pending == 0 {
         return drive;
     }

@@ -5,6 +5,7 @@ use disk_drive::move_disk;
 use disk_drive::write_register;
 use disk_spec::Drives;
 use disk_spec::Watched;
+use units::WaitTicks;
 
 pub fn fresh() -> Drives
     ensures { λ r. ⌜ r ≡ freshDrives ⌝ }
@@ -23,14 +24,14 @@ pub fn busy(d: Drives) -> bool
     (d.internal.pending != 0) | ((d.external.pending != 0) | d.strobe.steady)
 }
 
-// `ticks` VIA ticks pass.
-pub fn wait(drives: Drives, ticks: u16) -> Drives
-    ensures { λ r. ⌜ r ≡ drivesTicks ticks drives ⌝ }
+// The wait passes.
+pub fn wait(drives: Drives, wait: WaitTicks) -> Drives
+    ensures { λ r. ⌜ r ≡ drivesTicks (wait .0) drives ⌝ }
 {
     Drives {
-        internal: disk_drive::wait(drives.internal, ticks),
-        external: disk_drive::wait(drives.external, ticks),
-        strobe: disk_strobe::wait(drives.strobe, ticks),
+        internal: disk_drive::wait(drives.internal, wait),
+        external: disk_drive::wait(drives.external, wait),
+        strobe: disk_strobe::wait(drives.strobe, wait),
     }
 }
 

@@ -6,6 +6,7 @@ ghost use Rattle.disk_spec.specs.Strobe.{noStrobe, strobeTicks, strobeAfter, lo
 use disk_lines::DiskLines;
 use disk_spec::Strobe;
 use disk_spec::Watched;
+use units::WaitTicks;
 
 pub fn watched_of(d: DiskLines, sel: u8) -> Watched
     ensures { λ r. ⌜ r ≡ watchedOf d sel ⌝ }
@@ -69,10 +70,11 @@ pub fn off() -> Strobe
     }
 }
 
-// `ticks` VIA ticks pass, worked out at once.
-pub fn wait(strobe: Strobe, ticks: u16) -> Strobe
-    ensures { λ r. ⌜ r ≡ strobeTicks ticks strobe ⌝ }
+// The wait passes, worked out from its VIA ticks.
+pub fn wait(strobe: Strobe, wait: WaitTicks) -> Strobe
+    ensures { λ r. ⌜ r ≡ strobeTicks (wait .0) strobe ⌝ }
 {
+    let ticks = units::tick_count(wait);
     if strobe.steady {
         if 391680 <= strobe.ticks {
             return strobe;

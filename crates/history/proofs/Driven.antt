@@ -17,12 +17,12 @@ use Rattle.history.proofs.Keeps.{accepted-after}
 abbrev wiresAfter : Clock → Wires → History → Wires
 wiresAfter c w h = wiresAt (startOf c w) h
 
-wires-append : (c : Clock) (w : Wires) (c′ : Clock) (es h : List Entry) → wiresAfter c w (es ++ h) ≡ wiresAfter c′ (wiresAfter c w h) es
+pub wires-append : (c : Clock) (w : Wires) (c′ : Clock) (es h : List Entry) → wiresAfter c w (es ++ h) ≡ wiresAfter c′ (wiresAfter c w h) es
 unfolding wiresAt
 wires-append c w c′ [] h = refl
 wires-append c w c′ (e ∷ es) h = refl
 
-clock-append : (c : Clock) (w : Wires) (es h : List Entry) → clockAfter c w (es ++ h) ≡ clockAfter (clockAfter c w h) (wiresAfter c w h) es
+pub clock-append : (c : Clock) (w : Wires) (es h : List Entry) → clockAfter c w (es ++ h) ≡ clockAfter (clockAfter c w h) (wiresAfter c w h) es
 unfolding clockAfter
 clock-append c w [] h = refl
 clock-append c w (e ∷ es) h =

@@ -14,7 +14,7 @@ const SX: [u8; 2] = *b"SX";
 // The length of each part.
 pub const HEAD_LENGTH: usize = 4;
 
-pub const VIA_LENGTH: usize = 19;
+pub const VIA_LENGTH: usize = 20;
 
 pub const PHASE_LENGTH: usize = 4;
 

@@ -16,7 +16,7 @@ abbrev pub headLength : ℕ
 headLength = 4
 
 abbrev pub viaLength : ℕ
-viaLength = 19
+viaLength = 20
 
 abbrev pub phaseLength : ℕ
 phaseLength = 4

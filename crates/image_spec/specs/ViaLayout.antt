@@ -5,7 +5,7 @@ use lib.ListN.{getD}
 use Rattle.via.specs.declared.Via.{Via}
 use Rattle.image_spec.specs.Layout.{bytes16, flagByte, number16, flagAt}
 
--- The ports, T1, T2 and the other registers.
+-- The ports, T1, T2, the other registers and the count of pulses.
 abbrev pub viaLayout : Via → List ℕ
 viaLayout v =
     (v .ports .outb ∷ v .ports .outa ∷ v .ports .dirb ∷ v .ports .dira ∷ [])
@@ -13,7 +13,7 @@ viaLayout v =
     ++ (v .t1 .low ∷ v .t1 .high ∷ flagByte (v .t1 .armed) ∷ flagByte (v .t1 .due) ∷ [])
     ++ bytes16 (v .t2 .counter)
     ++ (v .t2 .low ∷ flagByte (v .t2 .armed) ∷ [])
-    ++ (v .sr ∷ v .acr ∷ v .pcr ∷ v .flags ∷ v .enables ∷ [])
+    ++ (v .sr ∷ v .acr ∷ v .pcr ∷ v .flags ∷ v .enables ∷ v .pulses ∷ [])
 
 -- The same, opened only where a proof asks for it.
 unfoldable pub viaBytes : Via → List ℕ
@@ -31,6 +31,7 @@ viaFields b =
       pcr = getD b 16 0;
       flags = getD b 17 0;
       enables = getD b 18 0;
+      pulses = getD b 19 0;
     }
 
 -- The same, opened only where a proof asks for it.

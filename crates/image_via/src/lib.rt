@@ -36,6 +36,7 @@ fn via_bytes(v: Via) -> [u8; VIA_LENGTH]
         v.pcr,
         v.flags,
         v.enables,
+        v.pulses,
     ]
 }
 
@@ -67,6 +68,7 @@ fn via_of(b: [u8; VIA_LENGTH]) -> Via
         pcr: b[16],
         flags: b[17],
         enables: b[18],
+        pulses: b[19],
     }
 }
 

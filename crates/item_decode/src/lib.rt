@@ -46,5 +46,11 @@ pub fn decode(s: &[u8]) -> Decoded
     if is(s, b"DI") {
         return item_ranged::disk_item(s);
     }
+    if is(s, b"MW") {
+        return item_many::many_item(s);
+    }
+    if is(s, b"KC") {
+        return item_ranged::pulse_item(s);
+    }
     Decoded::Refused(2)
 }

@@ -8,12 +8,13 @@ use item_spec::Found;
 use item_spec::Item;
 use item_spec::Plain;
 
-// The refusal's number; 0 of an item.
+// The refusal's number; 0 of an item and of many writes.
 pub fn refusal(d: Decoded) -> u8
     ensures { λ r. ⌜ r ≡ refusalOf d ⌝ }
 {
     match d {
         Decoded::Done(_) => 0,
+        Decoded::Many(_) => 0,
         Decoded::Refused(n) => n,
     }
 }
@@ -26,7 +27,7 @@ pub fn plain_item(s: &[u8], what: Plain) -> Decoded
     if s.len() != 4 {
         return Decoded::Refused(3);
     }
-    let wait = octets::le16(s, 2);
+    let wait = item_wait::wait_of(s);
     match what {
         Plain::Blank => Decoded::Done(Item::Blank { wait }),
         Plain::Second => Decoded::Done(Item::Second { wait }),
@@ -42,7 +43,7 @@ pub fn read_item(s: &[u8]) -> Decoded
     if s.len() != 8 {
         return Decoded::Refused(3);
     }
-    let wait = octets::le16(s, 2);
+    let wait = item_wait::wait_of(s);
     match item_address::find(octets::le32(s, 4)) {
         Found::Via(register) => Decoded::Done(Item::ReadVia { wait, register }),
         Found::Iwm(location) => Decoded::Done(Item::ReadIwm { wait, location }),
@@ -58,7 +59,7 @@ pub fn write_item(s: &[u8]) -> Decoded
     if s.len() != 9 {
         return Decoded::Refused(3);
     }
-    let wait = octets::le16(s, 2);
+    let wait = item_wait::wait_of(s);
     let value = s[8];
     match item_address::find(octets::le32(s, 4)) {
         Found::Via(register) => Decoded::Done(Item::WriteVia {
@@ -84,7 +85,7 @@ pub fn power_item(s: &[u8]) -> Decoded
         return Decoded::Refused(3);
     }
     Decoded::Done(Item::Power {
-        wait: octets::le16(s, 2),
+        wait: item_wait::wait_of(s),
         seconds: octets::le32(s, 4),
     })
 }

@@ -1,8 +1,8 @@
-// The items whose bytes have ranges, their bodies read: IN, SN, DI.
+// The items whose bytes have ranges, their bodies read: IN, SN, DI, KC.
 ghost use mathlib.Core.Path.{_≡_};
 ghost use Prim.Native.Nat.{_≤_};
 ghost use lib.ListN.{length};
-ghost use Rattle.item_spec.specs.Ranged.{lineRecord, senseRecord, isRetired, diskRecord};
+ghost use Rattle.item_spec.specs.Ranged.{lineRecord, senseRecord, isRetired, diskRecord, pulseRecord};
 use item_spec::Decoded;
 use item_spec::Item;
 
@@ -20,7 +20,7 @@ pub fn line_item(s: &[u8]) -> Decoded
         return Decoded::Refused(5);
     }
     Decoded::Done(Item::Line {
-        wait: octets::le16(s, 2),
+        wait: item_wait::wait_of(s),
         line,
         level,
     })
@@ -51,7 +51,7 @@ pub fn sense_item(s: &[u8]) -> Decoded
         return Decoded::Refused(9);
     }
     Decoded::Done(Item::Sense {
-        wait: octets::le16(s, 2),
+        wait: item_wait::wait_of(s),
         drive,
         register,
         level,
@@ -74,10 +74,28 @@ pub fn disk_item(s: &[u8]) -> Decoded
         return Decoded::Refused(5);
     }
     Decoded::Done(Item::Disk {
-        wait: octets::le16(s, 2),
+        wait: item_wait::wait_of(s),
         drive: external,
         insert,
         locked,
         sides,
+    })
+}
+
+// KC
+pub fn pulse_item(s: &[u8]) -> Decoded
+    requires { ⌜ 2 ≤ length (now s) ⌝ }
+    ensures { λ r. ⌜ r ≡ pulseRecord (now (s .entry)) ⌝ }
+{
+    if s.len() != 5 {
+        return Decoded::Refused(3);
+    }
+    let level = s[4];
+    if 1 < level {
+        return Decoded::Refused(5);
+    }
+    Decoded::Done(Item::Pulse {
+        wait: item_wait::wait_of(s),
+        level,
     })
 }

@@ -1,11 +1,12 @@
--- What the bytes of a record, its kind first, ask for: document 01, "Items and answers as bytes" and refusal 2, and request W-203's DI.
+-- What the bytes of a record, its kind first, ask for: document 01, "Items and answers as bytes" and refusal 2, and the kinds of requests W-203 (DI), W-211 (MW) and W-210 (KC).
 use Prim.Native.Nat.{ℕ}
 use mathlib.Core.Bool.{Bool, cond, _&&_}
 use mathlib.Core.List.{List, [], _∷_}
 use lib.ListN.{getD}
 use lib.Dec.{eqb}
 use Rattle.item_spec.specs.Items.{readRecord, writeRecord, powerRecord, plainRecord}
-use Rattle.item_spec.specs.Ranged.{lineRecord, senseRecord, diskRecord}
+use Rattle.item_spec.specs.Ranged.{lineRecord, senseRecord, diskRecord, pulseRecord}
+use Rattle.item_spec.specs.Many.{manyRecord}
 use Rattle.item_spec.specs.declared.Decoded.{Decoded}
 use Rattle.item_spec.specs.declared.Decoded.the-variants.{Refused}
 use Rattle.item_spec.specs.declared.Plain.{Plain}
@@ -26,4 +27,6 @@ decodedOf s =
     (cond (isKind s (82 ∷ 83 ∷ [])) (plainRecord s Plain.Reset)
     (cond (isKind s (80 ∷ 87 ∷ [])) (powerRecord s)
     (cond (isKind s (68 ∷ 73 ∷ [])) (diskRecord s)
-    (Refused 2)))))))))
+    (cond (isKind s (77 ∷ 87 ∷ [])) (manyRecord s)
+    (cond (isKind s (75 ∷ 67 ∷ [])) (pulseRecord s)
+    (Refused 2)))))))))))

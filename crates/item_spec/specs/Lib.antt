@@ -2,5 +2,6 @@ pub mod Addresses
 pub mod Record
 pub mod Items
 pub mod Ranged
+pub mod Many
 pub mod Kinds
 pub mod Samples

@@ -1,11 +1,11 @@
--- What the bytes of a record with ranges ask for: document 01, "Items and answers as bytes" and refusals 3 and 5, request W-203's DI and request W-214's refusal 9.
+-- What the bytes of a record with ranges ask for: document 01, "Items and answers as bytes" and refusals 3 and 5, request W-203's DI, request W-210's KC and request W-214's refusal 9.
 use Prim.Native.Nat.{ℕ}
 use mathlib.Core.Bool.{Bool, cond, _||_}
 use mathlib.Core.List.{List}
 use lib.ListN.{getD}
 use lib.Dec.{ltb, eqb}
 use Rattle.item_spec.specs.Items.{ofLength, recordWait}
-use Rattle.item_spec.specs.declared.Item.the-variants.{Line, Sense, Disk}
+use Rattle.item_spec.specs.declared.Item.the-variants.{Line, Sense, Disk, Pulse}
 use Rattle.item_spec.specs.declared.Decoded.{Decoded}
 use Rattle.item_spec.specs.declared.Decoded.the-variants.{Done, Refused}
 
@@ -37,3 +37,7 @@ diskRecord s =
     (atMost (getD s 5 0) 1
     (atMost (getD s 6 0) 1
     (atMost (getD s 7 0) 1 (Done (Disk (recordWait s) (getD s 4 0) (getD s 5 0) (getD s 6 0) (getD s 7 0)))))))
+
+-- KC, 5: "one clock pulse and a data level", 0 or 1.
+unfoldable pub pulseRecord : List ℕ → Decoded
+pulseRecord s = ofLength s 5 (atMost (getD s 4 0) 1 (Done (Pulse (recordWait s) (getD s 4 0))))

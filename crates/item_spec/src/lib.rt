@@ -1,5 +1,6 @@
 // Records, items and answers: types, what document 01 says of them (specs/) and the laws of that (proofs/).
 // The code is in the other crates of the family.
+use units::WaitTicks;
 
 // Which of sixteen places, 512 apart, an address is.
 pub enum Place {
@@ -35,71 +36,87 @@ pub struct Answer {
     pub sel: u8,
 }
 
-// What a record asks for. Each wait is in VIA ticks.
+// What a record asks for. Each wait is in VIA ticks, a type of its own.
 pub enum Item {
     // RD
     ReadVia {
-        wait: u16,
+        wait: WaitTicks,
         register: u8,
     },
     ReadIwm {
-        wait: u16,
+        wait: WaitTicks,
         location: u8,
     },
     // WR
     WriteVia {
-        wait: u16,
+        wait: WaitTicks,
         register: u8,
         value: u8,
     },
     WriteIwm {
-        wait: u16,
+        wait: WaitTicks,
         location: u8,
         value: u8,
     },
     // VB
     Blank {
-        wait: u16,
+        wait: WaitTicks,
     },
     // SE
     Second {
-        wait: u16,
+        wait: WaitTicks,
     },
     // IN
     Line {
-        wait: u16,
+        wait: WaitTicks,
         line: u8,
         level: u8,
     },
     // SN: drive 0 is internal, 1 external.
     Sense {
-        wait: u16,
+        wait: WaitTicks,
         drive: u8,
         register: u8,
         level: u8,
     },
     // RS
     Reset {
-        wait: u16,
+        wait: WaitTicks,
     },
     // PW
     Power {
-        wait: u16,
+        wait: WaitTicks,
         seconds: u32,
     },
     // DI: drive 0 is internal, 1 external; insert 1 or remove 0; locked 1, double-sided 1.
     Disk {
-        wait: u16,
+        wait: WaitTicks,
         drive: u8,
         insert: u8,
         locked: u8,
         sides: u8,
     },
+    // KC: one pulse of the keyboard's clock, with the level of its data line.
+    Pulse {
+        wait: WaitTicks,
+        level: u8,
+    },
 }
 
-// A record read whole: its item, or the number of its refusal.
+// MW: many writes to one address, each value a WR of its own. The values stay in the record, from byte 9 after its length on.
+pub struct Many {
+    // Before the first value, in VIA ticks.
+    pub wait: WaitTicks,
+    // Whether the address is that of an IWM location, else that of a VIA register.
+    pub iwm: bool,
+    // Which of the sixteen.
+    pub number: u8,
+}
+
+// A record read whole: its item, its many writes, or the number of its refusal.
 pub enum Decoded {
     Done(Item),
+    Many(Many),
     Refused(u8),
 }
 

@@ -30,7 +30,7 @@ inquiryOpen k (command byte ∷ es) = eqb byte 16 && none (codesOf (keyboardAfte
 inquiryOpen k (key code ∷ es) = false
 inquiryOpen k (wait n ∷ es) = inquiryOpen k es
 
--- The VIA ticks since then "with no key and no command". At the start: those that it has waited.
+-- The VIA ticks since then, with no key and no command. At the start: those that it has waited.
 unfoldable pub ticksSince : Keyboard → List Event → ℕ
 ticksSince k [] = 195840 - k .left
 ticksSince k (command byte ∷ es) = 0

@@ -33,6 +33,6 @@ pub fn accepted(m: Machine) -> bool
     let v = via_flags::accepted(m.via);
     let k = clock_phase::accepted_phase(chip, p, w.enable);
     let u = clock_store::unused_clear(t);
-    let g = disk_drives::accepted(m.drives, machine_pins::watched(m));
+    let g = disk_drives::accepted(m.drives, machine_pins::watched(machine_pins::board_of(m)));
     b & s & v & (k & u) & g
 }

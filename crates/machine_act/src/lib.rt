@@ -1,5 +1,5 @@
-// An item over the machine in parts: its wait, and its action with the clock's look at its wires. The VIA, the disk lines and the IN lines stay in the machine;
-// the clock's core and the drives go by value beside it; the cells and the sense registers are lent.
+// An item over the machine in parts: its wait, and its action with the clock's look at its wires. The board, the clock's core and the drives go in by value; the cells
+// and the sense registers are lent.
 ghost use mathlib.Core.Path.{_≡_};
 ghost use mathlib.Core.Bool.{true};
 ghost use Prim.Native.Nat.{ℕ, _<_, _+_, _*_};
@@ -12,30 +12,35 @@ ghost use Rattle.clock_parts.specs.Parts.{wholeClock};
 ghost use Rattle.disk_lines.specs.Lines.{readLine, senseAt};
 ghost use Rattle.disk_spec.specs.Drives.{drivesShown};
 ghost use Rattle.item_spec.specs.Items.{ItemInRange};
-ghost use Rattle.via.specs.Registers.{valueRead};
+ghost use Rattle.via.specs.Registers.{valueRead, flagsRead};
+ghost use Rattle.via.specs.Shift.{pulsesAccessed};
 ghost use Rattle.via.specs.Writes.{portsWritten, viaWritten};
 ghost use Rattle.machine_spec.specs.Pins.{wiresOf, selOf};
 ghost use Rattle.machine_spec.specs.Wiring.{inputsOf};
-ghost use Rattle.machine_spec.specs.declared.Machine.{Machine};
-ghost use Rattle.machine_spec.specs.Machine.{withVia, Levels};
+ghost use Rattle.machine_pins.specs.declared.Board.{Board};
+ghost use Rattle.machine_spec.specs.Machine.{Levels};
 ghost use Rattle.machine_spec.specs.Stages.{itemWait};
 ghost use Rattle.machine_spec.specs.Action.{actedOf};
-ghost use Rattle.machine_act.specs.Parts.{wholeMachine, machineChange, senseChange, machineAfter, clockedOf, ChangeInRange, PhaseAccepted};
+ghost use Rattle.machine_act.specs.declared.Change.the-variants.{Shift};
+ghost use Rattle.machine_act.specs.Parts.{wholeMachine, boardVia, boardChange, senseChange, machineAfter, clockedOf, ChangeInRange, PhaseAccepted};
+use clock_command::Engine;
 use clock_parts::Core;
 use disk_lines::DiskLines;
 use disk_spec::Drives;
 use item_spec::Item;
+use machine_pins::Board;
 use machine_spec::Machine;
+use units::WaitTicks;
 use via::Ports;
+use via::Via;
 
-// What an item changes in what stays in place: at most one thing.
+// What an item changes on the board or in the sense registers: at most one thing.
 pub enum Change {
     Nothing,
     // The VIA's flags.
     Flags(u8),
-    // The VIA's port B: its output, its direction.
-    OutB(u8),
-    DirB(u8),
+    // The VIA's ports, by a write to port B or to its direction.
+    Ports(Ports),
     // Another VIA register, and the value written to it.
     Register(u8, u8),
     // An IN line, and a sense register, each with its level.
@@ -44,6 +49,8 @@ pub enum Change {
     // The VIA by RS and by PW.
     Reset,
     Fresh,
+    // The VIA's register 10, its flags and its count of pulses.
+    Shift(u8, u8, u8),
 }
 
 // What an item leaves: the value read, the disk lines, the clock's core, the drives, and the change.
@@ -55,13 +62,13 @@ pub struct Acted {
     pub change: Change,
 }
 
-// The machine put together: m, with its clock, its drives and its sense registers taken from beside it.
-pub fn whole_machine(m: Machine, k: Core, cells: [u8; 256], d: Drives, sense: [u8; 32]) -> Machine
-    ensures { λ r. ⌜ r ≡ wholeMachine m k cells d sense ⌝ }
+// The machine put together.
+pub fn whole_machine(b: Board, k: Core, cells: [u8; 256], d: Drives, sense: [u8; 32]) -> Machine
+    ensures { λ r. ⌜ r ≡ wholeMachine b k cells d sense ⌝ }
 {
-    let v = m.via;
-    let l = m.disk;
-    let inputs = m.inputs;
+    let v = b.via;
+    let l = b.disk;
+    let inputs = b.inputs;
     Machine {
         via: v,
         clock: clock_parts::whole_clock(k, cells),
@@ -72,9 +79,9 @@ pub fn whole_machine(m: Machine, k: Core, cells: [u8; 256], d: Drives, sense: [u
     }
 }
 
-// The item's wait, in VIA ticks.
-pub fn wait_of(item: Item) -> u16
-    ensures { λ r. ⌜ r ≡ itemWait item ⌝ }
+// The item's wait.
+pub fn wait_of(item: Item) -> WaitTicks
+    ensures { λ r. ⌜ r .0 ≡ itemWait item ⌝ }
 {
     match item {
         Item::ReadVia { wait, .. } => wait,
@@ -88,19 +95,29 @@ pub fn wait_of(item: Item) -> u16
         Item::Reset { wait } => wait,
         Item::Power { wait, .. } => wait,
         Item::Disk { wait, .. } => wait,
+        Item::Pulse { wait, .. } => wait,
     }
 }
 
 // What RD of a VIA register gives.
-fn via_value(m: Machine, k: Core, register: u8) -> u8
+fn via_value(b: Board, k: Core, register: u8) -> u8
     requires { ⌜ register < 16 ⌝ }
-    requires { ⌜ allLevels (m .inputs) ≡ true ⌝ }
-    ensures { λ r. ⌜ r ≡ valueRead register (inputsOf (shownLevel (k .phase)) (m .inputs)) (m .via) ⌝ }
+    requires { ⌜ allLevels (b .inputs) ≡ true ⌝ }
+    ensures { λ r. ⌜ r ≡ valueRead register (inputsOf (shownLevel (k .phase)) (b .inputs)) (b .via) ⌝ }
 {
     let p = k.phase;
-    let inputs = m.inputs;
+    let inputs = b.inputs;
     let outside = machine_pins::inputs_of(clock_phase::shown_line(p), inputs);
-    via_registers::value_read(m.via, register, outside)
+    via_registers::value_read(b.via, register, outside)
+}
+
+// What RD of a VIA register changes: flags, and by register 10 the count of pulses.
+fn read_change(via: Via, register: u8) -> Change
+    ensures { λ r. ⌜ r ≡ Shift (via .sr) (flagsRead register via) (pulsesAccessed register (via .pulses)) ⌝ }
+{
+    let flags = via_registers::flags_read(via, register);
+    let pulses = via_registers::pulses_accessed(register, via.pulses);
+    Change::Shift(via.sr, flags, pulses)
 }
 
 // What RD of an IWM location gives, the lines being those after the access. Location 14 alone asks the sense.
@@ -116,35 +133,51 @@ fn iwm_value(d: DiskLines, drives: Drives, location: u8, ports: Ports, sense: &[
     d.read(location, disk_drives::shown(drives, at, stored))
 }
 
+// The ports once a value is written to a register. They are made whole, not changed byte by byte: a byte stored makes the next look at all four wait for it.
+fn ports_written(p: Ports, register: u8, value: u8) -> Ports
+    ensures { λ r. ⌜ r ≡ portsWritten register value p ⌝ }
+{
+    Ports {
+        outb: via_bits::pick(register == 0, value, p.outb),
+        outa: via_bits::pick((register == 1) | (register == 15), value, p.outa),
+        dirb: via_bits::pick(register == 2, value, p.dirb),
+        dira: via_bits::pick(register == 3, value, p.dira),
+    }
+}
+
 // The clock's look at its wires, where a VIA register is written: port B's output and its direction alone move them.
-fn clocked(k: Core, ports: Ports, register: u8, value: u8, cells: &mut [u8; 256]) -> Core
+pub fn clocked(
+    engine: Engine,
+    k: Core,
+    ports: Ports,
+    register: u8,
+    value: u8,
+    cells: &mut [u8; 256],
+) -> Core
     requires { ⌜ acceptedPhase (k .chip) (k .phase) (wiresOf ports (shownLevel (k .phase)) .enable) ≡ true ⌝ }
     ensures { λ r. ⌜ wholeClock r (now (cells .exit)) ≡ stepWires (wholeClock k (now (cells .entry))) (wiresOf ports (shownLevel (k .phase))) (wiresOf (portsWritten register value ports) (shownLevel (k .phase))) ⌝ }
 {
-    let mut next = ports;
-    match register {
-        0 => next.outb = value,
-        2 => next.dirb = value,
-        _ => return k,
+    if (register != 0) & (register != 2) {
+        return k;
     }
     let p = k.phase;
     let line = clock_phase::shown_line(p);
     let before = machine_pins::wires_of(ports, line);
-    clock_parts::step(k, before, machine_pins::wires_of(next, line), cells)
+    let after = machine_pins::wires_of(ports_written(ports, register, value), line);
+    clock_parts::step(engine, k, before, after, cells)
 }
 
-// What a write to a VIA register changes.
-fn via_change(register: u8, value: u8) -> Change
+// What a write to a VIA register changes, from these ports.
+fn via_change(ports: Ports, register: u8, value: u8) -> Change
     requires { ⌜ register < 16 ⌝ }
-    ensures { λ r. ⌜ ((m : Machine) → machineChange r m ≡ withVia m (viaWritten register value (m .via))) ⌝ }
+    ensures { λ r. ⌜ ((b : Board) → b .via .ports ≡ ports → boardChange r b ≡ boardVia b (viaWritten register value (b .via))) ⌝ }
     ensures { λ r. ⌜ ((s : List ℕ) → senseChange r s ≡ s) ⌝ }
     ensures { λ r. ⌜ ChangeInRange r ⌝ }
 {
-    match register {
-        0 => Change::OutB(value),
-        2 => Change::DirB(value),
-        _ => Change::Register(register, value),
+    if (register != 0) & (register != 2) {
+        return Change::Register(register, value);
     }
+    Change::Ports(ports_written(ports, register, value))
 }
 
 // The place of a sense register among the 32.
@@ -157,7 +190,8 @@ fn sense_index(drive: u8, register: u8) -> usize
 
 // What an item does, its wait having passed, and the clock's look at its wires.
 pub fn act(
-    m: Machine,
+    engine: Engine,
+    b: Board,
     k: Core,
     d: Drives,
     item: Item,
@@ -165,39 +199,39 @@ pub fn act(
     cells: &mut [u8; 256],
 ) -> Acted
     requires { ⌜ ItemInRange item ⌝ }
-    requires { ⌜ Levels (wholeMachine m k (now cells) d (now sense)) ⌝ }
-    requires { ⌜ PhaseAccepted (wholeMachine m k (now cells) d (now sense)) ⌝ }
-    ensures { λ r. ⌜ machineAfter r m (now (cells .exit)) (now (sense .entry)) ≡ clockedOf (wholeMachine m k (now (cells .entry)) d (now (sense .entry))) item ⌝ }
-    ensures { λ r. ⌜ r .value ≡ actedOf (wholeMachine m k (now (cells .entry)) d (now (sense .entry))) item .value ⌝ }
+    requires { ⌜ Levels (wholeMachine b k (now cells) d (now sense)) ⌝ }
+    requires { ⌜ PhaseAccepted (wholeMachine b k (now cells) d (now sense)) ⌝ }
+    ensures { λ r. ⌜ machineAfter r b (now (cells .exit)) (now (sense .entry)) ≡ clockedOf (wholeMachine b k (now (cells .entry)) d (now (sense .entry))) item ⌝ }
+    ensures { λ r. ⌜ r .value ≡ actedOf (wholeMachine b k (now (cells .entry)) d (now (sense .entry))) item .value ⌝ }
     ensures { λ r. ⌜ ChangeInRange (r .change) ⌝ }
 {
     let mut value: u8 = 0;
-    let mut disk = m.disk;
+    let mut disk = b.disk;
     let mut core = k;
     let mut drives = d;
     let mut change = Change::Nothing;
     match item {
         Item::ReadVia { register, .. } => {
-            value = via_value(m, k, register);
-            change = Change::Flags(via_registers::flags_read(m.via, register));
+            value = via_value(b, k, register);
+            change = read_change(b.via, register);
         }
         Item::ReadIwm { location, .. } => {
-            disk = m.disk.access(location);
-            value = iwm_value(disk, d, location, m.via.ports, sense);
+            disk = b.disk.access(location);
+            value = iwm_value(disk, d, location, b.via.ports, sense);
         }
         Item::WriteVia {
             register,
             value,
             ..
         } => {
-            core = clocked(k, m.via.ports, register, value, cells);
-            change = via_change(register, value);
+            core = clocked(engine, k, b.via.ports, register, value, cells);
+            change = via_change(b.via.ports, register, value);
         }
-        Item::WriteIwm { location, .. } => disk = m.disk.access(location),
-        Item::Blank { .. } => change = Change::Flags(m.via.flags | 2),
+        Item::WriteIwm { location, .. } => disk = b.disk.access(location),
+        Item::Blank { .. } => change = Change::Flags(b.via.flags | 2),
         Item::Second { .. } => {
             core = clock_parts::add_seconds(k, 1);
-            change = Change::Flags(m.via.flags | 1);
+            change = Change::Flags(b.via.flags | 1);
         }
         Item::Line { line, level, .. } => change = Change::Line(line as usize, level),
         Item::Sense {
@@ -227,6 +261,11 @@ pub fn act(
             ..
         } => {
             drives = disk_drives::place(d, drive == 1, insert == 1, locked == 1, sides == 1);
+        }
+        Item::Pulse { level, .. } => {
+            let p = b.via.pulse(level);
+            value = p.value;
+            change = Change::Shift(p.via.sr, p.via.flags, p.via.pulses);
         }
     }
     Acted {

@@ -1,16 +1,42 @@
 // The levels of lines that the board goes by: what it gives the VIA's ports, the clock's three wires, SEL, the strobe's levels, the interrupt level.
 ghost use mathlib.Core.Path.{_≡_};
 ghost use mathlib.Core.Bool.{true};
-ghost use Prim.Native.Nat.{_<_, _+_, _*_};
+ghost use mathlib.Core.List.{List};
+ghost use Prim.Native.Nat.{ℕ, _<_, _+_, _*_};
+ghost use Rattle.levels.specs.Levels.{allLevels};
+ghost use Rattle.clock.specs.declared.Clock.{Clock};
+ghost use Rattle.disk_spec.specs.declared.Drives.{Drives};
 ghost use Rattle.machine_spec.specs.Pins.{pin, wiresOf, selOf};
 ghost use Rattle.machine_spec.specs.Machine.{wires, strobeLevels};
-ghost use Rattle.levels.specs.Levels.{allLevels};
 ghost use Rattle.machine_spec.specs.Wiring.{inputsOf, interruptLevel};
+ghost use Rattle.machine_pins.specs.Board.{onBoard};
 use clock_spec::Wires;
+use disk_lines::DiskLines;
 use disk_spec::Watched;
 use machine_spec::Machine;
 use via::Inputs;
 use via::Ports;
+use via::Via;
+
+// The machine but for its clock, its sense registers and its drives.
+pub struct Board {
+    pub via: Via,
+    pub disk: DiskLines,
+    pub inputs: [u8; 7],
+}
+
+pub fn board_of(m: Machine) -> Board
+    ensures { λ r. ⌜ onBoard r (m .clock) (m .sense) (m .drives) ≡ m ⌝ }
+{
+    let via = m.via;
+    let disk = m.disk;
+    let inputs = m.inputs;
+    Board {
+        via: via,
+        disk: disk,
+        inputs: inputs,
+    }
+}
 
 // One line of a port, by its weight in the port's byte: the output bit where its direction is 1, else the input.
 fn pin_level(out: u8, dir: u8, weight: u8, input: bool) -> bool
@@ -52,11 +78,11 @@ pub fn wires(m: Machine) -> Wires
 }
 
 // The levels that the drives' strobe goes by.
-pub fn watched(m: Machine) -> Watched
-    ensures { λ r. ⌜ r ≡ strobeLevels m ⌝ }
+pub fn watched(b: Board) -> Watched
+    ensures { λ r. ⌜ ((c : Clock) (s : List ℕ) (d : Drives) → r ≡ strobeLevels (onBoard b c s d)) ⌝ }
 {
-    let d = m.disk;
-    disk_strobe::watched_of(d, sel_of(m.via.ports))
+    let d = b.disk;
+    disk_strobe::watched_of(d, sel_of(b.via.ports))
 }
 
 // Four levels as bits 3 to 6.

@@ -11,14 +11,14 @@ use Rattle.clock_spec.specs.Phase.{acceptedPhase}
 use Rattle.clock_spec.specs.declared.Chip.{Chip}
 use Rattle.clock_spec.specs.declared.Phase.{Phase}
 use Rattle.item_spec.specs.declared.Item.{Item}
-use Rattle.item_spec.specs.declared.Item.the-variants.{ReadVia, ReadIwm, WriteVia, WriteIwm, Blank, Second, Line, Sense, Reset, Power, Disk}
+use Rattle.item_spec.specs.declared.Item.the-variants.{ReadVia, ReadIwm, WriteVia, WriteIwm, Blank, Second, Line, Sense, Reset, Power, Disk, Pulse}
 use Rattle.machine_spec.specs.declared.Machine.{Machine}
-use Rattle.machine_spec.specs.Accesses.{viaRead, iwmRead}
+use Rattle.machine_spec.specs.Accesses.{viaRead, iwmRead, keyboardPulse}
 use Rattle.machine_spec.specs.Action.{actedOf}
 
 -- An action moves no phase: the clock sees its wires afterwards.
 pub acted-phase : (m : Machine) (i : Item) → actedOf m i .machine .clock .phase ≡ m .clock .phase
-unfolding actedOf viaRead iwmRead
+unfolding actedOf viaRead iwmRead keyboardPulse
 acted-phase m (ReadVia w r) = refl
 acted-phase m (ReadIwm w k) = refl
 acted-phase m (WriteVia w r v) = refl
@@ -30,10 +30,11 @@ acted-phase m (Sense w d r v) = refl
 acted-phase m (Reset w) = refl
 acted-phase m (Power w s) = refl
 acted-phase m (Disk w d i l b) = refl
+acted-phase m (Pulse w l) = refl
 
 -- No action changes which clock chip it is, nor the cells; "RS and PW keep all cells and the size" (W-206).
 pub acted-cells : (m : Machine) (i : Item) → (actedOf m i .machine .clock .store .chip ≡ m .clock .store .chip) × (actedOf m i .machine .clock .store .cells ≡ m .clock .store .cells)
-unfolding actedOf viaRead iwmRead
+unfolding actedOf viaRead iwmRead keyboardPulse
 acted-cells m (ReadVia w r) = (refl, refl)
 acted-cells m (ReadIwm w k) = (refl, refl)
 acted-cells m (WriteVia w r v) = (refl, refl)
@@ -45,6 +46,7 @@ acted-cells m (Sense w d r v) = (refl, refl)
 acted-cells m (Reset w) = (refl, refl)
 acted-cells m (Power w s) = (refl, refl)
 acted-cells m (Disk w d i l b) = (refl, refl)
+acted-cells m (Pulse w l) = (refl, refl)
 
 -- So the clock's phase goes with enable after it where it did before, and the cells not in use stay clear.
 pub acted-accepted : (m : Machine) (i : Item) (e : Bool)

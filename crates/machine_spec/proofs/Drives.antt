@@ -2,6 +2,7 @@
 use Prim.Native.Nat.{ℕ}
 use mathlib.Core.Path.{_≡_, refl, ap, _∙_}
 use mathlib.Core.Bool.{Bool, false}
+use Rattle.units.specs.declared.WaitTicks.{WaitTicks}
 use Rattle.via.proofs.Kept.{ticks-ports}
 use Rattle.via.specs.declared.Ports.{Ports}
 use Rattle.clock_spec.specs.Phase.{shownLevel}
@@ -14,7 +15,7 @@ use Rattle.disk_spec.specs.Strobe.{noStrobe, afterBy, strobeAfter}
 use Rattle.disk_spec.proofs.Pulses.{reset-writes-nothing}
 use Rattle.disk_spec.specs.declared.Drives.{Drives}
 use Rattle.disk_spec.specs.Drives.{withStrobe, drivesTicks, drivesPowered, drivesWritten, drivesAfter}
-use Rattle.item_spec.specs.declared.Item.the-variants.{Reset, Power, Disk}
+use Rattle.item_spec.specs.declared.Item.the-variants.{Reset, Power, Disk, Pulse}
 use Rattle.machine_spec.specs.declared.Machine.{Machine}
 use Rattle.machine_spec.specs.Machine.{wires, strobeLevels}
 use Rattle.machine_spec.specs.Action.{actedOf}
@@ -29,16 +30,16 @@ dropped before after d p q =
     ∙ ap (λ (b : Bool). withStrobe d (afterBy b (before .lstrb) (unspoilt before after) (after .enable) (d .strobe))) p
 
 -- "RS changes no drive": both drives are as the wait leaves them.
-pub reset-drives : (m : Machine) (w : ℕ) → stepOf m (Reset w) .machine .drives ≡ withStrobe (drivesTicks w (m .drives)) noStrobe
+pub reset-drives : (m : Machine) (w : WaitTicks) → stepOf m (Reset w) .machine .drives ≡ withStrobe (drivesTicks (w .0) (m .drives)) noStrobe
 unfolding stepOf actedOf itemWait watchedOf linesOff
-reset-drives m w = dropped (strobeLevels m) (strobeLevels (stepOf m (Reset w) .machine)) (drivesTicks w (m .drives)) refl refl
+reset-drives m w = dropped (strobeLevels m) (strobeLevels (stepOf m (Reset w) .machine)) (drivesTicks (w .0) (m .drives)) refl refl
 
 -- "PW stops motors, drops pending steps and keeps the rest of each drive", after its own wait.
-pub power-drives : (m : Machine) (w s : ℕ) → stepOf m (Power w s) .machine .drives ≡ withStrobe (drivesPowered (drivesTicks w (m .drives))) noStrobe
+pub power-drives : (m : Machine) (w : WaitTicks) (s : ℕ) → stepOf m (Power w s) .machine .drives ≡ withStrobe (drivesPowered (drivesTicks (w .0) (m .drives))) noStrobe
 unfolding stepOf actedOf itemWait watchedOf linesOff
-power-drives m w s = dropped (strobeLevels m) (strobeLevels (stepOf m (Power w s) .machine)) (drivesPowered (drivesTicks w (m .drives))) refl refl
+power-drives m w s = dropped (strobeLevels m) (strobeLevels (stepOf m (Power w s) .machine)) (drivesPowered (drivesTicks (w .0) (m .drives))) refl refl
 
 -- DI changes no wire of the clock.
-pub disk-wires : (m : Machine) (w d i l b : ℕ) → wires (actedOf (afterWait w m) (Disk w d i l b) .machine) ≡ wires m
+pub disk-wires : (m : Machine) (w : WaitTicks) (d i l b : ℕ) → wires (actedOf (afterWait (w .0) m) (Disk w d i l b) .machine) ≡ wires m
 unfolding actedOf
-disk-wires m w d i l b = ap (λ (p : Ports). wiresOf p (shownLevel (m .clock .phase))) (ticks-ports w (m .via))
+disk-wires m w d i l b = ap (λ (p : Ports). wiresOf p (shownLevel (m .clock .phase))) (ticks-ports (w .0) (m .via))

@@ -6,6 +6,7 @@ use mathlib.Core.List.{List}
 use native.Mathlib.Omega.{arith}
 use lib.ListN.{getD, set}
 use lib.Seq.{getD-set-other}
+use Rattle.units.specs.declared.WaitTicks.{WaitTicks}
 use Rattle.via.specs.declared.Inputs.{Inputs}
 use Rattle.via.specs.Via.{ticks, raisedOf}
 use Rattle.via.specs.Registers.{registerRead}
@@ -16,7 +17,7 @@ use Rattle.disk_lines.specs.Lines.{afterAccess, senseAt}
 use Rattle.disk_spec.specs.Sense.{isDriveSense, senseShown}
 use Rattle.disk_spec.specs.Drives.{drivesShown}
 use Rattle.item_spec.specs.declared.Item.{Item}
-use Rattle.item_spec.specs.declared.Item.the-variants.{ReadVia, ReadIwm, WriteVia, WriteIwm, Blank, Second, Line, Sense, Reset, Power, Disk}
+use Rattle.item_spec.specs.declared.Item.the-variants.{ReadVia, ReadIwm, WriteVia, WriteIwm, Blank, Second, Line, Sense, Reset, Power, Disk, Pulse}
 use Rattle.machine_spec.specs.declared.Machine.{Machine}
 use Rattle.machine_spec.specs.Machine.{withInputs, withSense}
 use Rattle.machine_spec.specs.Accesses.{viaRead, iwmRead}
@@ -26,7 +27,7 @@ use Rattle.machine_spec.specs.Step.{stepOf}
 
 -- ---- the value
 
--- An RD.
+-- An RD, or a KC: W-210 gives its answer a value too.
 abbrev pub reads : Item → Bool
 reads (ReadVia w r) = true
 reads (ReadIwm w k) = true
@@ -39,8 +40,9 @@ reads (Sense w d r v) = false
 reads (Reset w) = false
 reads (Power w s) = false
 reads (Disk w d i l b) = false
+reads (Pulse w l) = true
 
--- "value read (0 unless RD)".
+-- "value read (0 unless RD)", and unless KC shifts out.
 pub unread : (m : Machine) (i : Item) → reads i ≡ false → stepOf m i .value ≡ 0
 unfolding stepOf actedOf
 unread m (ReadVia w r) h = absurd (true≢false h)
@@ -54,6 +56,7 @@ unread m (Sense w d r v) h = refl
 unread m (Reset w) h = refl
 unread m (Power w s) h = refl
 unread m (Disk w d i l b) h = refl
+unread m (Pulse w l) h = absurd (true≢false h)
 
 -- ---- what a read sees
 
@@ -79,21 +82,21 @@ drive-sensed k m s h = simp h
 
 -- "VB sets flag 1, SE flag 0"; W-204: "SE still sets flag 0" while the test byte stops the seconds. `raised-bit`
 -- (registers) says which flags that leaves set.
-pub blank-flag : (m : Machine) (w : ℕ) → stepOf m (Blank w) .machine .via ≡ raisedOf 2 (ticks w (m .via))
+pub blank-flag : (m : Machine) (w : WaitTicks) → stepOf m (Blank w) .machine .via ≡ raisedOf 2 (ticks (w .0) (m .via))
 unfolding stepOf actedOf itemWait
 blank-flag m w = refl
 
-pub second-flag : (m : Machine) (w : ℕ) → stepOf m (Second w) .machine .via ≡ raisedOf 1 (ticks w (m .via))
+pub second-flag : (m : Machine) (w : WaitTicks) → stepOf m (Second w) .machine .via ≡ raisedOf 1 (ticks (w .0) (m .via))
 unfolding stepOf actedOf itemWait
 second-flag m w = refl
 
 -- ---- reset and power
 
 -- RS: "IN and sense levels stay"; PW leaves them too; W-205: lines 5 and 6 are "kept over RS and PW".
-pub reset-levels : (m : Machine) (w : ℕ) → (stepOf m (Reset w) .machine .inputs ≡ m .inputs) × (stepOf m (Reset w) .machine .sense ≡ m .sense)
+pub reset-levels : (m : Machine) (w : WaitTicks) → (stepOf m (Reset w) .machine .inputs ≡ m .inputs) × (stepOf m (Reset w) .machine .sense ≡ m .sense)
 unfolding stepOf actedOf
 reset-levels m w = (refl, refl)
 
-pub power-levels : (m : Machine) (w s : ℕ) → (stepOf m (Power w s) .machine .inputs ≡ m .inputs) × (stepOf m (Power w s) .machine .sense ≡ m .sense)
+pub power-levels : (m : Machine) (w : WaitTicks) (s : ℕ) → (stepOf m (Power w s) .machine .inputs ≡ m .inputs) × (stepOf m (Power w s) .machine .sense ≡ m .sense)
 unfolding stepOf actedOf
 power-levels m w s = (refl, refl)

@@ -4,6 +4,7 @@ pub mod ActionKeeps
 pub mod Stages
 pub mod Waits
 pub mod Step
+pub mod Keyboard
 pub mod Keeps
 pub mod Drives
 pub mod Items

@@ -7,6 +7,7 @@ use mathlib.Core.List.{List, [], _∷_}
 use native.Mathlib.Omega.{arith}
 use borrow.Author.Tests.{not-true}
 use lib.Dec.{eqb, ltb, leb}
+use Rattle.units.specs.declared.WaitTicks.{WaitTicks}
 use Rattle.levels.proofs.Laws.{no, both}
 use Rattle.via_timer.specs.Timer.{at, steps}
 use Rattle.via_timer.specs.declared.Counter.{Counter}
@@ -20,10 +21,11 @@ use Rattle.via.specs.Writes.{viaWritten}
 use Rattle.via.specs.Registers.{flagsByte, registerRead}
 use Rattle.via.proofs.Waits.{first, waits, ticks-add}
 use Rattle.via.proofs.FlagsExact.{flag-6}
+use Rattle.via.proofs.AccessKept.{pulse-timers}
 use Rattle.item_spec.specs.declared.Item.{Item}
-use Rattle.item_spec.specs.declared.Item.the-variants.{ReadVia, ReadIwm, WriteVia, WriteIwm, Blank, Second, Line, Sense, Reset, Power, Disk}
+use Rattle.item_spec.specs.declared.Item.the-variants.{ReadVia, ReadIwm, WriteVia, WriteIwm, Blank, Second, Line, Sense, Reset, Power, Disk, Pulse}
 use Rattle.machine_spec.specs.declared.Machine.{Machine}
-use Rattle.machine_spec.specs.Accesses.{viaRead, iwmRead}
+use Rattle.machine_spec.specs.Accesses.{viaRead, iwmRead, keyboardPulse}
 use Rattle.machine_spec.specs.Action.{actedOf}
 use Rattle.machine_spec.specs.Stages.{itemWait, afterWait}
 use Rattle.machine_spec.specs.Step.{stepOf, afterItems}
@@ -46,6 +48,7 @@ spares (Sense w d r v) = true
 spares (Reset w) = false
 spares (Power w s) = false
 spares (Disk w d i l b) = true
+spares (Pulse w l) = true
 
 abbrev pub allSpare : List Item → Bool
 allSpare [] = true
@@ -89,20 +92,23 @@ unwritten r value v h =
 
 spared : (m : Machine) (i : Item) → spares i ≡ true
     → (stepOf m i .machine .via .t1 ≡ ticks (itemWait i) (m .via) .t1) × (stepOf m i .machine .via .acr ≡ m .via .acr)
-unfolding stepOf actedOf itemWait viaRead registerRead iwmRead raisedOf
-spared m (ReadVia w r) h = (refl, acr-waits w (m .via))
-spared m (ReadIwm w k) h = (refl, acr-waits w (m .via))
+unfolding stepOf actedOf itemWait viaRead registerRead iwmRead raisedOf keyboardPulse
+spared m (ReadVia w r) h = (refl, acr-waits (w .0) (m .via))
+spared m (ReadIwm w k) h = (refl, acr-waits (w .0) (m .via))
 spared m (WriteVia w r v) h =
-    let e = unwritten r v (ticks w (m .via)) (not-true (touches r) h) in
-    (e .0, e .1 ∙ acr-waits w (m .via))
-spared m (WriteIwm w k v) h = (refl, acr-waits w (m .via))
-spared m (Blank w) h = (refl, acr-waits w (m .via))
-spared m (Second w) h = (refl, acr-waits w (m .via))
-spared m (Line w l v) h = (refl, acr-waits w (m .via))
-spared m (Sense w d r v) h = (refl, acr-waits w (m .via))
+    let e = unwritten r v (ticks (w .0) (m .via)) (not-true (touches r) h) in
+    (e .0, e .1 ∙ acr-waits (w .0) (m .via))
+spared m (WriteIwm w k v) h = (refl, acr-waits (w .0) (m .via))
+spared m (Blank w) h = (refl, acr-waits (w .0) (m .via))
+spared m (Second w) h = (refl, acr-waits (w .0) (m .via))
+spared m (Line w l v) h = (refl, acr-waits (w .0) (m .via))
+spared m (Sense w d r v) h = (refl, acr-waits (w .0) (m .via))
 spared m (Reset w) h = no h
 spared m (Power w s) h = no h
-spared m (Disk w d i l b) h = (refl, acr-waits w (m .via))
+spared m (Disk w d i l b) h = (refl, acr-waits (w .0) (m .via))
+spared m (Pulse w l) h =
+    let e = pulse-timers l (ticks (w .0) (m .via)) in
+    (e .0, e .1 ∙ acr-waits (w .0) (m .via))
 
 -- T1 after such items is T1 after their VIA ticks alone.
 pub spared-items : (m : Machine) (is : List Item) → allSpare is ≡ true
@@ -130,10 +136,10 @@ pub record Loaded (N : ℕ) (t : Timer1) : Type 0 where
   pub due : t .due ≡ false
 
 -- A write to register 5 leaves it so.
-pub loads : (m : Machine) (w v : ℕ) → Loaded (v * 256 + m .via .t1 .low) (stepOf m (WriteVia w 5 v) .machine .via .t1)
+pub loads : (m : Machine) (w : WaitTicks) (v : ℕ) → Loaded (v * 256 + m .via .t1 .low) (stepOf m (WriteVia w 5 v) .machine .via .t1)
 unfolding stepOf actedOf itemWait viaWritten latchOf
 loads m w v =
-    let e : v * 256 + ticks w (m .via) .t1 .low ≡ v * 256 + m .via .t1 .low = ap (λ (t : Timer1). v * 256 + t .low) (timer-waits w (m .via)) in
+    let e : v * 256 + ticks (w .0) (m .via) .t1 .low ≡ v * 256 + m .via .t1 .low = ap (λ (t : Timer1). v * 256 + t .low) (timer-waits (w .0) (m .via)) in
     record { counter = e; latches = e; armed = refl; due = refl }
 
 -- Flag 6 as the action of the next item finds it, w VIA ticks after the items.
@@ -155,9 +161,9 @@ in-13 v = go (asking v)
     go true = ap (λ (k : ℕ). eqb k 1) (bit-6 (v .flags))
     go false = ap (λ (k : ℕ). eqb k 1) (bit-6-low (v .flags))
 
-pub flag-read : (m : Machine) (is : List Item) (w : ℕ) → bit 6 (stepOf (afterItems m is) (ReadVia w 13) .value) ≡ flagFound m is w
+pub flag-read : (m : Machine) (is : List Item) (w : WaitTicks) → bit 6 (stepOf (afterItems m is) (ReadVia w 13) .value) ≡ flagFound m is (w .0)
 unfolding stepOf actedOf itemWait viaRead registerRead
-flag-read m is w = in-13 (ticks w (afterItems m is .via))
+flag-read m is w = in-13 (ticks (w .0) (afterItems m is .via))
 
 module _ (N : ℕ) (m : Machine) (l : Loaded N (m .via .t1)) (is : List Item) (h : allSpare is ≡ true) (w : ℕ) where
   abbrev W : ℕ

@@ -6,6 +6,7 @@ use mathlib.Core.List.{List}
 use native.Mathlib.Omega.{arith}
 use lib.Dec.{eqb}
 use lib.ListN.{getD}
+use Rattle.units.specs.declared.WaitTicks.{WaitTicks}
 use Rattle.via_bits.specs.Bytes.{bit}
 use Rattle.via.specs.declared.Ports.{Ports}
 use Rattle.via.specs.Registers.{registerRead}
@@ -81,12 +82,12 @@ wires-read m l =
     }
 
 -- Of an item: RD of register 0 shows the three wires that the history has of it.
-pub wires-shown : (m : Machine) (w : ℕ) → acceptedOf m ≡ true → m .via .ports .dirb < 256
+pub wires-shown : (m : Machine) (w : WaitTicks) → acceptedOf m ≡ true → m .via .ports .dirb < 256
     → ShowsWires (stepOf m (ReadVia w 0) .machine) (stepOf m (ReadVia w 0) .value)
 unfolding actedOf itemWait viaRead registerRead
 wires-shown m w a l =
     subst⁻¹ (λ (d : Did). ShowsWires (d .machine) (d .value)) (quiet-step m (ReadVia w 0) a (λ n. (refl, refl)))
-    (wires-read (afterWait w m) (subst⁻¹ (λ (p : Ports). p .dirb < 256) (ticks-ports w (m .via)) l))
+    (wires-read (afterWait (w .0) m) (subst⁻¹ (λ (p : Ports). p .dirb < 256) (ticks-ports (w .0) (m .via)) l))
 
 -- ---- port A and SEL
 -- "SEL is the level of PA5": bit 5 of registers 1 and 15.

@@ -6,6 +6,7 @@ use mathlib.Core.List.{List, [], _∷_}
 use lib.Dec.{eqb}
 use types.Run.{OneOf, miss}
 use denote.Enum.Declared.{tagOf}
+use Rattle.units.specs.declared.WaitTicks.{WaitTicks}
 use Rattle.via.specs.declared.Ports.{Ports}
 use Rattle.via.proofs.Kept.{ticks-ports}
 use Rattle.clock_spec.specs.declared.Wires.{Wires}
@@ -20,7 +21,7 @@ use Rattle.disk_spec.specs.declared.Drives.{Drives}
 use Rattle.disk_spec.specs.Drives.{acceptedDrives, drivesAfter, placeRefused}
 use Rattle.disk_spec.proofs.DrivesLaws.{drives-untouched}
 use Rattle.item_spec.specs.declared.Item.{Item}
-use Rattle.item_spec.specs.declared.Item.the-variants.{ReadVia, ReadIwm, WriteVia, WriteIwm, Blank, Second, Line, Sense, Reset, Power, Disk}
+use Rattle.item_spec.specs.declared.Item.the-variants.{ReadVia, ReadIwm, WriteVia, WriteIwm, Blank, Second, Line, Sense, Reset, Power, Disk, Pulse}
 use Rattle.item_spec.proofs.Item.{the-type}
 use Rattle.machine_spec.specs.declared.Machine.{Machine}
 use Rattle.machine_spec.specs.Machine.{withClock, withDrives, wires, strobeLevels}
@@ -43,7 +44,7 @@ unmoved m w v p q h k =
 
 -- No state refuses an item of another kind than DI.
 abbrev unrefused-kinds : List ℕ
-unrefused-kinds = 0 ∷ 1 ∷ 2 ∷ 3 ∷ 4 ∷ 5 ∷ 6 ∷ 7 ∷ 8 ∷ 9 ∷ []
+unrefused-kinds = 0 ∷ 1 ∷ 2 ∷ 3 ∷ 4 ∷ 5 ∷ 6 ∷ 7 ∷ 8 ∷ 9 ∷ 11 ∷ []
 
 pub kinds-unrefused : (m : Machine) (i : Item) → OneOf unrefused-kinds (tagOf the-type i) → 0 ≡ refusesOf m i
 unfolding refusesOf
@@ -58,8 +59,9 @@ kinds-unrefused m (Sense w d r v) h = refl
 kinds-unrefused m (Reset w) h = refl
 kinds-unrefused m (Power w s) h = refl
 kinds-unrefused m (Disk w d i l b) h = absurd (miss unrefused-kinds 10 tt h)
+kinds-unrefused m (Pulse w l) h = refl
 
 -- "Inserting where a disk is, or removing where none is, gets refusal 8."
-pub clash : (m : Machine) (w d i l b : ℕ) → placeRefused (eqb d 1) (eqb i 1) (m .drives) ≡ true → refusesOf m (Disk w d i l b) ≡ 8
+pub clash : (m : Machine) (w : WaitTicks) (d i l b : ℕ) → placeRefused (eqb d 1) (eqb i 1) (m .drives) ≡ true → refusesOf m (Disk w d i l b) ≡ 8
 unfolding refusesOf
 clash m w d i l b h = simp h

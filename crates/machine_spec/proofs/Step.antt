@@ -6,21 +6,26 @@ use mathlib.Core.Bool.{Bool, true, false, cond}
 use mathlib.Core.List.{List, [], _∷_}
 use types.Run.{OneOf, miss}
 use denote.Enum.Declared.{tagOf}
+use Rattle.units.specs.declared.WaitTicks.{WaitTicks}
+use Rattle.via.specs.declared.Ports.{Ports}
 use Rattle.via.specs.declared.Via.{Via}
 use Rattle.via.specs.Via.{raisedOf, asking, levelOf}
 use Rattle.via.specs.Registers.{registerRead}
+use Rattle.via.proofs.AccessKept.{pulse-ports}
 use Rattle.clock_spec.specs.declared.Wires.{Wires}
 use Rattle.clock.specs.declared.Clock.{Clock}
-use Rattle.clock_spec.specs.Phase.{acceptedPhase}
+use Rattle.clock_spec.specs.Phase.{acceptedPhase, shownLevel}
+use Rattle.disk_spec.specs.Watched.{watchedOf}
 use Rattle.disk_spec.proofs.DrivesLaws.{drivesTicks-accepted}
 use Rattle.item_spec.specs.declared.Item.{Item}
-use Rattle.item_spec.specs.declared.Item.the-variants.{ReadVia, ReadIwm, WriteVia, WriteIwm, Blank, Second, Line, Sense, Reset, Power, Disk}
+use Rattle.item_spec.specs.declared.Item.the-variants.{ReadVia, ReadIwm, WriteVia, WriteIwm, Blank, Second, Line, Sense, Reset, Power, Disk, Pulse}
 use Rattle.item_spec.proofs.Item.{the-type}
 use Rattle.machine_spec.specs.declared.Machine.{Machine}
+use Rattle.machine_spec.specs.Pins.{wiresOf, selOf}
 use Rattle.machine_spec.specs.Machine.{wires, strobeLevels, acceptedOf}
 use Rattle.machine_spec.proofs.MachineLaws.{parts}
 use Rattle.machine_spec.specs.declared.Did.{Did}
-use Rattle.machine_spec.specs.Accesses.{viaRead}
+use Rattle.machine_spec.specs.Accesses.{viaRead, keyboardPulse}
 use Rattle.machine_spec.specs.Action.{actedOf}
 use Rattle.machine_spec.proofs.Action.{acted-accepted}
 use Rattle.machine_spec.proofs.ActionKeeps.{act-keeps-drives}
@@ -41,8 +46,14 @@ met m m₁ i d w p q e a =
 abbrev pub Quiet : Item → Type 0
 Quiet i = (m : Machine) → (wires (actedOf m i .machine) ≡ wires m) × (strobeLevels (actedOf m i .machine) ≡ strobeLevels m)
 
+pub pulse-quiet : (w : WaitTicks) (level : ℕ) → Quiet (Pulse w level)
+unfolding actedOf keyboardPulse
+pulse-quiet w level m =
+    let e = pulse-ports level (m .via) in
+    (ap (λ (p : Ports). wiresOf p (shownLevel (m .clock .phase))) e, ap (λ (p : Ports). watchedOf (m .disk) (selOf p)) e)
+
 abbrev quiet-kinds : List ℕ
-quiet-kinds = 0 ∷ 4 ∷ 5 ∷ 6 ∷ 7 ∷ 10 ∷ []
+quiet-kinds = 0 ∷ 4 ∷ 5 ∷ 6 ∷ 7 ∷ 10 ∷ 11 ∷ []
 
 pub kinds-quiet : (i : Item) → OneOf quiet-kinds (tagOf the-type i) → Quiet i
 unfolding actedOf viaRead registerRead raisedOf
@@ -57,6 +68,7 @@ kinds-quiet (Sense w d r v) h m = (refl, refl)
 kinds-quiet (Reset w) h m = absurd (miss quiet-kinds 8 tt h)
 kinds-quiet (Power w s) h m = absurd (miss quiet-kinds 9 tt h)
 kinds-quiet (Disk w d i l b) h m = (refl, refl)
+kinds-quiet (Pulse w l) h m = pulse-quiet w l m
 
 -- An item whose action moves no line is its wait and its action.
 pub quiet-step : (m : Machine) (i : Item) → acceptedOf m ≡ true → Quiet i → stepOf m i ≡ actedOf (afterWait (itemWait i) m) i

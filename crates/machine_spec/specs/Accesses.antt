@@ -1,7 +1,8 @@
--- What a read leaves, by document 01: the next state and the value read.
+-- What a read leaves, by document 01, and a pulse of the keyboard's clock, by W-210: the next state and the value.
 use Prim.Native.Nat.{ℕ}
 use lib.ListN.{getD}
 use Rattle.via.specs.Registers.{registerRead}
+use Rattle.via.specs.Shift.{pulseOf}
 use Rattle.clock_spec.specs.Phase.{shownLevel}
 use Rattle.disk_lines.specs.Lines.{afterAccess, senseAt, readLine}
 use Rattle.disk_spec.specs.Drives.{drivesShown}
@@ -24,3 +25,9 @@ iwmRead k m =
     let d = afterAccess k (m .disk) in
     let at = senseAt d (selOf (m .via .ports)) in
     record { machine = withDisk m d; value = readLine k (drivesShown at (getD (m .sense) at 0) (m .drives)) d }
+
+-- KC: in shift out register 10's bit 7 is "the answer's value"; elsewhere it is 0.
+unfoldable pub keyboardPulse : ℕ → Machine → Did
+keyboardPulse level m =
+    let p = pulseOf level (m .via) in
+    record { machine = withVia m (p .via); value = p .value }

@@ -9,11 +9,11 @@ use Rattle.clock_spec.specs.Shared.{Event, quiet, second, off}
 use Rattle.disk_lines.specs.Lines.{linesOff, afterAccess}
 use Rattle.disk_spec.specs.Drives.{drivesDiskMoved, drivesPowered}
 use Rattle.item_spec.specs.declared.Item.{Item}
-use Rattle.item_spec.specs.declared.Item.the-variants.{ReadVia, ReadIwm, WriteVia, WriteIwm, Blank, Second, Line, Sense, Reset, Power, Disk}
+use Rattle.item_spec.specs.declared.Item.the-variants.{ReadVia, ReadIwm, WriteVia, WriteIwm, Blank, Second, Line, Sense, Reset, Power, Disk, Pulse}
 use Rattle.machine_spec.specs.declared.Machine.{Machine}
 use Rattle.machine_spec.specs.Machine.{withVia, withDisk, withInputs, withSense, withDrives, noValue}
 use Rattle.machine_spec.specs.declared.Did.{Did}
-use Rattle.machine_spec.specs.Accesses.{viaRead, iwmRead}
+use Rattle.machine_spec.specs.Accesses.{viaRead, iwmRead, keyboardPulse}
 use Rattle.machine_spec.specs.Events.{withSecondsEvent}
 
 -- What an item does to the clock beside its wires.
@@ -29,6 +29,7 @@ eventOf (Sense w d r v) = quiet
 eventOf (Reset w) = quiet
 eventOf (Power w s) = off s
 eventOf (Disk w d i l b) = quiet
+eventOf (Pulse w l) = quiet
 
 -- The action of an item, its wait having passed. W-203: "RS changes no drive; PW stops motors, drops pending steps and keeps the rest".
 unfoldable pub actedOf : Machine → Item → Did
@@ -43,3 +44,4 @@ actedOf m (Sense w d r v) = noValue (withSense m (set (m .sense) (16 * d + r) v)
 actedOf m (Reset w) = noValue (withDisk (withVia m (resetOf (m .via))) linesOff)
 actedOf m (Power w s) = noValue (withSecondsEvent (off s) (withDrives (withDisk (withVia m freshVia) linesOff) (drivesPowered (m .drives))))
 actedOf m (Disk w d i l b) = noValue (withDrives m (drivesDiskMoved (eqb d 1) (eqb i 1) (eqb l 1) (eqb b 1) (m .drives)))
+actedOf m (Pulse w l) = keyboardPulse l m

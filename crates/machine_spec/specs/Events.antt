@@ -1,4 +1,4 @@
--- What SE and PW leave of the clock's seconds, by document 01.
+-- What SE and PW leave of the clock's seconds, by document 01 and W-204.
 use Rattle.clock_spec.specs.Shared.{Event}
 use Rattle.clock_spec.specs.Store.{withEvent}
 use Rattle.clock.specs.Step.{withStore}

@@ -4,5 +4,6 @@ pub mod Events
 pub mod Action
 pub mod Stages
 pub mod Step
+pub mod Keyboard
 pub mod Pins
 pub mod Wiring

@@ -9,7 +9,7 @@ use Rattle.clock.specs.Step.{stepWires}
 use Rattle.disk_spec.specs.declared.Watched.{Watched}
 use Rattle.disk_spec.specs.Drives.{drivesTicks, placeRefused, drivesAfter}
 use Rattle.item_spec.specs.declared.Item.{Item}
-use Rattle.item_spec.specs.declared.Item.the-variants.{ReadVia, ReadIwm, WriteVia, WriteIwm, Blank, Second, Line, Sense, Reset, Power, Disk}
+use Rattle.item_spec.specs.declared.Item.the-variants.{ReadVia, ReadIwm, WriteVia, WriteIwm, Blank, Second, Line, Sense, Reset, Power, Disk, Pulse}
 use Rattle.machine_spec.specs.declared.Machine.{Machine}
 use Rattle.machine_spec.specs.Machine.{withVia, withClock, withDrives, wires, strobeLevels}
 
@@ -31,20 +31,22 @@ refusesOf m (Sense w d r v) = 0
 refusesOf m (Reset w) = 0
 refusesOf m (Power w s) = 0
 refusesOf m (Disk w d i l b) = numberIf 8 (placeRefused (eqb d 1) (eqb i 1) (m .drives))
+refusesOf m (Pulse w l) = 0
 
--- "Every item's body begins with a wait in VIA ticks."
+-- "Every item's body begins with a wait in VIA ticks": their number.
 unfoldable pub itemWait : Item → ℕ
-itemWait (ReadVia w r) = w
-itemWait (ReadIwm w k) = w
-itemWait (WriteVia w r v) = w
-itemWait (WriteIwm w k v) = w
-itemWait (Blank w) = w
-itemWait (Second w) = w
-itemWait (Line w l v) = w
-itemWait (Sense w d r v) = w
-itemWait (Reset w) = w
-itemWait (Power w s) = w
-itemWait (Disk w d i l b) = w
+itemWait (ReadVia w r) = w .0
+itemWait (ReadIwm w k) = w .0
+itemWait (WriteVia w r v) = w .0
+itemWait (WriteIwm w k v) = w .0
+itemWait (Blank w) = w .0
+itemWait (Second w) = w .0
+itemWait (Line w l v) = w .0
+itemWait (Sense w d r v) = w .0
+itemWait (Reset w) = w .0
+itemWait (Power w s) = w .0
+itemWait (Disk w d i l b) = w .0
+itemWait (Pulse w l) = w .0
 
 -- The item's wait passes, in the VIA and in the drives.
 abbrev pub afterWait : ℕ → Machine → Machine

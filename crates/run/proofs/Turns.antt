@@ -14,7 +14,10 @@ use Rattle.item_spec.specs.declared.Answer.{Answer}
 use Rattle.item_spec.specs.declared.Item.{Item}
 use Rattle.machine_spec.specs.declared.Machine.{Machine}
 use Rattle.machine_spec.specs.declared.Did.{Did}
-use Rattle.machine_spec.specs.Machine.{withVia, withDisk, wires, strobeLevels, Levels, acceptedOf}
+use Rattle.machine_spec.specs.Machine.{wires, Levels, acceptedOf}
+use Rattle.machine_spec.specs.Pins.{selOf}
+use Rattle.disk_spec.specs.declared.Watched.{Watched}
+use Rattle.disk_spec.specs.Watched.{watchedOf}
 use Rattle.machine_spec.specs.Stages.{itemWait, afterWait, afterWires, afterStrobe}
 use Rattle.machine_spec.specs.Action.{actedOf}
 use Rattle.machine_spec.specs.Step.{stepOf, answerOf}
@@ -24,57 +27,62 @@ use Rattle.machine_spec.proofs.Stages.{waited-wires}
 use Rattle.run_spec.specs.declared.Turn.{Turn}
 use Rattle.run_spec.specs.Turn.{doneTurn}
 use Rattle.machine_act.specs.declared.Acted.{Acted}
-use Rattle.machine_act.specs.Parts.{wholeMachine, machineChange, senseChange, machineAfter, clockedOf, PhaseAccepted}
+use Rattle.machine_pins.specs.declared.Board.{Board}
+use Rattle.machine_act.specs.Parts.{wholeMachine, boardVia, boardDisk, boardChange, senseChange, machineAfter, clockedOf, PhaseAccepted}
+
+-- The levels that the drives' strobe goes by.
+abbrev pub strobeOf : Board → Watched
+strobeOf b = watchedOf (b .disk) (selOf (b .via .ports))
 
 neither : (a b : Bool) → (a || b) ≡ false → (a ≡ false) × (b ≡ false)
 neither true b e = (e, absurd (false≢true (sym e)))
 neither false b e = (refl, e)
 
-module _ (m : Machine) (k : Core) (cells : List ℕ) (d : Drives) (sense : List ℕ) (i : Item)
-    (m₁ : Machine) (e₁ : m₁ ≡ withVia m (ticks (itemWait i) (m .via))) (d₁ : Drives) where
+module _ (b : Board) (k : Core) (cells : List ℕ) (d : Drives) (sense : List ℕ) (i : Item)
+    (b₁ : Board) (e₁ : b₁ ≡ boardVia b (ticks (itemWait i) (b .via))) (d₁ : Drives) where
   -- After the wait the action's terms hold.
-  pub ready : acceptedOf (wholeMachine m k cells d sense) ≡ true
-      → Levels (wholeMachine m₁ k cells d₁ sense) × PhaseAccepted (wholeMachine m₁ k cells d₁ sense)
+  pub ready : acceptedOf (wholeMachine b k cells d sense) ≡ true
+      → Levels (wholeMachine b₁ k cells d₁ sense) × PhaseAccepted (wholeMachine b₁ k cells d₁ sense)
   ready a =
-      let x = wholeMachine m k cells d sense in
+      let x = wholeMachine b k cells d sense in
       let p = parts x a in
-      subst (λ (y : Machine). Levels (wholeMachine y k cells d₁ sense) × PhaseAccepted (wholeMachine y k cells d₁ sense)) (sym e₁)
+      subst (λ (y : Board). Levels (wholeMachine y k cells d₁ sense) × PhaseAccepted (wholeMachine y k cells d₁ sense)) (sym e₁)
       (p .levels, ap (λ (w : Wires). acceptedPhase (k .chip) (k .phase) (w .enable)) (waited-wires (itemWait i) x) ∙ p .phase)
 
   module _ (f₁ : d₁ ≡ drivesTicks (itemWait i) d) (a : Acted) (cells₂ : List ℕ)
-      (acts : machineAfter a m₁ cells₂ sense ≡ clockedOf (wholeMachine m₁ k cells d₁ sense) i) where
+      (acts : machineAfter a b₁ cells₂ sense ≡ clockedOf (wholeMachine b₁ k cells d₁ sense) i) where
     -- Where LSTRB is off before the item and after it, the strobe changes nothing of the drives.
-    pub dark : (m₂ : Machine) → acceptedOf (wholeMachine m k cells d sense) ≡ true → (strobeLevels m .lstrb || strobeLevels m₂ .lstrb) ≡ false
-        → a .drives ≡ drivesAfter (strobeLevels m) (strobeLevels m₂) (a .drives)
-    dark m₂ ok h =
-        let v = strobeLevels m in
-        let p = neither (v .lstrb) (strobeLevels m₂ .lstrb) h in
+    pub dark : (b₂ : Board) → acceptedOf (wholeMachine b k cells d sense) ≡ true → (strobeOf b .lstrb || strobeOf b₂ .lstrb) ≡ false
+        → a .drives ≡ drivesAfter (strobeOf b) (strobeOf b₂) (a .drives)
+    dark b₂ ok h =
+        let v = strobeOf b in
+        let p = neither (v .lstrb) (strobeOf b₂ .lstrb) h in
         let kept : acceptedDrives v (a .drives) ≡ true =
         ap (λ (y : Machine). acceptedDrives v (y .drives)) acts
-        ∙ act-keeps-drives (wholeMachine m₁ k cells d₁ sense) i v (ap (acceptedDrives v) f₁ ∙ drivesTicks-accepted (itemWait i) v d (parts (wholeMachine m k cells d sense) ok .drives)) in
-        sym (drives-unlit v (strobeLevels m₂) (a .drives) (p .0) (p .1) kept)
+        ∙ act-keeps-drives (wholeMachine b₁ k cells d₁ sense) i v (ap (acceptedDrives v) f₁ ∙ drivesTicks-accepted (itemWait i) v d (parts (wholeMachine b k cells d sense) ok .drives)) in
+        sym (drives-unlit v (strobeOf b₂) (a .drives) (p .0) (p .1) kept)
 
-    module _ (worth : a .value ≡ actedOf (wholeMachine m₁ k cells d₁ sense) i .value)
-        (m₂ : Machine) (sense₂ : List ℕ) (e₂ : m₂ ≡ machineChange (a .change) (withDisk m₁ (a .disk))) (s₂ : sense₂ ≡ senseChange (a .change) sense)
-        (d₂ : Drives) (f₂ : d₂ ≡ drivesAfter (strobeLevels m) (strobeLevels m₂) (a .drives)) where
-      at-wait : wholeMachine m₁ k cells d₁ sense ≡ afterWait (itemWait i) (wholeMachine m k cells d sense)
+    module _ (worth : a .value ≡ actedOf (wholeMachine b₁ k cells d₁ sense) i .value)
+        (b₂ : Board) (sense₂ : List ℕ) (e₂ : b₂ ≡ boardChange (a .change) (boardDisk b₁ (a .disk))) (s₂ : sense₂ ≡ senseChange (a .change) sense)
+        (d₂ : Drives) (f₂ : d₂ ≡ drivesAfter (strobeOf b) (strobeOf b₂) (a .drives)) where
+      at-wait : wholeMachine b₁ k cells d₁ sense ≡ afterWait (itemWait i) (wholeMachine b k cells d sense)
       at-wait =
-          ap (λ (y : Machine). wholeMachine y k cells d₁ sense) e₁
-          ∙ ap (λ (x : Drives). wholeMachine (withVia m (ticks (itemWait i) (m .via))) k cells x sense) f₁
+          ap (λ (y : Board). wholeMachine y k cells d₁ sense) e₁
+          ∙ ap (λ (x : Drives). wholeMachine (boardVia b (ticks (itemWait i) (b .via))) k cells x sense) f₁
 
-      pub stepped : record { machine = wholeMachine m₂ (a .core) cells₂ d₂ sense₂; value = a .value } ≡ stepOf (wholeMachine m k cells d sense) i
+      pub stepped : record { machine = wholeMachine b₂ (a .core) cells₂ d₂ sense₂; value = a .value } ≡ stepOf (wholeMachine b k cells d sense) i
       unfolding stepOf
       stepped =
-          let x = wholeMachine m k cells d sense in
+          let x = wholeMachine b k cells d sense in
           let y = actedOf (afterWait (itemWait i) x) i in
-          let s : wholeMachine m₂ (a .core) cells₂ d₂ sense₂ ≡ afterStrobe (strobeLevels m) (machineAfter a m₁ cells₂ sense) = simp (f₂, e₂, s₂) in
+          let s : wholeMachine b₂ (a .core) cells₂ d₂ sense₂ ≡ afterStrobe (strobeOf b) (machineAfter a b₁ cells₂ sense) = simp (f₂, e₂, s₂) in
           ap (λ (z : Machine). record { machine = z; value = a .value })
-          (s ∙ ap (afterStrobe (strobeLevels m)) (acts ∙ ap (λ (z : Machine). clockedOf z i) at-wait)
-          ∙ ap (λ (w : Wires). afterStrobe (strobeLevels m) (afterWires w (y .machine))) (waited-wires (itemWait i) x))
-          ∙ ap (λ (n : ℕ). record { machine = afterStrobe (strobeLevels m) (afterWires (wires x) (y .machine)); value = n })
+          (s ∙ ap (afterStrobe (strobeOf b)) (acts ∙ ap (λ (z : Machine). clockedOf z i) at-wait)
+          ∙ ap (λ (w : Wires). afterStrobe (strobeOf b) (afterWires w (y .machine))) (waited-wires (itemWait i) x))
+          ∙ ap (λ (n : ℕ). record { machine = afterStrobe (strobeOf b) (afterWires (wires x) (y .machine)); value = n })
           (worth ∙ ap (λ (z : Machine). actedOf z i .value) at-wait)
 
-      pub done : (t : Turn) → t ≡ doneTurn (stepOf (wholeMachine m k cells d sense) i) → (x : Answer) → x ≡ answerOf (record { machine = m₂; value = a .value })
-          → record { machine = wholeMachine m₂ (a .core) cells₂ d₂ sense₂; answer = x } ≡ t
+      pub done : (t : Turn) → t ≡ doneTurn (stepOf (wholeMachine b k cells d sense) i) → (x : Answer) → x ≡ answerOf (record { machine = wholeMachine b₂ (a .core) cells₂ d₂ sense₂; value = a .value })
+          → record { machine = wholeMachine b₂ (a .core) cells₂ d₂ sense₂; answer = x } ≡ t
       unfolding answerOf
-      done t e x f = ap (λ (y : Answer). record { machine = wholeMachine m₂ (a .core) cells₂ d₂ sense₂; answer = y }) f ∙ ap doneTurn stepped ∙ sym e
+      done t e x f = ap (λ (y : Answer). record { machine = wholeMachine b₂ (a .core) cells₂ d₂ sense₂; answer = y }) f ∙ ap doneTurn stepped ∙ sym e

@@ -5,6 +5,7 @@ ghost use Prim.Native.Nat.{_≤_};
 ghost use lib.ListN.{length};
 ghost use Rattle.machine_spec.specs.Machine.{acceptedOf};
 ghost use Rattle.run_spec.specs.Outcome.{halt, ranOf, over, runOf};
+use clock_command::Engine;
 use item_spec::Decoded;
 use item_spec::Framed;
 use machine_act::Change;
@@ -23,15 +24,16 @@ fn unaccepted(m: Machine) -> Ran
     }
 }
 
-// The same from a machine known to be accepted. The VIA, the disk lines and the IN lines stay in m and are changed here alone; m's own clock, drives and sense registers
-// are not looked at: what counts of them stands beside it.
-pub fn run_accepted(mut m: Machine, list: &[u8], answers: &mut [u8]) -> Ran
+// The same from a machine known to be accepted, taken apart: the board, the sense registers and the cells stay in place, and the first two are changed here alone;
+// the clock's core and the drives go by value.
+pub fn run_accepted(engine: Engine, m: Machine, list: &[u8], answers: &mut [u8]) -> Ran
     requires { ⌜ acceptedOf m ≡ true ⌝ }
     ensures { λ r. ⌜ r ≡ ranOf (runOf m (now (list .entry)) (length (now (answers .entry)))) ⌝ }
     ensures { λ _. ⌜ now (answers .exit) ≡ over (runOf m (now (list .entry)) (length (now (answers .entry)))) (now (answers .entry)) ⌝ }
     ensures { λ r. ⌜ r .written ≤ length (now (answers .entry)) ⌝ }
 {
     let c = m.clock;
+    let mut board = machine_pins::board_of(m);
     let mut core = clock_parts::core_of(c);
     let mut cells = clock_parts::cells_of(c);
     let mut drives = m.drives;
@@ -53,46 +55,73 @@ pub fn run_accepted(mut m: Machine, list: &[u8], answers: &mut [u8]) -> Ran
         };
         let d = run_record::judge(drives, &rest[2..n]);
         let mut answer = item_record::no(item_plain::refusal(d));
-        if let Decoded::Done(item) = d {
-            let before = machine_pins::watched(m);
-            let ticks = machine_act::wait_of(item);
-            if m.via.only_counts(ticks) {
-                m.via = m.via.count(ticks);
-            } else {
-                m.via = m.via.wait(ticks);
+        match d {
+            Decoded::Done(item) => {
+                let before = machine_pins::watched(board);
+                let wait = machine_act::wait_of(item);
+                if board.via.only_counts(wait) {
+                    board.via = board.via.count(wait);
+                } else {
+                    board.via = board.via.wait(wait);
+                }
+                if disk_drives::busy(drives) {
+                    drives = disk_drives::wait(drives, wait);
+                }
+                let a = machine_act::act(engine, board, core, drives, item, &sense, &mut cells);
+                let disk = a.disk;
+                board.disk = disk;
+                core = a.core;
+                drives = a.drives;
+                let change = a.change;
+                match change {
+                    Change::Nothing => {}
+                    Change::Flags(f) => board.via.flags = f,
+                    Change::Ports(p) => {
+                        let mut v = board.via;
+                        v.ports = p;
+                        board.via = v;
+                    }
+                    Change::Register(r, b) => board.via = board.via.write(r, b),
+                    Change::Line(i, level) => board.inputs[i] = level,
+                    Change::Sense(i, level) => sense[i] = level,
+                    Change::Reset => board.via = board.via.reset(),
+                    Change::Fresh => board.via = via::fresh(),
+                    Change::Shift(s, f, n) => {
+                        board.via.sr = s;
+                        board.via.flags = f;
+                        board.via.pulses = n;
+                    }
+                }
+                let after = machine_pins::watched(board);
+                if before.lstrb | after.lstrb {
+                    drives = disk_drives::after(drives, before, after);
+                }
+                answer = machine_answer::answer(board, a.value);
             }
-            if disk_drives::busy(drives) {
-                drives = disk_drives::wait(drives, ticks);
+            Decoded::Many(x) => {
+                let w = machine_many::write(
+                    engine,
+                    board,
+                    core,
+                    drives,
+                    x,
+                    &rest[11..n],
+                    &mut cells,
+                );
+                let b = w.board;
+                board = b;
+                core = w.core;
+                drives = w.drives;
+                answer = machine_answer::answer(board, 0);
             }
-            let a = machine_act::act(m, core, drives, item, &sense, &mut cells);
-            let disk = a.disk;
-            m.disk = disk;
-            core = a.core;
-            drives = a.drives;
-            let change = a.change;
-            match change {
-                Change::Nothing => {}
-                Change::Flags(f) => m.via.flags = f,
-                Change::OutB(b) => m.via.ports.outb = b,
-                Change::DirB(b) => m.via.ports.dirb = b,
-                Change::Register(r, b) => m.via = m.via.write(r, b),
-                Change::Line(i, level) => m.inputs[i] = level,
-                Change::Sense(i, level) => sense[i] = level,
-                Change::Reset => m.via = m.via.reset(),
-                Change::Fresh => m.via = via::fresh(),
-            }
-            let after = machine_pins::watched(m);
-            if before.lstrb | after.lstrb {
-                drives = disk_drives::after(drives, before, after);
-            }
-            answer = machine_answer::answer(m, a.value);
+            Decoded::Refused(_) => {}
         }
         item_record::put(answers, out, item_record::answer_bytes(answer));
         at += n;
         out += 8;
     }
     Ran {
-        machine: machine_act::whole_machine(m, core, cells, drives, sense),
+        machine: machine_act::whole_machine(board, core, cells, drives, sense),
         stop: stop,
         consumed: at,
         written: out,
@@ -100,13 +129,13 @@ pub fn run_accepted(mut m: Machine, list: &[u8], answers: &mut [u8]) -> Ran
 }
 
 // Runs the list from the machine given. The stop is 0 at the end of the list, else 1, 6 or 7.
-pub fn run(m: Machine, list: &[u8], answers: &mut [u8]) -> Ran
+pub fn run(engine: Engine, m: Machine, list: &[u8], answers: &mut [u8]) -> Ran
     ensures { λ r. ⌜ r ≡ ranOf (runOf m (now (list .entry)) (length (now (answers .entry)))) ⌝ }
     ensures { λ _. ⌜ now (answers .exit) ≡ over (runOf m (now (list .entry)) (length (now (answers .entry)))) (now (answers .entry)) ⌝ }
     ensures { λ r. ⌜ r .written ≤ length (now (answers .entry)) ⌝ }
 {
     if machine::accepted(m) {
-        return run_accepted(m, list, answers);
+        return run_accepted(engine, m, list, answers);
     }
     unaccepted(m)
 }

@@ -5,6 +5,7 @@ ghost use lib.ListN.{length};
 ghost use Rattle.machine_spec.specs.Machine.{freshMachine};
 ghost use Rattle.run_spec.specs.Outcome.{ranOf, over, runOf};
 ghost use Rattle.demand3.specs.Runs.{Run3};
+use clock_command::Engine;
 use clock_spec::Chip;
 use run_spec::Ran;
 
@@ -15,5 +16,5 @@ pub fn run_fresh(chip: Chip, list: &[u8], answers: &mut [u8]) -> Ran
     ensures { λ r. ⌜ r .written ≤ length (now (answers .entry)) ⌝ }
     ensures { λ r. ⌜ Run3 (freshMachine chip) (now (list .entry)) (length (now (answers .entry))) (r .machine) ⌝ }
 {
-    run::run(machine::fresh(chip), list, answers)
+    run::run(Engine::Table, machine::fresh(chip), list, answers)
 }

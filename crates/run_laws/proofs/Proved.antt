@@ -7,6 +7,7 @@ use native.Mathlib.Omega.{arith}
 use native.Mathlib.Nat.{add-zero}
 use lib.ListN.{length, drop, length-append}
 use lib.Seq.{drop-drop}
+use Rattle.units.specs.declared.WaitTicks.{WaitTicks}
 use Rattle.via.specs.Via.{freshVia, ticks, resetOf}
 use Rattle.via.proofs.Accepted.{ticks-accepted}
 use Rattle.clock_spec.specs.Shared.{advance, stops}
@@ -53,29 +54,29 @@ unfolding drivesTicks driveTicks strobeTicks
 no-ticks d = refl
 
 -- After a reset and after a power cut no wire of the clock is driven, and LSTRB is off: the second moves no line.
-resets-one : (m : Machine) (w : ℕ) → oneThenOther m (Reset w) (Reset waitBetween) ≡ stepOf m (Reset w)
+resets-one : (m : Machine) (w : WaitTicks) → oneThenOther m (Reset w) (Reset waitBetween) ≡ stepOf m (Reset w)
 unfolding waitBetween stepOf actedOf itemWait ticks resetOf freshVia wiresOf stepWires between next acts act
 resets-one m w =
     let n = stepOf m (Reset w) .machine in
     ap (λ (d : Drives). noValue (withDrives n d))
     (reset-drives n waitBetween
-    ∙ ap (λ (d : Drives). withStrobe (drivesTicks waitBetween d) noStrobe) (reset-drives m w)
-    ∙ no-ticks (drivesTicks w (m .drives))
+    ∙ ap (λ (d : Drives). withStrobe (drivesTicks (waitBetween .0) d) noStrobe) (reset-drives m w)
+    ∙ no-ticks (drivesTicks (w .0) (m .drives))
     ∙ sym (reset-drives m w))
 
 powered-again : (d : Drives) → withStrobe (drivesPowered (drivesTicks 0 (withStrobe (drivesPowered d) noStrobe))) noStrobe ≡ withStrobe (drivesPowered d) noStrobe
 unfolding drivesTicks driveTicks strobeTicks drivesPowered
 powered-again d = refl
 
-power-cuts-one : (m : Machine) (w s t : ℕ) → oneThenOther m (Power w s) (Power waitBetween t) ≡ stepOf m (Power w (secondsOff s t))
+power-cuts-one : (m : Machine) (w : WaitTicks) (s t : ℕ) → oneThenOther m (Power w s) (Power waitBetween t) ≡ stepOf m (Power w (secondsOff s t))
 unfolding waitBetween stepOf actedOf itemWait ticks freshVia wiresOf stepWires between next acts act
 power-cuts-one m w s t =
     let n = stepOf m (Power w s) .machine in
     let o = stepOf m (Power w (secondsOff s t)) .machine in
     ap₂ (λ (d : Drives) (x : ℕ). noValue (withDrives (withClock o (withStore (o .clock) (withSeconds (o .clock .store) x))) d))
     (power-drives n waitBetween t
-    ∙ ap (λ (d : Drives). withStrobe (drivesPowered (drivesTicks waitBetween d)) noStrobe) (power-drives m w s)
-    ∙ powered-again (drivesTicks w (m .drives))
+    ∙ ap (λ (d : Drives). withStrobe (drivesPowered (drivesTicks (waitBetween .0) d)) noStrobe) (power-drives m w s)
+    ∙ powered-again (drivesTicks (w .0) (m .drives))
     ∙ sym (power-drives m w (secondsOff s t)))
     (seconds-add (stops (m .clock .store .test)) s t (m .clock .store .seconds))
 

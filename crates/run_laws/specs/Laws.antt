@@ -4,6 +4,8 @@ use mathlib.Core.Path.{_≡_}
 use mathlib.Core.Bool.{true}
 use mathlib.Core.List.{List, _++_}
 use lib.ListN.{length, drop}
+use Rattle.units.specs.Units.{forTicks}
+use Rattle.units.specs.declared.WaitTicks.{WaitTicks}
 use Rattle.item_spec.specs.declared.Item.{Item}
 use Rattle.item_spec.specs.declared.Item.the-variants.{Reset, Power}
 use Rattle.machine_spec.specs.declared.Machine.{Machine}
@@ -20,8 +22,8 @@ abbrev pub oneThenOther : Machine → Item → Item → Did
 oneThenOther m i j = stepOf (stepOf m i .machine) j
 
 -- "With no wait between": the second item's wait, in VIA ticks.
-unfoldable pub waitBetween : ℕ
-waitBetween = 0
+unfoldable pub waitBetween : WaitTicks
+waitBetween = forTicks 0
 
 -- "One of s+t modulo 4,294,967,296": the seconds off of two power cuts as those of one.
 unfoldable pub secondsOff : ℕ → ℕ → ℕ
@@ -47,9 +49,9 @@ pub record Laws (m : Machine) : Type 0 where
   -- A state between two waits is one that a run accepts.
   pub waitAccepted : (a : ℕ) → acceptedOf m ≡ true → acceptedOf (afterWait a m) ≡ true
   -- "Two resets with no wait between equal one": the first after any wait w, the second with none.
-  pub resets : (w : ℕ) → oneThenOther m (Reset w) (Reset waitBetween) ≡ stepOf m (Reset w)
+  pub resets : (w : WaitTicks) → oneThenOther m (Reset w) (Reset waitBetween) ≡ stepOf m (Reset w)
   -- "Power cuts of s and t seconds, with no wait between, equal one of s+t modulo 4,294,967,296", also while the test byte stops the seconds.
-  pub powerCuts : (w s t : ℕ) → oneThenOther m (Power w s) (Power waitBetween t) ≡ stepOf m (Power w (secondsOff s t))
+  pub powerCuts : (w : WaitTicks) (s t : ℕ) → oneThenOther m (Power w s) (Power waitBetween t) ≡ stepOf m (Power w (secondsOff s t))
   -- That one is a PW that can be written: its seconds fit four bytes.
   pub secondsFit : (s t : ℕ) → secondsOff s t < 4294967296
   -- "Running a list cut between records equals running the whole, answers joined, where the first part stops with 0 and the second gets the answer room left."

@@ -2,6 +2,7 @@
 use Prim.Native.Nat.{ℕ}
 use mathlib.Core.Path.{_≡_}
 use mathlib.Core.List.{List, [], _∷_, _++_}
+use Rattle.units.specs.Units.{forTicks}
 use Rattle.clock_spec.specs.declared.Chip.{Chip}
 use Rattle.clock_spec.specs.Store.{withSeconds, withTest}
 use Rattle.clock.specs.Step.{withStore}
@@ -16,8 +17,8 @@ use Rattle.run_laws.specs.Laws.{oneThenOther, waitBetween, secondsOff, r
 -- T1 armed with 3 to go, and a strobe on: ENABLE, then LSTRB.
 abbrev pub busy : Chip → Machine
 busy k =
-    let m = oneThenOther (freshMachine k) (WriteVia 0 4 3) (WriteVia 0 5 0) .machine in
-    oneThenOther m (WriteIwm 0 9 0) (WriteIwm 0 7 0) .machine
+    let m = oneThenOther (freshMachine k) (WriteVia (forTicks 0) 4 3) (WriteVia (forTicks 0) 5 0) .machine in
+    oneThenOther m (WriteIwm (forTicks 0) 9 0) (WriteIwm (forTicks 0) 7 0) .machine
 
 -- T1's counter, the VIA's flags, and the VIA ticks of the strobe.
 abbrev pub counted : Machine → List ℕ
@@ -30,10 +31,10 @@ clocked k seconds test =
     withClock m (withStore (m .clock) (withTest (withSeconds (m .clock .store) seconds) test))
 
 abbrev pub secondsAfter : Machine → ℕ → ℕ → ℕ
-secondsAfter m s t = oneThenOther m (Power 0 s) (Power waitBetween t) .machine .clock .store .seconds
+secondsAfter m s t = oneThenOther m (Power (forTicks 0) s) (Power waitBetween t) .machine .clock .store .seconds
 
 abbrev pub secondsAfterOne : Machine → ℕ → ℕ
-secondsAfterOne m s = stepOf m (Power 0 s) .machine .clock .store .seconds
+secondsAfterOne m s = stepOf m (Power (forTicks 0) s) .machine .clock .store .seconds
 
 -- RS after 1 VIA tick; VB after 2 and RS with none.
 abbrev pub partA : List ℕ
@@ -59,9 +60,9 @@ pub record Samples (k : Chip) : Type 0 where
   pub wait2then3 : counted (afterWait 3 (afterWait 2 (busy k))) ≡ 65534 ∷ 64 ∷ 5 ∷ []
   pub wait5 : counted (afterWait 5 (busy k)) ≡ 65534 ∷ 64 ∷ 5 ∷ []
   -- A reset after 2 VIA ticks; one more at once; one more a tick later, which is not the same.
-  pub reset : counted (stepOf (busy k) (Reset 2) .machine) ≡ 1 ∷ 0 ∷ 0 ∷ []
-  pub resetTwice : counted (oneThenOther (busy k) (Reset 2) (Reset waitBetween) .machine) ≡ 1 ∷ 0 ∷ 0 ∷ []
-  pub resetApart : counted (oneThenOther (busy k) (Reset 2) (Reset 1) .machine) ≡ 0 ∷ 0 ∷ 0 ∷ []
+  pub reset : counted (stepOf (busy k) (Reset (forTicks 2)) .machine) ≡ 1 ∷ 0 ∷ 0 ∷ []
+  pub resetTwice : counted (oneThenOther (busy k) (Reset (forTicks 2)) (Reset waitBetween) .machine) ≡ 1 ∷ 0 ∷ 0 ∷ []
+  pub resetApart : counted (oneThenOther (busy k) (Reset (forTicks 2)) (Reset (forTicks 1)) .machine) ≡ 0 ∷ 0 ∷ 0 ∷ []
   -- Seconds off.
   pub sumSmall : secondsOff 4294967290 5 ≡ 4294967295
   pub sumWrapped : secondsOff 4294967295 3 ≡ 2

@@ -8,19 +8,22 @@ ghost use Rattle.run_record.specs.Judged.{turnJudged, JudgedInRange};
 use disk_spec::Drives;
 use item_spec::Decoded;
 
-// The item of a record's bytes after the length, or the number of its refusal by the bytes or by a state with these drives.
+// The item or the many writes of a record's bytes after the length, or the number of its refusal by the bytes or by a state with these drives.
 pub fn judge(d: Drives, s: &[u8]) -> Decoded
     requires { ⌜ 2 ≤ length (now s) ⌝ }
-    ensures { λ r. ⌜ ((m : Machine) → m .drives ≡ d → turnOf m (now (s .entry)) ≡ turnJudged m r) ⌝ }
-    ensures { λ r. ⌜ JudgedInRange r ⌝ }
+    ensures { λ r. ⌜ ((m : Machine) → m .drives ≡ d → turnOf m (now (s .entry)) ≡ turnJudged m (now (s .entry)) r) ⌝ }
+    ensures { λ r. ⌜ JudgedInRange (now (s .entry)) r ⌝ }
 {
     let x = item_decode::decode(s);
-    let Decoded::Done(item) = x else {
-        return x;
-    };
-    let n = machine_answer::refuses(d, item);
-    if n != 0 {
-        return Decoded::Refused(n);
+    match x {
+        Decoded::Done(item) => {
+            let n = machine_answer::refuses(d, item);
+            if n != 0 {
+                return Decoded::Refused(n);
+            }
+            x
+        }
+        Decoded::Many(_) => x,
+        Decoded::Refused(_) => x,
     }
-    x
 }

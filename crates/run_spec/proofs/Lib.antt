@@ -1,5 +1,6 @@
-pub mod Keeps
 pub mod Turns
+pub mod Many
+pub mod Keeps
 pub mod Ordinary
 pub mod Users
 pub mod Pieces

@@ -4,6 +4,7 @@ use mathlib.Core.Path.{_≡_, refl, _∙_}
 use mathlib.Core.Bool.{Bool, true, false, cond, true≢false}
 use mathlib.Core.List.{List}
 use lib.Dec.{eqb}
+use Rattle.units.specs.declared.WaitTicks.{WaitTicks}
 use Rattle.item_spec.specs.declared.Item.{Item}
 use Rattle.item_spec.specs.declared.Item.the-variants.{Disk}
 use Rattle.item_spec.specs.declared.Decoded.{Decoded}
@@ -31,8 +32,9 @@ pub refused-unchanged : (m : Machine) (s : List ℕ) → turnOf m s .answer .ok 
 unfolding turnOf answerOf
 refused-unchanged m s h = go (decodedOf s) h
   where
-    go : (d : Decoded) → turnBy m d .answer .ok ≡ false → turnBy m d .machine ≡ m
+    go : (d : Decoded) → turnBy m s d .answer .ok ≡ false → turnBy m s d .machine ≡ m
     go (Refused n) h = refl
+    go (Decoded.Many x) h = absurd (true≢false h)
     go (Done x) h = judge (eqb (refusesOf m x) 0) h
       where
         judge : (t : Bool) → (cond t (doneTurn (stepOf m x)) (refusedTurn m (refusesOf m x))) .answer .ok ≡ false
@@ -44,7 +46,7 @@ refused-unchanged m s h = go (decodedOf s) h
         judge false h = refl
 
 -- DI where a disk is, or a removal where none is: refusal 8, and the machine as it was, its counters too.
-pub clash-refused : (m : Machine) (s : List ℕ) (w d i l b : ℕ) → decodedOf s ≡ Done (Disk w d i l b) → placeRefused (eqb d 1) (eqb i 1) (m .drives) ≡ true
+pub clash-refused : (m : Machine) (s : List ℕ) (w : WaitTicks) (d i l b : ℕ) → decodedOf s ≡ Done (Disk w d i l b) → placeRefused (eqb d 1) (eqb i 1) (m .drives) ≡ true
     → turnOf m s ≡ refusedTurn m 8
 unfolding turnOf
 clash-refused m s w d i l b e h = simp (e, clash m w d i l b h)

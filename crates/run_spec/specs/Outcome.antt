@@ -56,7 +56,7 @@ unfoldable pub onPiece : Machine → Piece → (Machine → Out) → Out
 onPiece m broken go = record { machine = m; stop = 1; consumed = 0; answers = answerBytes (noOf 1) }
 onPiece m (whole s) go = onto (answerBytes (turnOf m s .answer)) (length s + 2) (go (turnOf m s .machine))
 
--- "Order: 7; end of list; 6; 1; 2; 3; 4; 5." W-203: 8 after 5.
+-- "Order: 7; end of list; 6; 1; 2; 3; 4; 5." W-203: 8 after 5; W-214: 9 after 5; W-211: MW has an order of its own, 3; 4; 5; 3, after 2.
 unfoldable pub runPieces : Machine → List Piece → ℕ → Out
 unfolding onPiece
 runPieces m [] room = halt m 0

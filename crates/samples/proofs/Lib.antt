@@ -1,5 +1,7 @@
 pub mod Proved
+pub mod Many
 pub mod Registers
+pub mod Keyboard
 pub mod Wiring
 pub mod Senses
 pub mod Clock

@@ -13,6 +13,8 @@ registerSamples =
     record {
       reads = refl;
       flags = refl;
+      flagsOther = refl;
+      pulses = refl;
       rest = refl;
       portA = refl;
       writes = refl;

@@ -4,6 +4,7 @@ use mathlib.Core.Path.{_≡_}
 use mathlib.Core.Bool.{Bool, true, false}
 use mathlib.Core.List.{List, [], _∷_}
 use lib.ListN.{getD}
+use Rattle.units.specs.Units.{forTicks}
 use Rattle.clock_spec.specs.declared.Target.the-variants.{Cell}
 use Rattle.clock_spec.specs.declared.Store.{Store}
 use Rattle.clock_spec.specs.Store.{put, withSeconds, withProtect, withTest}
@@ -39,7 +40,7 @@ protectOf m = m .clock .store .protect
 
 -- A transaction begun: port B's bits 0 to 2 outputs, enable up, then down, data-clock high.
 abbrev pub afterSelect : Machine → Machine
-afterSelect m = afterItems m (portB 6 ∷ WriteVia 0 2 7 ∷ portB 2 ∷ [])
+afterSelect m = afterItems m (portB 6 ∷ WriteVia (forTicks 0) 2 7 ∷ portB 2 ∷ [])
 
 -- The n highest of the low k bits of a byte, high-order first: for each data-clock low, then high, with the bit on the data line.
 unfoldable pub bitItems : ℕ → ℕ → ℕ → List Item
@@ -56,7 +57,7 @@ afterWrite c b m = afterItems (afterCommand c m) (bitItems 8 8 b)
 
 -- The data line made an input.
 abbrev pub afterReadCommand : ℕ → Machine
-afterReadCommand c = afterItem (afterCommand c clockMachine) (WriteVia 0 2 6)
+afterReadCommand c = afterItem (afterCommand c clockMachine) (WriteVia (forTicks 0) 2 6)
 
 -- After n falls, data-clock high again.
 unfoldable pub afterFalls : ℕ → Machine → Machine
@@ -65,7 +66,7 @@ afterFalls (suc n) m = afterFalls n (afterItems m (portB 0 ∷ portB 2 ∷ []))
 
 -- Bit 0 of port B before the first fall and after each of nine.
 abbrev pub dataLevels : ℕ → List ℕ
-dataLevels c = each (λ n. valueOf (afterFalls n (afterReadCommand c)) (ReadVia 0 0) % 2) (0 ∷ 1 ∷ 2 ∷ 3 ∷ 4 ∷ 5 ∷ 6 ∷ 7 ∷ 8 ∷ 9 ∷ [])
+dataLevels c = each (λ n. valueOf (afterFalls n (afterReadCommand c)) (ReadVia (forTicks 0) 0) % 2) (0 ∷ 1 ∷ 2 ∷ 3 ∷ 4 ∷ 5 ∷ 6 ∷ 7 ∷ 8 ∷ 9 ∷ [])
 
 abbrev pub phase : Machine → Phase
 phase m = m .clock .phase
@@ -98,5 +99,5 @@ pub record ClockSamples : Type 0 where
       × (afterWrite 0x31 0xe9 clockProtected .clock .store .test ≡ 0)
       × (protectOf (afterWrite 0x35 0x7f clockProtected) ≡ false)
   -- Test bytes $80, $40 and $C0 stop the seconds, $20 and $3F do not: SE, and a power cut of $12345678 seconds, from 4,294,967,295.
-  pub tested : secondsByTest (Second 0) ≡ 0 ∷ 4294967295 ∷ 4294967295 ∷ 4294967295 ∷ 0 ∷ 0 ∷ []
-  pub testedOff : secondsByTest (Power 0 0x12345678) ≡ 0x12345677 ∷ 4294967295 ∷ 4294967295 ∷ 4294967295 ∷ 0x12345677 ∷ 0x12345677 ∷ []
+  pub tested : secondsByTest (Second (forTicks 0)) ≡ 0 ∷ 4294967295 ∷ 4294967295 ∷ 4294967295 ∷ 0 ∷ 0 ∷ []
+  pub testedOff : secondsByTest (Power (forTicks 0) 0x12345678) ≡ 0x12345677 ∷ 4294967295 ∷ 4294967295 ∷ 4294967295 ∷ 0x12345677 ∷ 0x12345677 ∷ []

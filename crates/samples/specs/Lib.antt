@@ -1,8 +1,10 @@
 pub mod Lists
 pub mod Samples
 pub mod Drives
+pub mod Many
 pub mod Steps
 pub mod Registers
+pub mod Keyboard
 pub mod Wiring
 pub mod Senses
 pub mod Clock

@@ -1,6 +1,7 @@
 -- Lists of items as bytes, for the samples.
 use Prim.Native.Nat.{ℕ, zero, suc, _+_, _*_, _/_, _%_, _^_}
 use mathlib.Core.List.{List, [], _∷_, _++_}
+use lib.ListN.{length}
 
 -- A register's address: VIA register r is at $EFE1FE + 512r.
 abbrev pub register : ℕ → ℕ
@@ -27,6 +28,13 @@ access wait k = 9 ∷ 0 ∷ 87 ∷ 82 ∷ wait % 256 ∷ wait / 256 ∷ (word (l
 abbrev pub rdIwm : ℕ → List ℕ
 rdIwm k = 8 ∷ 0 ∷ 82 ∷ 68 ∷ 0 ∷ 0 ∷ word (location k)
 
+-- MW of some values to an address, after a wait in VIA ticks; to a VIA register.
+abbrev pub mwTo : ℕ → ℕ → List ℕ → List ℕ
+mwTo wait address vs = (9 + length vs) ∷ 0 ∷ 77 ∷ 87 ∷ wait % 256 ∷ wait / 256 ∷ (word address ++ (length vs ∷ vs))
+
+abbrev pub mw : ℕ → ℕ → List ℕ → List ℕ
+mw wait r vs = mwTo wait (register r) vs
+
 -- DI, RS and PW with 0 seconds off, with no wait.
 abbrev pub di : ℕ → ℕ → ℕ → ℕ → List ℕ
 di drive insert locked sides = 8 ∷ 0 ∷ 68 ∷ 73 ∷ 0 ∷ 0 ∷ drive ∷ insert ∷ locked ∷ sides ∷ []
@@ -40,6 +48,10 @@ pw = 8 ∷ 0 ∷ 80 ∷ 87 ∷ 0 ∷ 0 ∷ 0 ∷ 0 ∷ 0 ∷ 0 ∷ []
 -- SE with no wait.
 abbrev pub se : List ℕ
 se = 4 ∷ 0 ∷ 83 ∷ 69 ∷ 0 ∷ 0 ∷ []
+
+-- KC with this level, after a wait in VIA ticks.
+abbrev pub kc : ℕ → ℕ → List ℕ
+kc wait level = 5 ∷ 0 ∷ 75 ∷ 67 ∷ wait % 256 ∷ wait / 256 ∷ level ∷ []
 
 -- Port B's bits 0 to 2 made outputs, with enable at 1 and data-clock at 0.
 abbrev pub begin : List ℕ
@@ -66,6 +78,16 @@ sent (suc n) (suc k) byte = clocked (byte / 2 ^ k % 2) ++ sent n k byte
 -- A whole byte.
 abbrev pub byte : ℕ → List ℕ
 byte b = sent 8 8 b
+
+-- The values of the same writes to port B, for one MW.
+unfoldable pub sentValues : ℕ → ℕ → ℕ → List ℕ
+sentValues zero k byte = []
+sentValues (suc n) zero byte = []
+sentValues (suc n) (suc k) byte = (byte / 2 ^ k % 2) ∷ (2 + byte / 2 ^ k % 2) ∷ sentValues n k byte
+
+-- The 34 values of one whole write transaction.
+abbrev pub transactionValues : ℕ → ℕ → List ℕ
+transactionValues command b = 0 ∷ (sentValues 8 8 command ++ sentValues 8 8 b ++ (4 ∷ []))
 
 -- One whole write transaction.
 abbrev pub transaction : ℕ → ℕ → List ℕ

@@ -1,6 +1,7 @@
 -- Items carried out one after the other, for the samples.
 use Prim.Native.Nat.{ℕ, _+_, _*_, _/_, _%_}
 use mathlib.Core.List.{List, [], _∷_}
+use Rattle.units.specs.Units.{forTicks}
 use Rattle.item_spec.specs.declared.Item.{Item}
 use Rattle.item_spec.specs.declared.Item.the-variants.{WriteVia, WriteIwm}
 use Rattle.item_spec.specs.declared.Answer.{Answer}
@@ -22,12 +23,12 @@ each f (x ∷ xs) = f x ∷ each f xs
 
 -- Writes with no wait: port B, a VIA register, an access to an IWM location.
 abbrev pub portB : ℕ → Item
-portB v = WriteVia 0 0 v
+portB v = WriteVia (forTicks 0) 0 v
 
 abbrev pub accessItem : ℕ → Item
-accessItem k = WriteIwm 0 k 0
+accessItem k = WriteIwm (forTicks 0) k 0
 
 -- Disk register 8·CA2 + 4·CA1 + 2·CA0 + SEL of a drive (1 is external), SEL by PA5 made an output.
 abbrev pub addressItems : ℕ → ℕ → List Item
 addressItems drive r =
-    accessItem (r / 2 % 2) ∷ accessItem (2 + r / 4 % 2) ∷ accessItem (4 + r / 8 % 2) ∷ accessItem (10 + drive) ∷ WriteVia 0 3 32 ∷ WriteVia 0 15 (32 * (r % 2)) ∷ []
+    accessItem (r / 2 % 2) ∷ accessItem (2 + r / 4 % 2) ∷ accessItem (4 + r / 8 % 2) ∷ accessItem (10 + drive) ∷ WriteVia (forTicks 0) 3 32 ∷ WriteVia (forTicks 0) 15 (32 * (r % 2)) ∷ []

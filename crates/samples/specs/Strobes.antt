@@ -3,6 +3,7 @@ use Prim.Native.Nat.{ℕ, _+_, _*_}
 use mathlib.Core.Path.{_≡_}
 use mathlib.Core.Bool.{true, false}
 use mathlib.Core.List.{List, [], _∷_, _++_}
+use Rattle.units.specs.Units.{forTicks}
 use Rattle.disk_spec.specs.declared.Drive.{Drive}
 use Rattle.disk_spec.specs.Drive.{freshDrive, withDirection, withMotor, withStep, withTrack, withDiskState}
 use Rattle.disk_spec.specs.Drives.{freshDrives, withDriveAt, withStrobe}
@@ -57,7 +58,7 @@ diskAfter n = one (afterDrop 0 3 1 n drivePair .drives .internal .disk)
 
 -- A line moved and moved back in the middle of such a strobe, which drops 1 VIA tick later.
 abbrev pub stepAfterMoves : List Item → ℕ
-stepAfterMoves l = afterItems (afterRise 0 1 0 drivePair) (l ++ (WriteIwm 1 6 0 ∷ [])) .drives .internal .pending
+stepAfterMoves l = afterItems (afterRise 0 1 0 drivePair) (l ++ (WriteIwm (forTicks 1) 6 0 ∷ [])) .drives .internal .pending
 
 pub record StrobeSamples : Type 0 where
   -- After 783 VIA ticks: direction, step and motor are written; an eject is too short. The external drive is stepping already.
@@ -108,14 +109,14 @@ pub record StrobeSamples : Type 0 where
       ∷ (accessItem 5 ∷ accessItem 4 ∷ [])
       ∷ (accessItem 8 ∷ accessItem 9 ∷ [])
       ∷ (accessItem 11 ∷ accessItem 10 ∷ [])
-      ∷ (WriteVia 0 15 32 ∷ WriteVia 0 15 0 ∷ [])
+      ∷ (WriteVia (forTicks 0) 15 32 ∷ WriteVia (forTicks 0) 15 0 ∷ [])
       ∷ (accessItem 13 ∷ accessItem 12 ∷ [])
       ∷ (accessItem 15 ∷ accessItem 14 ∷ [])
       ∷ [])
       ≡ 0 ∷ 0 ∷ 0 ∷ 0 ∷ 0 ∷ 0 ∷ 9401 ∷ 9401 ∷ []
   -- DI into the internal drive: not locked and single-sided, double-sided, locked; into the external one; out again.
-  pub inserted : each (λ i. driveRow (afterItem (freshMachine First) i .drives .internal)) (Disk 0 0 1 0 0 ∷ Disk 0 0 1 0 1 ∷ Disk 0 0 1 1 0 ∷ Disk 0 1 1 1 1 ∷ [])
+  pub inserted : each (λ i. driveRow (afterItem (freshMachine First) i .drives .internal)) (Disk (forTicks 0) 0 1 0 0 ∷ Disk (forTicks 0) 0 1 0 1 ∷ Disk (forTicks 0) 0 1 1 0 ∷ Disk (forTicks 0) 1 1 1 1 ∷ [])
       ≡ (0 ∷ 0 ∷ 1 ∷ 0 ∷ 0 ∷ 0 ∷ 0 ∷ 0 ∷ []) ∷ (0 ∷ 0 ∷ 1 ∷ 0 ∷ 1 ∷ 0 ∷ 0 ∷ 0 ∷ []) ∷ (0 ∷ 0 ∷ 1 ∷ 1 ∷ 0 ∷ 0 ∷ 0 ∷ 0 ∷ []) ∷ (0 ∷ 0 ∷ 0 ∷ 0 ∷ 0 ∷ 0 ∷ 0 ∷ 0 ∷ []) ∷ []
-  pub insertedToo : driveRow (afterItem (freshMachine First) (Disk 0 1 1 0 1) .drives .external) ≡ 0 ∷ 0 ∷ 1 ∷ 0 ∷ 1 ∷ 0 ∷ 0 ∷ 0 ∷ []
-  pub removed : driveRow (afterItem drivePair (Disk 0 0 0 1 1) .drives .internal) ∷ driveRow (afterItem drivePair (Disk 0 1 0 1 0) .drives .external) ∷ []
+  pub insertedToo : driveRow (afterItem (freshMachine First) (Disk (forTicks 0) 1 1 0 1) .drives .external) ≡ 0 ∷ 0 ∷ 1 ∷ 0 ∷ 1 ∷ 0 ∷ 0 ∷ 0 ∷ []
+  pub removed : driveRow (afterItem drivePair (Disk (forTicks 0) 0 0 1 1) .drives .internal) ∷ driveRow (afterItem drivePair (Disk (forTicks 0) 1 0 1 0) .drives .external) ∷ []
       ≡ (17 ∷ 0 ∷ 0 ∷ 0 ∷ 0 ∷ 0 ∷ 0 ∷ 0 ∷ []) ∷ (42 ∷ 1 ∷ 0 ∷ 0 ∷ 1 ∷ 0 ∷ 100 ∷ 0 ∷ []) ∷ []

@@ -9,10 +9,12 @@ ghost use Rattle.capture_spec.specs.Convert.{convertedOf, outputOf};
 ghost use Rattle.entry_spec.specs.Call.{callOf, callImage, callAnswers, roomStop, roomImage, freshStop, freshImage, lengthFor};
 ghost use Rattle.sheet_spec.specs.Lookup.{sourceOf, placeOf, refusalOf, sheetNumber};
 ghost use Rattle.sheet_spec.specs.Compaction.{compactedOf, memoryOf, stopOf, writtenOf};
+use clock_command::Engine;
 use clock_spec::Chip;
 use units::Micros;
 
 pub mod keyboard_calls;
+pub mod transaction_calls;
 
 // The numbers of cells that a machine can be made with.
 const FIRST: u32 = clock_command::FIRST_CELLS as u32;
@@ -61,11 +63,10 @@ pub extern "C" fn swarmtempo_fresh(image: &mut [u8], cells: u32) -> u8
     5
 }
 
-// Runs the list from the image's state, and leaves the image of the state reached. The stop number: 0, 1 or 6; 7 where no
-// accepted state has this image. The last two clauses: the state of the image left is the state reached, so that call after call is one run; and demand 3,
-// from the image's state.
-#[no_mangle]
-pub extern "C" fn swarmtempo_run(
+// Runs the list from the image's state by an engine, and leaves the image of the state reached. The stop number: 0, 1 or 6; 7 where no accepted state has
+// this image. The last two clauses: the state of the image left is the state reached, so that call after call is one run; and demand 3, from the image's state.
+fn run_by(
+    engine: Engine,
     image: &mut [u8],
     list: &[u8],
     answers: &mut [u8],
@@ -86,11 +87,53 @@ pub extern "C" fn swarmtempo_run(
     if !image::valid(image) {
         return 7;
     }
-    let r = run::run_accepted(image::load(image), list, answers);
+    let r = run::run_accepted(engine, image::load(image), list, answers);
     *consumed = r.consumed as u64;
     *written = r.written as u64;
     image::save(image, r.machine);
     r.stop
+}
+
+// The same for shells, by the table.
+#[no_mangle]
+pub extern "C" fn swarmtempo_run(
+    image: &mut [u8],
+    list: &[u8],
+    answers: &mut [u8],
+    consumed: &mut u64,
+    written: &mut u64,
+) -> u8
+    ensures { λ r. ⌜ r ≡ callOf (now (image .entry)) (now (list .entry)) (length (now (answers .entry))) .stop ⌝ }
+    ensures { λ _. ⌜ now (consumed .exit) ≡ callOf (now (image .entry)) (now (list .entry)) (length (now (answers .entry))) .consumed ⌝ }
+    ensures { λ _. ⌜ now (written .exit) ≡ length (callOf (now (image .entry)) (now (list .entry)) (length (now (answers .entry))) .answers) ⌝ }
+    ensures { λ _. ⌜ now (image .exit) ≡ callImage (now (image .entry)) (now (list .entry)) (length (now (answers .entry))) ⌝ }
+    ensures { λ _. ⌜ now (answers .exit) ≡ callAnswers (now (image .entry)) (now (list .entry)) (now (answers .entry)) ⌝ }
+    ensures { λ _. ⌜ validImage (now (image .exit)) ≡ validImage (now (image .entry)) ⌝ }
+    ensures { λ _. ⌜ machineOf (now (image .exit)) ≡ callOf (now (image .entry)) (now (list .entry)) (length (now (answers .entry))) .machine ⌝ }
+    ensures { λ _. ⌜ (validImage (now (image .entry)) ≡ true → Run3 (machineOf (now (image .entry))) (now (list .entry)) (length (now (answers .entry))) (machineOf (now (image .exit)))) ⌝ }
+{
+    run_by(Engine::Table, image, list, answers, consumed, written)
+}
+
+// The same by the plain engine, so that field staff can see for themselves that nothing differs.
+#[no_mangle]
+pub extern "C" fn swarmtempo_run_plain(
+    image: &mut [u8],
+    list: &[u8],
+    answers: &mut [u8],
+    consumed: &mut u64,
+    written: &mut u64,
+) -> u8
+    ensures { λ r. ⌜ r ≡ callOf (now (image .entry)) (now (list .entry)) (length (now (answers .entry))) .stop ⌝ }
+    ensures { λ _. ⌜ now (consumed .exit) ≡ callOf (now (image .entry)) (now (list .entry)) (length (now (answers .entry))) .consumed ⌝ }
+    ensures { λ _. ⌜ now (written .exit) ≡ length (callOf (now (image .entry)) (now (list .entry)) (length (now (answers .entry))) .answers) ⌝ }
+    ensures { λ _. ⌜ now (image .exit) ≡ callImage (now (image .entry)) (now (list .entry)) (length (now (answers .entry))) ⌝ }
+    ensures { λ _. ⌜ now (answers .exit) ≡ callAnswers (now (image .entry)) (now (list .entry)) (now (answers .entry)) ⌝ }
+    ensures { λ _. ⌜ validImage (now (image .exit)) ≡ validImage (now (image .entry)) ⌝ }
+    ensures { λ _. ⌜ machineOf (now (image .exit)) ≡ callOf (now (image .entry)) (now (list .entry)) (length (now (answers .entry))) .machine ⌝ }
+    ensures { λ _. ⌜ (validImage (now (image .entry)) ≡ true → Run3 (machineOf (now (image .entry))) (now (list .entry)) (length (now (answers .entry))) (machineOf (now (image .exit)))) ⌝ }
+{
+    run_by(Engine::Patterns, image, list, answers, consumed, written)
 }
 
 // Microseconds in VIA ticks, rounded up.

@@ -5,6 +5,7 @@ use mathlib.Core.Bool.{Bool, true, false, cond}
 use mathlib.Core.List.{List, [], _∷_}
 use mathlib.Core.Option.{some}
 use lib.Dec.{eqb}
+use Rattle.units.specs.Units.{forTicks}
 use Rattle.clock_spec.specs.Store.{act}
 use Rattle.clock_spec.specs.Phase.{edgeOf, between, shownLevel}
 use Rattle.clock_spec.specs.declared.Target.{Target}
@@ -48,15 +49,15 @@ module _ (m : Machine) (o d v : ℕ) (p : Phase) (s : Store) where
   abbrev from : Machine
   from = bare m o d p s
 
-  port-step : stepOf from (WriteVia 0 0 v) .machine ≡ afterStrobe (strobeLevels from) (afterWires (wires from) (bare m v d p s))
+  port-step : stepOf from (WriteVia (forTicks 0) 0 v) .machine ≡ afterStrobe (strobeLevels from) (afterWires (wires from) (bare m v d p s))
   unfolding stepOf actedOf itemWait ticks drivesTicks driveTicks strobeTicks viaWritten portsWritten timer1Written timer2Written flagsWritten
   port-step = refl
 
-  side-step : stepOf from (WriteVia 0 2 v) .machine ≡ afterStrobe (strobeLevels from) (afterWires (wires from) (bare m o v p s))
+  side-step : stepOf from (WriteVia (forTicks 0) 2 v) .machine ≡ afterStrobe (strobeLevels from) (afterWires (wires from) (bare m o v p s))
   unfolding stepOf actedOf itemWait ticks drivesTicks driveTicks strobeTicks viaWritten portsWritten timer1Written timer2Written flagsWritten
   side-step = refl
 
-  look-step : stepOf from (ReadVia 0 0) .machine ≡ afterStrobe (strobeLevels from) (afterWires (wires from) from)
+  look-step : stepOf from (ReadVia (forTicks 0) 0) .machine ≡ afterStrobe (strobeLevels from) (afterWires (wires from) from)
   unfolding stepOf actedOf itemWait ticks drivesTicks driveTicks strobeTicks viaRead registerRead flagsRead
   look-step = refl
 
@@ -122,7 +123,7 @@ module _ (m : Machine) (q r : ℕ) (ok : acceptedDrives (strobeLevels m) (m .dri
       let v = outAt q true false false in
       let p = m .clock .phase in
       let s = m .clock .store in
-      ap (λ (x : Machine). stepOf x (WriteVia 0 2 (dirAt r true)) .machine)
+      ap (λ (x : Machine). stepOf x (WriteVia (forTicks 0) 2 (dirAt r true)) .machine)
       (port-step m o d v p s ∙ raised o d v d p s (pin-up m q d p s))
       ∙ side-step m v d (dirAt r true) Idle s
       ∙ raised v d v (dirAt r true) Idle s (pin-up m q (dirAt r true) Idle s)

@@ -6,6 +6,7 @@ use mathlib.Core.List.{List, [], _∷_}
 use native.Mathlib.Omega.{arith}
 use lib.Dec.{eqb}
 use lib.ListN.{getD}
+use Rattle.units.specs.Units.{forTicks}
 use Rattle.clock_spec.specs.Command.{bitNumber}
 use Rattle.clock_spec.specs.Store.{fetch}
 use Rattle.clock_spec.specs.Phase.{shownLevel}
@@ -44,7 +45,7 @@ dir-small r true h = omega arith
 dir-small r false h = omega arith
 
 module _ (m : Machine) (q r : ℕ) (ok : acceptedDrives (strobeLevels m) (m .drives) ≡ true) (small : r < 32) where
-  look-value : (h : Held) → eqb (stepOf (at m q r h) (ReadVia 0 0) .value / 1 % 2) 1 ≡ cond (h .x) (h .b) (shownLevel (h .phase))
+  look-value : (h : Held) → eqb (stepOf (at m q r h) (ReadVia (forTicks 0) 0) .value / 1 % 2) 1 ≡ cond (h .x) (h .b) (shownLevel (h .phase))
   unfolding stepOf actedOf itemWait ticks viaRead registerRead valueRead
   look-value h =
       let i = inputsOf (shownLevel (h .phase)) (m .inputs) .b in

@@ -2,6 +2,7 @@
 use Prim.Native.Nat.{ℕ, _+_, _*_}
 use mathlib.Core.Bool.{Bool, true, false}
 use mathlib.Core.List.{List, [], _∷_, _++_}
+use Rattle.units.specs.Units.{forTicks}
 use Rattle.clock_spec.specs.Command.{bitNumber}
 use Rattle.clock_spec.specs.Patterns.{bitsHighFirst}
 use Rattle.item_spec.specs.declared.Item.{Item}
@@ -18,9 +19,9 @@ dirAt r x = 8 * r + (4 + (2 + bitNumber x))
 
 -- "Each wait 0 VIA ticks."
 abbrev pub itemOf : ℕ → ℕ → Act → Item
-itemOf q r (Port e c b) = WriteVia 0 0 (outAt q e c b)
-itemOf q r (Side x) = WriteVia 0 2 (dirAt r x)
-itemOf q r Look = ReadVia 0 0
+itemOf q r (Port e c b) = WriteVia (forTicks 0) 0 (outAt q e c b)
+itemOf q r (Side x) = WriteVia (forTicks 0) 2 (dirAt r x)
+itemOf q r Look = ReadVia (forTicks 0) 0
 
 -- Two items for each bit.
 abbrev pub sends : List Bool → List Act

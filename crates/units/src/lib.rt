@@ -1,6 +1,7 @@
-// Microseconds and VIA ticks: types of their own, so that no count of one is taken for the other.
+// Microseconds, VIA ticks and the waits of records: types of their own, so that no count of one is taken for another.
 ghost use mathlib.Core.Path.{_≡_};
-ghost use Rattle.units.specs.Units.{ticksOf};
+ghost use Prim.Native.Nat.{_+_, _*_};
+ghost use Rattle.units.specs.Units.{ticksOf, forTicks};
 
 // Microseconds.
 pub struct Micros(pub u32);
@@ -18,4 +19,21 @@ pub fn ticks_of_micros(m: Micros) -> ViaTicks
         return ViaTicks(quotient);
     }
     ViaTicks(quotient + 1)
+}
+
+// A wait as a record has it: VIA ticks, 16 bits. It is made here alone, from the two bytes of a record, and no other number can stand for one.
+pub struct WaitTicks(u16);
+
+// The wait of two bytes, the lower first.
+pub fn record_wait(low: u8, high: u8) -> WaitTicks
+    ensures { λ r. ⌜ r ≡ forTicks (low + high * 256) ⌝ }
+{
+    WaitTicks((low as u16) + (high as u16) * 256)
+}
+
+// Its number of VIA ticks.
+pub fn tick_count(wait: WaitTicks) -> u16
+    ensures { λ r. ⌜ r ≡ wait .0 ⌝ }
+{
+    wait.0
 }

@@ -2,6 +2,8 @@ pub mod Accepted
 pub mod Kept
 pub mod Waits
 pub mod Rest
+pub mod Pulses
+pub mod Eight
 pub mod AccessAccepted
 pub mod Bits
 pub mod FlagsExact

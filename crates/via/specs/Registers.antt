@@ -1,8 +1,9 @@
--- Reading the VIA's registers 0 to 15, by document 01: the value, and the flags that the read clears.
+-- Reading the VIA's registers 0 to 15, by document 01 and W-210: the value, the flags that the read clears, and the count that it starts anew.
 use Prim.Native.Nat.{ℕ, _+_, _/_, _%_}
 use mathlib.Core.Bool.{Bool, cond}
 use lib.Dec.{eqb}
-use Rattle.via.specs.Setters.{withFlags}
+use Rattle.via.specs.Setters.{withFlags, withPulses}
+use Rattle.via.specs.Shift.{pulsesAccessed}
 use Rattle.via_bits.specs.Bytes.{clear, portAFlags}
 use Rattle.via.specs.Via.{portLevel, asking}
 use Rattle.via.specs.declared.Via.{Via}
@@ -36,15 +37,16 @@ valueRead r i s =
     (cond (eqb r 14) (s .enables % 128 + 128)
     (portLevel (s .ports .outa) (s .ports .dira) (i .a))))))))))))))))
 
--- Register 1 as above; "reading 4 clears flag 6 after the value is taken"; "Read 8 .. clears flag 5".
+-- Register 1 as above; "reading 4 clears flag 6 after the value is taken"; "Read 8 .. clears flag 5"; W-210: "reading .. register 10 clears flag 2 too".
 unfoldable pub flagsRead : ℕ → Via → ℕ
 unfolding portAFlags
 flagsRead r s =
     cond (eqb r 1) (clear (s .flags) (portAFlags (s .pcr)))
     (cond (eqb r 4) (clear (s .flags) 64)
     (cond (eqb r 8) (clear (s .flags) 32)
-    (s .flags)))
+    (cond (eqb r 10) (clear (s .flags) 4)
+    (s .flags))))
 
 unfoldable pub registerRead : ℕ → Inputs → Via → Access
-unfolding valueRead flagsRead
-registerRead r i s = record { via = withFlags s (flagsRead r s); value = valueRead r i s }
+unfolding valueRead flagsRead pulsesAccessed
+registerRead r i s = record { via = withPulses (withFlags s (flagsRead r s)) (pulsesAccessed r (s .pulses)); value = valueRead r i s }

@@ -25,25 +25,28 @@ withArmed2 s x = record { counter = s .counter; low = s .low; armed = x }
 
 -- ---- the VIA
 abbrev pub withPorts : Via → Ports → Via
-withPorts s x = record { ports = x; t1 = s .t1; t2 = s .t2; sr = s .sr; acr = s .acr; pcr = s .pcr; flags = s .flags; enables = s .enables }
+withPorts s x = record { ports = x; t1 = s .t1; t2 = s .t2; sr = s .sr; acr = s .acr; pcr = s .pcr; flags = s .flags; enables = s .enables; pulses = s .pulses }
 
 abbrev pub withT1 : Via → Timer1 → Via
-withT1 s x = record { ports = s .ports; t1 = x; t2 = s .t2; sr = s .sr; acr = s .acr; pcr = s .pcr; flags = s .flags; enables = s .enables }
+withT1 s x = record { ports = s .ports; t1 = x; t2 = s .t2; sr = s .sr; acr = s .acr; pcr = s .pcr; flags = s .flags; enables = s .enables; pulses = s .pulses }
 
 abbrev pub withT2 : Via → Timer2 → Via
-withT2 s x = record { ports = s .ports; t1 = s .t1; t2 = x; sr = s .sr; acr = s .acr; pcr = s .pcr; flags = s .flags; enables = s .enables }
+withT2 s x = record { ports = s .ports; t1 = s .t1; t2 = x; sr = s .sr; acr = s .acr; pcr = s .pcr; flags = s .flags; enables = s .enables; pulses = s .pulses }
 
 abbrev pub withSr : Via → ℕ → Via
-withSr s x = record { ports = s .ports; t1 = s .t1; t2 = s .t2; sr = x; acr = s .acr; pcr = s .pcr; flags = s .flags; enables = s .enables }
+withSr s x = record { ports = s .ports; t1 = s .t1; t2 = s .t2; sr = x; acr = s .acr; pcr = s .pcr; flags = s .flags; enables = s .enables; pulses = s .pulses }
 
 abbrev pub withAcr : Via → ℕ → Via
-withAcr s x = record { ports = s .ports; t1 = s .t1; t2 = s .t2; sr = s .sr; acr = x; pcr = s .pcr; flags = s .flags; enables = s .enables }
+withAcr s x = record { ports = s .ports; t1 = s .t1; t2 = s .t2; sr = s .sr; acr = x; pcr = s .pcr; flags = s .flags; enables = s .enables; pulses = s .pulses }
 
 abbrev pub withPcr : Via → ℕ → Via
-withPcr s x = record { ports = s .ports; t1 = s .t1; t2 = s .t2; sr = s .sr; acr = s .acr; pcr = x; flags = s .flags; enables = s .enables }
+withPcr s x = record { ports = s .ports; t1 = s .t1; t2 = s .t2; sr = s .sr; acr = s .acr; pcr = x; flags = s .flags; enables = s .enables; pulses = s .pulses }
 
 abbrev pub withFlags : Via → ℕ → Via
-withFlags s x = record { ports = s .ports; t1 = s .t1; t2 = s .t2; sr = s .sr; acr = s .acr; pcr = s .pcr; flags = x; enables = s .enables }
+withFlags s x = record { ports = s .ports; t1 = s .t1; t2 = s .t2; sr = s .sr; acr = s .acr; pcr = s .pcr; flags = x; enables = s .enables; pulses = s .pulses }
 
 abbrev pub withEnables : Via → ℕ → Via
-withEnables s x = record { ports = s .ports; t1 = s .t1; t2 = s .t2; sr = s .sr; acr = s .acr; pcr = s .pcr; flags = s .flags; enables = x }
+withEnables s x = record { ports = s .ports; t1 = s .t1; t2 = s .t2; sr = s .sr; acr = s .acr; pcr = s .pcr; flags = s .flags; enables = x; pulses = s .pulses }
+
+abbrev pub withPulses : Via → ℕ → Via
+withPulses s x = record { ports = s .ports; t1 = s .t1; t2 = s .t2; sr = s .sr; acr = s .acr; pcr = s .pcr; flags = s .flags; enables = s .enables; pulses = x }

@@ -23,6 +23,7 @@ freshVia =
       pcr = 0;
       flags = 0;
       enables = 0;
+      pulses = 0;
     }
 
 -- ---- ports
@@ -81,7 +82,7 @@ unfoldable pub levelOf : Via → ℕ
 levelOf v = cond (asking v) 1 0
 
 -- ---- reset
--- "RS clears the VIA but for counters, latches and register 10, disarms, drops a load due".
+-- "RS clears the VIA but for counters, latches and register 10, disarms, drops a load due". W-210: "RS and PW start the count anew."
 unfoldable pub resetOf : Via → Via
 unfolding freshVia
 resetOf v =
@@ -92,6 +93,7 @@ resetOf v =
     (v .sr)
 
 -- ---- accepted states
--- "Registers, counters, latches, flags .. and a load due are free; room not in use holds 0": flags and enables have seven bits.
+-- "Registers, counters, latches, flags .. and a load due are free; room not in use holds 0": flags and enables have seven bits. W-210's pulses are counted
+-- from 0 to 7.
 unfoldable pub acceptedVia : Via → Bool
-acceptedVia v = ltb (v .flags) 128 && ltb (v .enables) 128
+acceptedVia v = ltb (v .flags) 128 && (ltb (v .enables) 128 && ltb (v .pulses) 8)

@@ -2,7 +2,8 @@
 use Prim.Native.Nat.{ℕ, _+_, _*_, _%_}
 use mathlib.Core.Bool.{cond, not, _&&_, _||_}
 use lib.Dec.{eqb}
-use Rattle.via.specs.Setters.{withPorts, withT1, withT2, withSr, withAcr, withPcr, withFlags, withEnables}
+use Rattle.via.specs.Setters.{withPorts, withT1, withT2, withSr, withAcr, withPcr, withFlags, withEnables, withPulses}
+use Rattle.via.specs.Shift.{pulsesAccessed}
 use Rattle.via_bits.specs.Bytes.{clear, portAFlags, enabledBy}
 use Rattle.via.specs.declared.Ports.{Ports}
 use Rattle.via.specs.declared.Timer1.{Timer1}
@@ -41,20 +42,23 @@ timer2Written r v t =
       armed = eqb r 9 || t .armed;
     }
 
--- Register 1 clears portAFlags; 5 and 7 clear flag 6, 9 flag 5. "Writing 13 clears flags where bits 0 to 6 are 1." "register 15 clears none".
+-- Register 1 clears portAFlags; 5 and 7 clear flag 6, 9 flag 5. W-210: "writing register 10 clears flag 2 too". "Writing 13 clears flags where bits 0 to 6
+-- are 1." "register 15 clears none".
 unfoldable pub flagsWritten : ℕ → ℕ → Via → ℕ
 flagsWritten r v s =
     cond (eqb r 1) (clear (s .flags) (portAFlags (s .pcr)))
     (cond (eqb r 5 || eqb r 7) (clear (s .flags) 64)
     (cond (eqb r 9) (clear (s .flags) 32)
+    (cond (eqb r 10) (clear (s .flags) 4)
     (cond (eqb r 13) (clear (s .flags) (v % 128))
-    (s .flags))))
+    (s .flags)))))
 
 -- "Registers 10 to 12 store."
 unfoldable pub viaWritten : ℕ → ℕ → Via → Via
-unfolding portsWritten timer1Written timer2Written portAFlags flagsWritten enabledBy
+unfolding portsWritten timer1Written timer2Written portAFlags flagsWritten enabledBy pulsesAccessed
 viaWritten r v s =
-    withEnables
+    withPulses
+    (withEnables
     (withFlags
     (withPcr
     (withAcr
@@ -69,4 +73,5 @@ viaWritten r v s =
     (cond (eqb r 11) v (s .acr)))
     (cond (eqb r 12) v (s .pcr)))
     (flagsWritten r v s))
-    (cond (eqb r 14) (enabledBy v (s .enables)) (s .enables))
+    (cond (eqb r 14) (enabledBy v (s .enables)) (s .enables)))
+    (pulsesAccessed r (s .pulses))

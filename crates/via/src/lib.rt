@@ -1,10 +1,12 @@
-// The VIA: ports, two timers, registers written, reset; what is asked of its flags is in via_flags, reading in via_registers. The state goes in by value, and the next one comes out.
+// The VIA: ports, two timers, registers written, the shift register, reset; what is asked of its flags is in via_flags, reading in via_registers. The state goes in by value, and the next one comes out.
 ghost use mathlib.Core.Path.{_≡_};
 ghost use mathlib.Core.Bool.{cond, true, false};
 ghost use Prim.Native.Nat.{_<_};
 ghost use Rattle.via_timer.specs.Timer.{steps};
 ghost use Rattle.via.specs.Writes.{timer1Written, viaWritten};
+ghost use Rattle.via.specs.Shift.{countedOf, shiftedOf, pulseOf};
 ghost use Rattle.via.specs.Via.{onlyCounts, freshVia, latchOf, counter1, counter2, ticks, resetOf};
+use units::WaitTicks;
 use via_timer::Counter;
 
 // Output bits and directions of ports B and A; a direction bit of 1 is an output.
@@ -31,7 +33,7 @@ pub struct Timer2 {
     pub armed: bool,
 }
 
-// Flags and enables have bits 0 to 6.
+// Flags and enables have bits 0 to 6. The keyboard's pulses since the last eighth are 0 to 7.
 pub struct Via {
     pub ports: Ports,
     pub t1: Timer1,
@@ -41,6 +43,7 @@ pub struct Via {
     pub pcr: u8,
     pub flags: u8,
     pub enables: u8,
+    pub pulses: u8,
 }
 
 // The levels that the outside gives the lines of the two ports.
@@ -49,7 +52,7 @@ pub struct Inputs {
     pub a: u8,
 }
 
-// What a read gives: the VIA after it, and the value.
+// What a read or a pulse gives: the VIA after it, and the value.
 pub struct Access {
     pub via: Via,
     pub value: u8,
@@ -83,6 +86,7 @@ pub fn fresh() -> Via
         pcr: 0,
         flags: 0,
         enables: 0,
+        pulses: 0,
     }
 }
 
@@ -131,10 +135,11 @@ fn run2(t: Timer2, still: bool, n: u16) -> Counter
 }
 
 impl Via {
-    // n VIA ticks, worked out from n.
-    pub fn wait(mut self, n: u16) -> Via
-        ensures { λ r. ⌜ r ≡ ticks n self ⌝ }
+    // The wait passes, worked out from its VIA ticks.
+    pub fn wait(mut self, wait: WaitTicks) -> Via
+        ensures { λ r. ⌜ r ≡ ticks (wait .0) self ⌝ }
     {
+        let n = units::tick_count(wait);
         let a = run1(self.t1, self.acr / 64 % 2 == 1, n);
         let b = run2(self.t2, self.acr / 32 % 2 == 1, n);
         self.t1.counter = a.value;
@@ -146,19 +151,21 @@ impl Via {
         self
     }
 
-    // Whether n VIA ticks do no more than take n from both counters: no load is due, T2 counts, and neither passes 0.
-    pub fn only_counts(self, n: u16) -> bool
-        ensures { λ r. ⌜ r ≡ onlyCounts n self ⌝ }
+    // Whether the wait does no more than take its VIA ticks from both counters: no load is due, T2 counts, and neither passes 0.
+    pub fn only_counts(self, wait: WaitTicks) -> bool
+        ensures { λ r. ⌜ r ≡ onlyCounts (wait .0) self ⌝ }
     {
+        let n = units::tick_count(wait);
         !self.t1.due
             & ((self.acr / 32 % 2 != 1) & ((n <= self.t1.counter) & (n <= self.t2.counter)))
     }
 
-    // n VIA ticks that do no more.
-    pub fn count(mut self, n: u16) -> Via
-        requires { ⌜ onlyCounts n self ≡ true ⌝ }
-        ensures { λ r. ⌜ r ≡ ticks n self ⌝ }
+    // A wait that does no more.
+    pub fn count(mut self, wait: WaitTicks) -> Via
+        requires { ⌜ onlyCounts (wait .0) self ≡ true ⌝ }
+        ensures { λ r. ⌜ r ≡ ticks (wait .0) self ⌝ }
     {
+        let n = units::tick_count(wait);
         let a = self.t1.counter - n;
         let b = self.t2.counter - n;
         self.t1.counter = a;
@@ -210,7 +217,11 @@ impl Via {
                 self.t2.armed = true;
                 self.flags = self.flags & !32;
             },
-            10 => self.sr = value,
+            10 => {
+                self.sr = value;
+                self.flags = self.flags & !4;
+                self.pulses = 0;
+            },
             11 => self.acr = value,
             12 => self.pcr = value,
             13 => self.flags = self.flags & !(value % 128),
@@ -218,5 +229,52 @@ impl Via {
             _ => self.ports.outa = value,
         }
         self
+    }
+
+    // A pulse counts: each eighth sets flag 2, and the count is 0 again.
+    fn counted(mut self) -> Via
+        ensures { λ r. ⌜ r ≡ countedOf self ⌝ }
+    {
+        if self.pulses < 7 {
+            self.pulses = self.pulses + 1;
+        } else {
+            self.flags = self.flags | 4;
+            self.pulses = 0;
+        }
+        self
+    }
+
+    // Register 10 moves up one bit and takes the level as bit 0.
+    fn shifted(mut self, level: u8) -> Via
+        requires { ⌜ level < 2 ⌝ }
+        ensures { λ r. ⌜ r ≡ shiftedOf level self ⌝ }
+    {
+        self.sr = self.sr % 128 * 2 + level;
+        self.counted()
+    }
+
+    // One pulse of the keyboard's clock, with this level on its data line.
+    pub fn pulse(self, level: u8) -> Access
+        requires { ⌜ level < 2 ⌝ }
+        ensures { λ r. ⌜ r ≡ pulseOf level self ⌝ }
+    {
+        let mode = self.acr / 4 % 8;
+        if mode == 3 {
+            return Access {
+                via: self.shifted(level),
+                value: 0,
+            };
+        }
+        if mode == 7 {
+            let bit = self.sr / 128;
+            return Access {
+                via: self.shifted(bit),
+                value: bit,
+            };
+        }
+        Access {
+            via: self,
+            value: 0,
+        }
     }
 }

@@ -3,6 +3,7 @@ ghost use mathlib.Core.Path.{_≡_};
 ghost use Prim.Native.Nat.{_<_, _+_, _/_, _%_};
 ghost use Rattle.via.specs.Via.{portLevel};
 ghost use Rattle.via.specs.Registers.{flagsByte, valueRead, flagsRead};
+ghost use Rattle.via.specs.Shift.{pulsesAccessed};
 use via::Inputs;
 use via::Via;
 
@@ -63,7 +64,15 @@ pub fn flags_read(via: Via, register: u8) -> u8
     ensures { λ r. ⌜ r ≡ flagsRead register via ⌝ }
 {
     let f = via.flags;
-    let on8 = via_bits::pick(register == 8, f & !32, f);
+    let on10 = via_bits::pick(register == 10, f & !4, f);
+    let on8 = via_bits::pick(register == 8, f & !32, on10);
     let on4 = via_bits::pick(register == 4, f & !64, on8);
     via_bits::pick(register == 1, f & !via_bits::port_a_flags(via.pcr), on4)
+}
+
+// The count of pulses after an access to a register: register 10 starts it anew.
+pub fn pulses_accessed(register: u8, pulses: u8) -> u8
+    ensures { λ r. ⌜ r ≡ pulsesAccessed register pulses ⌝ }
+{
+    via_bits::pick(register == 10, 0, pulses)
 }

@@ -49,12 +49,12 @@ pub fn asm(given: &Given) -> Result<u8, Failure> {
 }
 
 /// Where bytes are kept until it is known that they may be written.
-trait Aside: Read + Write + Seek {}
+pub trait Aside: Read + Write + Seek {}
 
 impl<T: Read + Write + Seek> Aside for T {}
 
 /// A file without a name, or memory where there is none.
-fn aside() -> Box<dyn Aside> {
+pub fn aside() -> Box<dyn Aside> {
     match draft::unnamed(&std::env::temp_dir()) {
         Some(file) => Box::new(file),
         None => Box::new(Cursor::new(Vec::new())),

@@ -1,6 +1,6 @@
 //! How fast runs are, beside a plain model of the same board: a list for each kind of item, for
 //! refusals, for transactions with the clock chip, for long waits and for a mix, and calls with one
-//! item.
+//! item; and the same writes as WR items and as MW items of 64 values.
 
 use super::failure::{failure, Failure};
 use super::files::print;
@@ -8,7 +8,7 @@ use std::process::Command;
 use std::time::{Duration, Instant};
 use swarmtempo::{
     Address, Chip, DiskLine, Drive, InLine, Item, List, Machine, Register, Seconds, SenseRegister,
-    ViaTicks, ANSWER_LEN,
+    Timed, Values, ViaTicks, ANSWER_LEN,
 };
 use swarmtempo_model::run_image;
 
@@ -20,6 +20,14 @@ const MIX: &str = "mix";
 
 /// The list that is run in calls of one item.
 const ONE: &str = "one item a call";
+
+/// Lists that write the same values, as WR items and as MW items of 64: what they write to, and their
+/// names. A row has the time for each value.
+const PAIRS: [(&str, &str, &str); 3] = [
+    ("clock", "WR x64 clock", "MW x64 clock"),
+    ("latch", "WR x64 latch", "MW x64 latch"),
+    ("line", "WR x64 line", "MW x64 line"),
+];
 
 /// Names the one list that this process is to run, and who runs it: what `bench --instructions` tells
 /// the processes that it counts.
@@ -87,6 +95,46 @@ fn list(records: usize, wait: u16, items: &[Item]) -> List {
     list
 }
 
+/// The same after an item that comes once.
+fn after(first: Item, records: usize, wait: u16, items: &[Item]) -> List {
+    let mut all = list(records.min(1), wait, &[first]);
+    all.push_raw(list(records.saturating_sub(1), wait, items).as_bytes());
+    all
+}
+
+/// So many values to one address after an item that comes once, as WR items and as MW items of 64. The
+/// first of 64 comes after 1 VIA tick, the others with no wait.
+fn pair(first: Item, records: usize, address: Address, values: &[u8]) -> [List; 2] {
+    let [mut single, mut many] = [(); 2].map(|()| list(records.min(1), 1, &[first]));
+    let values: Vec<u8> = values.iter().copied().cycle().take(records.saturating_sub(1)).collect();
+    for values in values.chunks(Values::MAX).filter_map(Values::new) {
+        let timed = Timed { wait: ViaTicks(1), item: Item::WriteMany(address, values) };
+        single.extend(timed.singles());
+        many.extend([timed]);
+    }
+    [single, many]
+}
+
+/// The lists of [`PAIRS`]: transactions that set cells, a latch, a disk line.
+fn pairs(records: usize) -> Vec<(&'static str, List)> {
+    let clock: Vec<u8> = (0..16)
+        .flat_map(|cell| written(cell, 0x5A ^ cell))
+        .filter_map(|item| match item {
+            Item::Write(Address::Via(Register::ORB), value) => Some(value),
+            _ => None,
+        })
+        .collect();
+    let any = [0x12, 0x34, 0x56];
+    let of = |address, values: &[u8]| pair(via(Register::DDRB, 7), records, address, values);
+    let lists = [
+        of(Address::Via(Register::ORB), &clock),
+        of(Address::Via(Register::T1LL), &any),
+        of(Address::Iwm(DiskLine::CA0, true), &any),
+    ];
+    let named = PAIRS.into_iter().zip(lists);
+    named.flat_map(|((_, wr, mw), [single, many])| [(wr, single), (mw, many)]).collect()
+}
+
 fn raw(records: usize, record: &[u8]) -> List {
     let mut list = List::new();
     (0..records).for_each(|_| {
@@ -127,6 +175,9 @@ fn kinds(records: usize) -> Vec<(&'static str, List)> {
         ("RS", of(&[Item::Reset])),
         ("PW", of(&[Item::Power(Seconds(5))])),
         ("DI", of(&[disk(true), disk(false)])),
+        ("KC", of(&[Item::Pulse(true)])),
+        ("KC in", after(via(Register::ACR, 0x0C), records, 1, &[Item::Pulse(true)])),
+        ("KC out", after(via(Register::ACR, 0x1C), records, 1, &[Item::Pulse(false)])),
         ("refused 2", raw(records, &[4, 0, b'X', b'X', 0, 0])),
         ("refused 3", raw(records, &[5, 0, b'S', b'E', 0, 0, 0])),
         ("refused 8", of(&[disk(false)])),
@@ -136,6 +187,7 @@ fn kinds(records: usize) -> Vec<(&'static str, List)> {
 /// What is run: every kind, then what shells do.
 fn lists(records: usize) -> Vec<(&'static str, List)> {
     let mut all = kinds(records);
+    all.extend(pairs(records));
     let writes: Vec<Item> = (0..16).flat_map(|cell| written(cell, 0x5A ^ cell)).collect();
     let reads: Vec<Item> = (0..16).flat_map(fetched).collect();
     let timers = [
@@ -234,6 +286,31 @@ fn summary(word: &str, digits: usize, ratios: &[(&str, f64)]) -> String {
     )
 }
 
+/// The library's quickest time for each list of [`PAIRS`], in seconds. The two of a pair take turns.
+fn paired(records: usize) -> Vec<(&'static str, f64)> {
+    let mut times = Vec::new();
+    for lists in pairs(records).as_chunks::<2>().0 {
+        let mut runs = lists.each_ref().map(|(name, list)| Run::new(name, list, records));
+        let mut quickest = [Duration::MAX; 2];
+        for _ in 0..ROUNDS {
+            for (run, quickest) in runs.iter_mut().zip(&mut quickest) {
+                *quickest = timed(|| run.library(Chip::First)).min(*quickest);
+            }
+        }
+        times.extend(lists.iter().zip(quickest).map(|(list, time)| (list.0, time.as_secs_f64())));
+    }
+    times
+}
+
+/// A line for scripts: of each pair, the library's figure for a value of an MW by that for its WR.
+fn by_value(figures: &[(&str, f64)]) -> String {
+    let of = |name: &str| figures.iter().find(|r| r.0 == name).map_or(f64::NAN, |r| r.1);
+    let ratios = PAIRS.map(|(what, wr, mw)| (what, of(mw) / of(wr)));
+    let worst = ratios.iter().map(|r| r.1).fold(f64::NAN, f64::max);
+    let shown = ratios.map(|(what, ratio)| format!("{what}={ratio:.2}"));
+    format!("values {} worst={worst:.2}\n", shown.join(" "))
+}
+
 /// Prints a row for each list, and the summary.
 pub fn bench(records: usize) -> Result<(), Failure> {
     if let Ok(only) = std::env::var(ONLY) {
@@ -266,6 +343,8 @@ pub fn bench(records: usize) -> Result<(), Failure> {
     }
     print("ratio: time of the library by time of the model; below 1 the library is quicker\n")?;
     print("256 cells by 20: time of the library with 256 cells by its time with 20\n")?;
+    print("x64: a record is a value; values: the library's time for a value of an MW by that for its WR\n")?;
+    print(&by_value(&paired(records)))?;
     print(&summary("cells", 3, &by_cells))?;
     print(&summary("summary", 2, &ratios))
 }
@@ -309,7 +388,7 @@ fn counted(side: &str, function: &str, name: &str, records: usize) -> Result<f64
 pub fn instructions(records: usize) -> Result<(), Failure> {
     print(&format!("{records} records a list, instructions a record\n"))?;
     print("list                 library       model   ratio  256 cells  256 cells by 20\n")?;
-    let (mut ratios, mut by_cells) = (Vec::new(), Vec::new());
+    let (mut ratios, mut by_cells, mut figures) = (Vec::new(), Vec::new(), Vec::new());
     for (name, _) in lists(1) {
         let library = counted("library", "swarmtempo_run", name, records)?;
         let model = counted("model", "*Run*model*", name, records)?;
@@ -320,7 +399,9 @@ pub fn instructions(records: usize) -> Result<(), Failure> {
         ))?;
         ratios.push((name, ratio));
         by_cells.push((name, by_first));
+        figures.push((name, library));
     }
+    print(&by_value(&figures))?;
     print(&summary("cells", 3, &by_cells))?;
     print(&summary("summary", 2, &ratios))
 }

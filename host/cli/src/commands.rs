@@ -1,5 +1,7 @@
 //! The commands and their words: what is parsed, and what help, the man page and the completions say.
 
+use super::{export, import, jobs, step};
+
 /// An option of a command.
 pub struct Flag {
     /// As `--save`, or `-o`.
@@ -65,7 +67,30 @@ const OUT: Flag = Flag {
     help: "writes to FILE, which appears whole or not at all (without it: standard output)",
 };
 
-const RUN: [Flag; 11] = [
+const FROM: Flag = Flag {
+    name: "--from",
+    value: "PLACE",
+    help: "shows what is there or after: item:N, offset:N (bytes), or a VIA tick as 12000t",
+};
+const TO: Flag = Flag {
+    name: "--to",
+    value: "PLACE",
+    help: "shows what is there or before: item:N, offset:N (bytes), or a VIA tick as 12000t",
+};
+const ONLY: Flag =
+    Flag { name: "--only", value: "PART", help: "shows what is about this: clock, via or disk" };
+const JSON: Flag = Flag {
+    name: "--json",
+    value: "",
+    help: "writes JSON, an object a line; docs/FORMATS.md has its names",
+};
+const CSV: Flag = Flag {
+    name: "--csv",
+    value: "",
+    help: "writes comma-separated values; docs/FORMATS.md has their names",
+};
+
+const RUN: [Flag; 19] = [
     Flag { name: "--text", value: "", help: "LIST is in the text form" },
     Flag { name: "--records", value: "", help: "LIST is records even where it looks like a text" },
     Flag {
@@ -87,12 +112,17 @@ const RUN: [Flag; 11] = [
     Flag {
         name: "--vcd",
         value: "FILE",
-        help: "writes wires, lines and drives over time as a Value Change Dump, for GTKWave",
+        help: "writes wires, lines and drives over time as a Value Change Dump, and a .gtkw beside it, for GTKWave",
     },
     Flag {
         name: "--room",
         value: "BYTES",
         help: "gives the answers so many bytes in all (without it: all they need)",
+    },
+    Flag {
+        name: "--plain",
+        value: "",
+        help: "tells the clock chip's command bytes by their bit patterns, not by the table: all comes out the same",
     },
     Flag { name: "--quiet", value: "", help: "no table, and no summary where nothing is refused" },
     Flag {
@@ -100,11 +130,18 @@ const RUN: [Flag; 11] = [
         value: "",
         help: "exits with the number of the first refusal, where any item is refused",
     },
+    jobs::JOBS,
     Flag {
         name: "--color",
         value: "WHEN",
         help: "always, never, or auto: on a terminal, unless NO_COLOR is set or TERM is dumb",
     },
+    FROM,
+    TO,
+    ONLY,
+    Flag { name: "--refused", value: "", help: "shows records that were refused, alone" },
+    JSON,
+    CSV,
 ];
 
 const SHEET_TEXT: Flag =
@@ -141,20 +178,91 @@ pub const GROUPS: [Group; 1] = [Group {
 }];
 
 /// All commands.
-pub const COMMANDS: [Command; 19] = [
+pub const COMMANDS: [Command; 27] = [
     Command {
         name: "run",
-        operand: "LIST",
+        operand: "LIST..",
         brief: "runs a list: a table of answers, and a summary",
         about: "Runs a list of items (records, or text with --text) on a fresh machine, or on the state of\n\
                 --image. A LIST of - is standard input. The table goes to standard output, the summary to\n\
                 standard error: items carried out, refusals by their numbers, the duration in VIA ticks and\n\
                 seconds, what changed in the clock chip. A list of any length runs in fixed memory. All\n\
                 files asked for are written, or none; a closed pipe (as by head) ends the table alone.\n\
+                What comes from a pipe is answered as it comes.\n\
+                --from, --to, --only and --refused choose rows of the table; all of the list is run.\n\
+                \n\
+                Many lists, or --jobs, run each from the same state, several at a time: a row for each, in the\n\
+                order in which they are named, and a summary; no files are written then.\n\
                 \n\
                 Exit status: 0 at the end of the list, 1 a record is cut, 6 no room for an answer, 7 the\n\
-                image is none of an accepted state; with --strict the number of the first refusal.",
+                image is none of an accepted state; with --strict the number of the first refusal. Of many\n\
+                lists that of the first one whose status is not 0; all of them are run.",
         flags: &RUN,
+    },
+    Command {
+        name: "decode",
+        operand: "CAPTURE",
+        brief: "the clock transactions of a capture, and what became of each",
+        about: "Runs a capture and shows each transaction with the clock chip, from a fall of enable to its next\n\
+                rise: VIA tick, seconds since the start and byte offset of its first item, what was asked, the\n\
+                byte, and its fate: written, kept out by protect, half sent (how many bits), illegal, or read.\n\
+                The byte of a read is what the program saw in port B; what the chip sent is told where that\n\
+                differs. Once all four seconds bytes are read, the date is shown. --from and --to choose\n\
+                transactions that are at least in part within the range, --refused those in which a record was\n\
+                refused.\n\
+                \n\
+                Exit status: 1 where a record is cut; what comes before it is shown.",
+        flags: &[
+            OUT,
+            JSON,
+            CSV,
+            FROM,
+            TO,
+            ONLY,
+            Flag {
+                name: "--refused",
+                value: "",
+                help: "shows transactions in which a record was refused, alone",
+            },
+            CAPTURE_TEXT,
+            CAPTURE_RECORDS,
+            CAPTURE_CELLS,
+            CAPTURE_IMAGE,
+        ],
+    },
+    Command {
+        name: "summary",
+        operand: "CAPTURE",
+        brief: "what a run of a capture comes to",
+        about: "Runs a capture and shows the summary that run shows, on standard output, and how many clock\n\
+                transactions were written, kept out by protect, half sent, illegal and read.\n\
+                \n\
+                Exit status: 1 where a record is cut; what comes before it is counted.",
+        flags: &[OUT, JSON, CSV, CAPTURE_TEXT, CAPTURE_RECORDS, CAPTURE_CELLS, CAPTURE_IMAGE],
+    },
+    Command {
+        name: "report",
+        operand: "CAPTURE",
+        brief: "a page with the waveform, the clock transactions and the refusals",
+        about: "Runs a capture and writes one page that opens in a browser from a disk: the waveform of the\n\
+                clock's wires and the disk lines, with zoom; the clock transactions; the refusals, what they\n\
+                mean and what to do; the state at the end. It can be printed in black and white. Of a long\n\
+                capture the page has the first 20,000 changes of the lines and 2,000 transactions, and says\n\
+                so; --from and --to choose a part.\n\
+                \n\
+                Exit status: 1 where a record is cut; the page has what comes before it.",
+        flags: &[OUT, FROM, TO, CAPTURE_TEXT, CAPTURE_RECORDS, CAPTURE_CELLS, CAPTURE_IMAGE],
+    },
+    Command {
+        name: "diff",
+        operand: "A B",
+        brief: "where two captures, or two images, differ",
+        about: "Runs two captures from one state, and shows the first record in which they differ, the first\n\
+                answer, the first item after which their states differ, and the states reached, field by field.\n\
+                Of two images it shows the fields that differ.\n\
+                \n\
+                Exit status: 0 where all answers and the states reached are the same, or both images; else 1.",
+        flags: &[CAPTURE_TEXT, CAPTURE_RECORDS, CAPTURE_CELLS, CAPTURE_IMAGE],
     },
     Command {
         name: "asm",
@@ -229,22 +337,46 @@ pub const COMMANDS: [Command; 19] = [
         operand: "CAPTURE..",
         brief: "what of a capture can touch the clock; whether two agree",
         about: "Shows the items of a capture that can touch the clock chip: those carried out that write VIA\n\
-                registers 0 (ORB) and 2 (DDRB), resets, every SE (one second), power cuts, each with its byte\n\
-                offset and the VIA ticks waited until it acts. Of two captures it says whether they agree in these\n\
-                items, and where they first part; two that agree leave the same cells, seconds, protect, test\n\
-                and half-made command, whatever their waits and other items are. Both begin on one state.\n\
+                registers 0 (ORB) and 2 (DDRB), an MW as its single writes, resets, every SE (one second), power\n\
+                cuts, each with its byte offset and the VIA ticks waited until it acts. Of two captures it says\n\
+                whether they agree in these items, and where they first part; two that agree leave the same cells,\n\
+                seconds, protect, test and half-made command, whatever their waits and other items are. Both\n\
+                begin on one state.\n\
                 \n\
                 Exit status: of one capture 1 where a record is cut; what comes before it is shown. Of two 0\n\
                 where they agree, 1 where they do not.",
         flags: &[CAPTURE_TEXT, CAPTURE_RECORDS, CAPTURE_CELLS, CAPTURE_IMAGE],
     },
+    step::COMMAND,
+    import::COMMAND,
+    export::COMMAND,
     Command {
         name: "image",
         operand: "FILE",
         brief: "a state image in words",
         about: "Shows the state in an image that run --save wrote, all cells of its clock chip too. An image of no accepted state is refused\n\
                 with the first field that is out of its range: its name, offset and value.",
-        flags: &[],
+        flags: &[JSON, CSV],
+    },
+    Command {
+        name: "clock",
+        operand: "IMAGE ASK..",
+        brief: "reads or writes the clock of a state image",
+        about: "Asks the clock chip of an image, by the transactions that a bench would run:\n\
+                \n  \
+                read CELL             shows a cell, 0 to 19 or 0 to 255\n  \
+                write CELL BYTE       writes one\n  \
+                seconds               shows the seconds, counted from 1 January 1904\n  \
+                set-seconds SECONDS   writes them\n  \
+                protect on, or off    sets or clears write-protect\n\
+                \n\
+                Numbers are decimal, or hexadecimal as $AA or 0xAA. What is written takes the place of IMAGE,\n\
+                whole or not at all; read and seconds leave it as it is. Beside what is asked for, a write changes\n\
+                nothing of the state but bits 0 to 2 of port B's outputs and directions.\n\
+                \n\
+                Exit status: 2 write-protect is set, 5 the chip has no such cell, 7 the image is none of an\n\
+                accepted state, 10 the clock's enable line is down; then nothing is written.",
+        flags: &[Flag { name: "--save", value: "FILE", help: "writes the image to FILE and leaves IMAGE as it is" }],
     },
     Command {
         name: "keyboard",
@@ -335,9 +467,10 @@ pub const COMMANDS: [Command; 19] = [
         operand: "",
         brief: "records a second, beside a plain model of the board",
         about: "Times lists on the library and on a plain model of the same board: each kind of item, refusals,\n\
-                transactions with the clock chip, long waits, a mix, and calls with one item; and on the library\n\
-                with 256 cells. The last lines are for scripts: the ratios of the mix, of the worst list, and of\n\
-                calls with one item.",
+                transactions with the clock chip, the same writes as WR and as MW of 64 values, long waits, a mix,\n\
+                and calls with one item; and on the library with 256 cells. The last lines are for scripts: the\n\
+                ratio of an MW's values to the same WR, and the ratios of the mix, of the worst list, and of calls\n\
+                with one item.",
         flags: &[
             Flag {
                 name: "--records",
@@ -387,7 +520,7 @@ pub const COMMANDS: [Command; 19] = [
 pub const TEXT_FORM: &str = "\
 12t WR VIA.ORB $41     0t RD $EFE1FE     12000us VB    0t SE     0t RS
 0t IN 3 1              0t SN internal 6 0              0t DI internal 1 0 1
-0t PW 5s               RAW 05 00                       ; comment
+0t MW VIA.ORB 0 2 4    0t KC 1           0t PW 5s      RAW 05 00     ; comment
 ";
 
 /// Units, in a sentence.
@@ -398,9 +531,11 @@ turned into VIA ticks and rounded up), a time off in s (seconds).";
 /// Statuses, in a sentence.
 pub const STATUSES: &str = "\
 Exit status of run: 0 at the end of the list, 1 a record is cut, 6 no room for an answer, 7 the image
-is none of an accepted state; with --strict the number of the first refusal. Of convert: 1 a
+is none of an accepted state; with --strict the number of the first refusal; of many lists that of
+the first one whose status is not 0. Of export and step: 1 a record is cut. Of convert: 1 a
 record is cut. Of cut and join: 1 a record is cut. Of touches: 1 two captures do not agree, or a
-record is cut. Of sheet: 1 a sheet is broken, 2 a setting is not set, 6 too little room. Of all commands: 64 wrong words, 65 an error in a
+record is cut. Of decode, report and summary: 1 a record is cut. Of diff: 1 there is a difference. Of clock: 2 write-protect is set, 5 no such
+cell, 10 enable is down. Of sheet: 1 a sheet is broken, 2 a setting is not set, 6 too little room. Of all commands: 64 wrong words, 65 an error in a
 text or a file of another kind, 74 a file cannot be read or written.";
 
 /// The group of a word.

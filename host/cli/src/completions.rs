@@ -25,9 +25,13 @@ enum Values {
 
 fn values(name: &str) -> Values {
     match name.trim_matches(['[', ']', '.']) {
-        "CAPTURE" | "EVENTS" | "FILE" | "LIST" | "OLD" | "SHEET" | "TEXT" => Values::Files,
+        "A B" | "CAPTURE" | "EVENTS" | "FILE" | "IMAGE ASK" | "LIST" | "OLD" | "SHEET" | "TEXT" => {
+            Values::Files
+        }
         "WHEN" => Values::Words(vec!["always", "never", "auto"]),
         "CELLS" => Values::Words(vec!["20", "256"]),
+        "UNIT" => Values::Words(vec!["s", "ms", "us", "ns", "ps", "fs"]),
+        "PART" => Values::Words(vec!["clock", "via", "disk"]),
         "SHELL" => Values::Words(SHELLS.to_vec()),
         "COMMAND" => Values::Words(names()),
         _ => Values::Nothing,

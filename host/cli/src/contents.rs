@@ -5,8 +5,10 @@ use super::place::Input;
 use std::io::{self, Cursor, Read};
 use swarmtempo::Chip;
 
-/// Bytes looked at.
-const SAMPLE_LEN: u64 = 4096;
+/// Bytes looked at, at most.
+const SAMPLE_LEN: usize = 4096;
+/// Bytes that are waited for: the length and the kind of a record.
+const SAMPLE_LEAST: usize = 4;
 
 /// What a file seems to hold.
 #[derive(Clone, Copy, Debug, PartialEq, Eq)]
@@ -39,11 +41,20 @@ pub fn looks(sample: &[u8]) -> Looks {
 /// A file whose first bytes were looked at.
 pub type Sampled = io::Chain<Cursor<Vec<u8>>, Box<dyn Read>>;
 
-/// Looks at the first bytes of a file, which are read again.
+/// Looks at the first bytes of a file, which are read again. Of a pipe it takes what has come, so
+/// that one that is fed now and then is not waited for.
 pub fn sample(input: &Input, mut file: Box<dyn Read>) -> Result<(Looks, Sampled), Failure> {
-    let mut first = Vec::new();
-    let read = (&mut file).take(SAMPLE_LEN).read_to_end(&mut first);
-    read.map_err(|error| failure(input, error))?;
+    let mut first = vec![0; SAMPLE_LEN];
+    let mut length = 0;
+    while length < SAMPLE_LEAST {
+        match file.read(&mut first[length..]) {
+            Ok(0) => break,
+            Ok(read) => length += read,
+            Err(error) if error.kind() == io::ErrorKind::Interrupted => {}
+            Err(error) => return Err(failure(input, error)),
+        }
+    }
+    first.truncate(length);
     Ok((looks(&first), Cursor::new(first).chain(file)))
 }
 

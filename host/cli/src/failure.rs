@@ -19,6 +19,8 @@ pub enum Failure {
     Cut(String, u64),
     /// An image that is none of an accepted state.
     State(String, String),
+    /// What is asked of an image's clock and not done: the image, why, and the status.
+    Clock(String, String, u8),
     /// An image that is none of an accepted keyboard.
     Keyboard(String),
     /// A sheet that is refused.
@@ -34,6 +36,7 @@ impl Failure {
             Failure::File(..) => 74,
             Failure::Cut(..) => 1,
             Failure::State(..) | Failure::Keyboard(_) => 7,
+            Failure::Clock(_, _, status) => *status,
             Failure::Sheet(_, refusal) => refusal.number(),
         }
     }
@@ -52,7 +55,9 @@ impl fmt::Display for Failure {
             Failure::Text(name, count) => {
                 write!(f, "{name}: {count} errors in the text; no file is written")
             }
-            Failure::Content(name, what) => write!(f, "{name}: {what}"),
+            Failure::Content(name, what) | Failure::Clock(name, what, _) => {
+                write!(f, "{name}: {what}")
+            }
             Failure::File(name, error) => write!(f, "{name}: {}", reason(error)),
             Failure::Cut(name, offset) => {
                 write!(f, "{name}: a record is cut at byte {offset}; no file is written")

@@ -57,6 +57,11 @@ impl Out {
         self.write_all(bytes).map_err(|error| failure(&self.name, error))
     }
 
+    /// What was written so far goes on its way.
+    pub fn show_now(&mut self) -> Result<(), Failure> {
+        self.flush().map_err(|error| failure(&self.name, error))
+    }
+
     fn settle(&mut self) -> Result<(), Failure> {
         let settled = match &mut self.to {
             To::Draft(draft) => draft.settle(),

@@ -6,10 +6,12 @@ use super::place::Input;
 use std::io::Read;
 use swarmtempo::{Chip, Command, DiskLine, Machine};
 
-/// Lengths of older layouts in bytes, and what they are without.
-const OLDER: [(usize, &str); 2] = [
-    (98, "without the drives, the strobe and IN lines 5 and 6"),
-    (121, "without IN lines 5 and 6"),
+/// Older layouts: the chip of their kind, their length in bytes, and what they are without.
+const OLDER: [(Chip, usize, &str); 4] = [
+    (Chip::First, 98, "without the drives, the strobe, IN lines 5 and 6 and the pulse count"),
+    (Chip::First, 121, "without IN lines 5 and 6 and the pulse count"),
+    (Chip::First, 123, "without the pulse count"),
+    (Chip::Later, 360, "without the pulse count"),
 ];
 /// VIA ticks of a step, and of a strobe where it stops growing.
 const STEP_TICKS: u32 = 9_401;
@@ -31,8 +33,11 @@ fn wrong(image: &[u8]) -> String {
     let length = Chip::First.image_len();
     let kind = Chip::of_image(image);
     let head = image.first_chunk::<2>().map(|&head| usize::from(u16::from_le_bytes(head)));
-    let older = OLDER.iter().find(|(old, _)| image.len() == *old && head == Some(old - 2));
-    if let Some((old, without)) = older.filter(|_| image[2..4] == *b"ST") {
+    let older = OLDER
+        .iter()
+        .find(|(chip, old, _)| kind == Some(*chip) && image.len() == *old && head == Some(old - 2));
+    if let Some((chip, old, without)) = older {
+        let length = chip.image_len();
         format!("it is an image of an older layout, {old} bytes, {without}; it has to be {length} bytes")
     } else if looks(image) == Looks::Text {
         "it is a text".to_string()
@@ -144,6 +149,7 @@ impl Fields<'_> {
         self.any(3);
         self.field("the VIA's flags", 1, "0 to 127", |value| value < 128);
         self.field("the VIA's enables", 1, "0 to 127", |value| value < 128);
+        self.field("the pulse count of the shift register", 1, "0 to 7", |value| value < 8);
         out & 4 != 0 || directions & 4 == 0
     }
 
@@ -273,6 +279,7 @@ mod tests {
             include_str!("../../captures/cell.txt"),
             include_str!("../../captures/far.txt"),
             include_str!("../../captures/seek.txt"),
+            include_str!("../../captures/many.txt"),
         ];
         for (text, chip) in texts.iter().flat_map(|text| Chip::BOTH.map(|chip| (text, chip))) {
             let lines: Vec<&str> = text.lines().collect();
@@ -287,9 +294,9 @@ mod tests {
 
     fn every_byte(image: &[u8]) {
         assert_eq!(first_wrong(image), None);
-        let ends = [0, 1, 2, 8, 9, 36, 37, 79, 80, 83, 84, 121, 127, 128, 185, 186, 255];
+        let ends = [0, 1, 2, 7, 8, 9, 36, 37, 79, 80, 83, 84, 121, 127, 128, 185, 186, 255];
         for offset in 0..image.len() {
-            let in_phase = (23..27).contains(&offset) || offset == 359;
+            let in_phase = (24..28).contains(&offset) || offset == 360;
             for value in (0..=255).filter(|value| in_phase || ends.contains(value)) {
                 let mut changed = image.to_vec();
                 changed[offset] = value;
@@ -304,14 +311,15 @@ mod tests {
     fn a_wrong_field_has_name_offset_and_value() {
         let image = Machine::fresh(Chip::First).image().to_vec();
         for (offset, value, words) in [
-            (0, 120, "the length of what follows, at offset 0, is 120 ($0078); accepted is 121"),
+            (0, 121, "the length of what follows, at offset 0, is 121 ($0079); accepted is 122"),
             (3, 88, "the kind, at offset 2, is 22611 ($5853); accepted is ST (83, 84)"),
             (12, 2, "T1 armed, at offset 12, is 2 ($02); accepted is 0 or 1"),
-            (23, 1, "the clock's phase, at offset 23, is 1 ($01); accepted is 0 while enable is 1"),
-            (100, 80, "the track of the internal drive, at offset 100, is 80 ($50)"),
-            (112, 1, "the disk's lock of the external drive, at offset 112, is 1 ($01)"),
-            (118, 1, "the time of the strobe, at offset 118, is 1 ($00000001)"),
-            (122, 1, "the strobe's steadiness, at offset 122, is 1 ($01)"),
+            (23, 8, "the pulse count of the shift register, at offset 23, is 8 ($08); accepted is 0 to 7"),
+            (24, 1, "the clock's phase, at offset 24, is 1 ($01); accepted is 0 while enable is 1"),
+            (101, 80, "the track of the internal drive, at offset 101, is 80 ($50)"),
+            (113, 1, "the disk's lock of the external drive, at offset 113, is 1 ($01)"),
+            (119, 1, "the time of the strobe, at offset 119, is 1 ($00000001)"),
+            (123, 1, "the strobe's steadiness, at offset 123, is 1 ($01)"),
         ] {
             let mut changed = image.clone();
             changed[offset] = value;
@@ -319,20 +327,26 @@ mod tests {
             assert!(wrong.starts_with(words), "{wrong}");
         }
         let mut later = Machine::fresh(Chip::Later).image().to_vec();
-        later[359] = 4;
-        let words = "the clock's second command byte, at offset 359, is 4 ($04); accepted is 0 in";
+        later[360] = 4;
+        let words = "the clock's second command byte, at offset 360, is 4 ($04); accepted is 0 in";
         assert!(first_wrong(&later).expect("refused").starts_with(words));
     }
 
     #[test]
     fn older_layouts_are_named() {
-        for old in [98u8, 121] {
-            let mut image = vec![0; old.into()];
-            image[..4].copy_from_slice(&[old - 2, 0, b'S', b'T']);
-            assert!(wrong(&image)
-                .starts_with(&format!("it is an image of an older layout, {old} bytes")));
-            image[0] = 1;
-            let said = format!("it has {old} bytes, an image of its kind, with 20 cells, has 123");
+        for (chip, old, without) in OLDER {
+            let mut image = vec![0; old];
+            image[..2].copy_from_slice(&u16::try_from(old - 2).expect("short").to_le_bytes());
+            image[2..4].copy_from_slice(&chip.kind());
+            let (length, cells) = (chip.image_len(), chip.cells());
+            let said = format!(
+                "it is an image of an older layout, {old} bytes, {without}; it has to be {length} bytes"
+            );
+            assert_eq!(wrong(&image), said);
+            image[0] ^= 1;
+            let said = format!(
+                "it has {old} bytes, an image of its kind, with {cells} cells, has {length}"
+            );
             assert_eq!(wrong(&image), said);
         }
     }
@@ -342,11 +356,11 @@ mod tests {
         let [first, later] = Chip::BOTH.map(|chip| Machine::fresh(chip).image().to_vec());
         let as_later = [&first[..3], b"X", &first[4..]].concat();
         for (image, said) in [
-            (&later[..359], "it has 359 bytes, an image of its kind, with 256 cells, has 360"),
-            (&as_later[..], "it has 123 bytes, an image of its kind, with 256 cells, has 360"),
-            (&[0; 361], "it has more than 360 bytes, an image has 123 or 360"),
-            (&[0, 1, 2], "it has 3 bytes, an image has 123 or 360"),
-            (&[0; 360], "the length of what follows, at offset 0, is 0 ($0000); accepted is 358"),
+            (&later[..360], "it has 360 bytes, an image of its kind, with 256 cells, has 361"),
+            (&as_later[..], "it has 124 bytes, an image of its kind, with 256 cells, has 361"),
+            (&[0; 362], "it has more than 361 bytes, an image has 124 or 361"),
+            (&[0, 1, 2], "it has 3 bytes, an image has 124 or 361"),
+            (&[0; 361], "the length of what follows, at offset 0, is 0 ($0000); accepted is 359"),
         ] {
             assert_eq!(wrong(image), said);
         }

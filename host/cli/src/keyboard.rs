@@ -214,7 +214,7 @@ fn words(line: &str) -> impl Iterator<Item = (usize, &str)> {
 }
 
 /// Decimal, or hexadecimal after `$` or `0x`.
-fn number(word: &str) -> Option<u64> {
+pub fn number(word: &str) -> Option<u64> {
     let hexadecimal = word.strip_prefix('$').or_else(|| word.strip_prefix("0x"));
     let (digits, radix) = hexadecimal.map_or((word, 10), |digits| (digits, 16));
     if !digits.starts_with(|c: char| c.is_ascii_hexdigit()) {

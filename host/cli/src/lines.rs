@@ -32,6 +32,8 @@ pub struct Lines {
     made: u64,
     converted: Conversions,
     errors: usize,
+    /// What has come is given at once.
+    live: bool,
 }
 
 /// Waits that were written in microseconds.
@@ -93,7 +95,18 @@ impl Lines {
             made: 0,
             converted: Conversions::default(),
             errors: 0,
+            live: false,
         })
+    }
+
+    /// From now on lines are given as they come, and no more are waited for.
+    pub fn go_live(&mut self) {
+        self.live = true;
+    }
+
+    /// True where the next line would have to be waited for.
+    fn would_wait(&self) -> bool {
+        !self.source.buffer().iter().any(|byte| b"\n\r".contains(byte))
     }
 
     /// The waits in microseconds so far.
@@ -212,7 +225,7 @@ impl Read for Lines {
                 buffer[filled..filled + count].copy_from_slice(&left[..count]);
                 filled += count;
                 self.given += count;
-            } else if !self.take_line()? {
+            } else if self.live && filled > 0 && self.would_wait() || !self.take_line()? {
                 break;
             }
         }

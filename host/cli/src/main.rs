@@ -2,32 +2,46 @@
 
 mod assemble;
 mod bench;
+mod clock;
 mod commands;
 mod completions;
 mod conflicts;
 mod contents;
 mod convert;
 mod cut;
+mod decode;
+mod diff;
 mod draft;
+mod export;
 mod failure;
+mod fields;
 mod files;
+mod filter;
+mod gtkw;
 mod help;
 mod image;
+mod import;
+mod jobs;
 mod keyboard;
 mod lines;
 mod manual;
 mod numbers;
 mod place;
 mod progress;
+mod report;
 mod request;
 mod run;
 mod sheet;
 mod source;
+mod states;
+mod step;
 mod style;
+mod summarize;
 mod summary;
 mod sys;
 mod touches;
 mod tour;
+mod walk;
 mod words;
 
 use commands::{COMMANDS, GROUPS};
@@ -101,18 +115,34 @@ fn command(mut words: Vec<OsString>) -> Result<u8, Failure> {
 
 fn act(command: &str, given: &Given) -> Result<u8, Failure> {
     match command {
+        "run" if jobs::asked(given) => jobs::run(given),
         "run" => run::run(&request::Options::of(given)?),
+        "decode" => decode::decode(given),
+        "summary" => summarize::summary(given),
+        "report" => report::report(given),
+        "diff" => diff::diff(given),
         "asm" => assemble::asm(given),
         "disasm" => assemble::disasm(given),
         "convert" => convert::convert(given),
         "cut" => cut::cut(given),
         "join" => cut::join(given),
         "touches" => touches::touches(given),
+        "import" => import::import(given),
+        "export" => export::export(given),
+        "step" => step::step(given),
         "image" => {
             let input = Input::of(given.need()?);
+            let rows = fields::Rows::of("image", given)?;
             let machine = image::read(&input, source::open(&input)?)?;
-            print(&describe::image(&machine)).map(|()| 0)
+            let mut text = String::new();
+            match rows {
+                fields::Rows::Words => text = describe::image(&machine),
+                fields::Rows::Json => states::fields(&machine).json(&mut text),
+                fields::Rows::Csv => states::fields(&machine).csv_pairs(&mut text),
+            }
+            print(&text).map(|()| 0)
         }
+        "clock" => clock::clock(given),
         "keyboard" => keyboard::keyboard(given),
         "sheet get" => sheet::get(given),
         "sheet list" => sheet::list(given),

@@ -2,6 +2,9 @@
 
 use super::conflicts::Uses;
 use super::failure::Failure;
+use super::fields::Rows;
+use super::filter::Filter;
+use super::gtkw;
 use super::place::{Input, Output};
 use super::style::When;
 use super::words::Given;
@@ -41,6 +44,8 @@ pub struct Options {
     pub quiet: bool,
     /// A refusal is a status.
     pub strict: bool,
+    /// By the plain engine.
+    pub plain: bool,
     /// Whether there are colours.
     pub colour: When,
     /// The clock chip of a fresh machine.
@@ -55,6 +60,10 @@ pub struct Options {
     pub vcd: Option<Output>,
     /// Answer bytes in all.
     pub room: Option<u64>,
+    /// How the rows of the table are written.
+    pub rows: Rows,
+    /// Which of them are shown.
+    pub filter: Filter,
     /// The list.
     pub list: Input,
 }
@@ -68,6 +77,7 @@ impl Options {
             form: Form::of("run", given)?,
             quiet: given.flag("--quiet"),
             strict: given.flag("--strict"),
+            plain: given.flag("--plain"),
             colour: colour
                 .ok_or_else(|| Failure::usage("run", "--color needs always, never or auto"))?,
             chip: chip("run", given)?,
@@ -76,15 +86,22 @@ impl Options {
             answers: output("--answers"),
             vcd: output("--vcd"),
             room: given.number("--room")?,
+            rows: Rows::of("run", given)?,
+            filter: Filter::of("run", given)?,
             list: Input::of(given.need()?),
         };
+        if !options.table() && (options.rows != Rows::Words || options.filter.some()) {
+            let what = "--json, --csv, --from, --to, --only and --refused are about rows, which \
+                        --quiet leaves out, and --answers unless there is --json or --csv";
+            return Err(Failure::usage("run", what));
+        }
         options.uses().check()?;
         Ok(options)
     }
 
     /// True where a table is shown.
     pub fn table(&self) -> bool {
-        self.answers.is_none() && !self.quiet
+        (self.answers.is_none() || self.rows != Rows::Words) && !self.quiet
     }
 
     /// What is read, and what is written.
@@ -103,6 +120,9 @@ impl Options {
             if let Some(output) = output {
                 uses.writes(word, output);
             }
+        }
+        if let Some(beside) = self.vcd.as_ref().and_then(gtkw::beside) {
+            uses.writes("the .gtkw beside --vcd", &beside);
         }
         uses
     }

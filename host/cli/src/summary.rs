@@ -1,13 +1,15 @@
 //! What a run came to, for people.
 
+use super::fields::{Fields, Value};
 use super::lines::Conversions;
 use super::numbers::{counted, grouped, ticks_and_seconds};
 use super::style::Style;
+use super::walk::Step;
 use swarmtempo::describe::date;
 use swarmtempo::{Piece, Refusal, State, ANSWER_LEN};
 
-/// Refusals have the numbers 1 to 8.
-const NUMBERS: usize = 9;
+/// Refusals have numbers below this.
+const NUMBERS: usize = 16;
 /// Of the cells changed, so many are named; run --save and image show all.
 const CELLS_SHOWN: usize = 20;
 
@@ -82,6 +84,14 @@ impl Summary {
         }
     }
 
+    /// A record, its answer and the line of its text.
+    pub fn note_at(&mut self, step: &Step<'_>) {
+        self.note(step.piece, *step.answer, step.at.offset);
+        if step.answer[2..4] != *b"OK" {
+            self.find_lines(|offset| (offset == step.at.offset).then_some(step.at.line).flatten());
+        }
+    }
+
     /// The times of a record that was carried out.
     fn passed(&mut self, record: &[u8]) {
         if let Some(&[_, _, kind, letter, low, high]) = record.first_chunk::<6>() {
@@ -136,6 +146,39 @@ impl Summary {
         self.microseconds(&mut out);
         self.clock(end.state, &mut out);
         out
+    }
+
+    /// The summary as named values.
+    pub fn fields(&self, end: &End<'_>) -> Fields {
+        let mut fields = Fields::default();
+        let why = end.stop.map_or("end of the list".to_string(), |stop| stop.to_string());
+        fields.put("stop", u64::from(end.stop.map_or(0, Refusal::number))).put("stop_words", why);
+        fields.put("answers", end.written / ANSWER_LEN as u64);
+        fields.put("consumed_bytes", end.consumed).put("written_bytes", end.written);
+        fields.put("carried_out", self.carried_out).put("refused", self.refused_in_all());
+        for refusal in Refusal::ALL {
+            let refused = &self.refused[usize::from(refusal.number())];
+            let of = |what: &str| format!("refused_{}{what}", refusal.number());
+            let first = (refused.count > 0).then_some(refused);
+            fields.put(of(""), refused.count);
+            fields.put(of("_first_item"), first.map(|first| first.item));
+            fields.put(of("_first_offset"), first.map(|first| first.offset));
+            fields.put(of("_first_line"), first.and_then(|first| first.line));
+        }
+        fields.put("duration_via_ticks", self.ticks);
+        fields.put("duration_seconds", Value::Decimal(super::fields::seconds(self.ticks)));
+        fields.put("power_off_seconds", self.seconds_off);
+        fields.put("waits_in_microseconds", self.converted.count);
+        for (when, state) in [("before", &self.before), ("after", end.state)] {
+            let of = |what: &str| format!("{what}_{when}");
+            fields.put(of("clock_seconds"), u64::from(state.seconds.0));
+            fields.put(of("date"), date(state.seconds.0));
+            fields.put(of("protect"), state.protect).put(of("test"), state.test);
+        }
+        let cells = self.before.cells.iter().zip(&end.state.cells).enumerate();
+        let changed = cells.filter(|(_, (before, after))| before != after);
+        fields.put("cells_changed", Value::all(changed.map(|(cell, _)| cell as u64)));
+        fields
     }
 
     fn refusals(&self, style: Style, out: &mut String) {

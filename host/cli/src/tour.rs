@@ -160,6 +160,8 @@ fn next() -> String {
         ("run --text first.txt", "runs it: a row for each item, a summary"),
         ("run --text first.txt --save end.st", "and keeps the state reached"),
         ("image end.st", "shows that state in words"),
+        ("decode --text first.txt", "what the clock chip was asked, and what became of it"),
+        ("report --text first.txt -o first.html", "a page of it, with the waveform"),
         ("run --text first.txt --quiet --vcd first.vcd", "draws the wires, for GTKWave"),
         ("help", "all commands and the text form"),
     ] {

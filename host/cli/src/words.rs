@@ -107,7 +107,7 @@ impl Given {
         match self.operands.get(most) {
             Some(extra) => self.wrong(&format!("`{}` is too much", shown(extra))),
             None if self.operands.is_empty() => {
-                self.wrong(&format!("{} is missing", self.command.operand))
+                self.wrong(&format!("{} is missing", self.command.operand.trim_end_matches('.')))
             }
             None => Ok(&self.operands),
         }
@@ -131,7 +131,9 @@ impl Given {
     pub fn need(&self) -> Result<OsString, Failure> {
         match self.operand()? {
             Some(operand) => Ok(operand),
-            None => self.wrong(&format!("{} is missing", self.command.operand)),
+            None => {
+                self.wrong(&format!("{} is missing", self.command.operand.trim_end_matches('.')))
+            }
         }
     }
 }

@@ -45,6 +45,28 @@ fn the_chip_is_chosen_at_the_start() {
     }
 }
 
+/// Every first byte, with a second one and data: a run by the patterns shows and leaves what one by the
+/// table does.
+#[test]
+fn the_plain_engine_does_the_same() {
+    let folder = Folder::new("plain");
+    let mut list = List::default();
+    for first in 0..=255 {
+        sent(&mut list, &[first, 0x2C, first ^ 0x5A]);
+    }
+    for cells in ["20", "256"] {
+        let runs = [&["--plain"][..], &[]].map(|words| {
+            let save = folder.path("end");
+            let common = ["run", "-", "--records", "--cells", cells, "--save", &save];
+            let output = program(&[&common[..], words].concat(), list.as_ref());
+            assert_eq!(status(&output), 0, "{}", stderr(&output));
+            (output.stdout, output.stderr, folder.get("end"))
+        });
+        assert_eq!(runs[0], runs[1], "{cells} cells");
+        assert!(String::from_utf8_lossy(&runs[0].1).contains("  cells changed cell "));
+    }
+}
+
 #[test]
 fn words_for_cells() {
     let folder = Folder::new("cells-words");
@@ -76,7 +98,7 @@ fn all_cells_in_words() {
     let said = stderr(&program(&words, b""));
     assert!(said.contains("cell 19: $00 before, $EC after; and 235 more\n"), "{said}");
     let words = stdout(&program(&["image", &save], b""));
-    assert!(words.starts_with("State image of kind SX, 360 bytes\n"), "{words}");
+    assert!(words.starts_with("State image of kind SX, 361 bytes\n"), "{words}");
     let at = words.find("  256 cells       0  1  2").expect("a heading");
     let rows: Vec<&str> = words[at..].lines().skip(1).take(16).collect();
     assert_eq!(rows[0], "            $00: FF FE FD FC FB FA F9 F8 F7 F6 F5 F4 F3 F2 F1 F0");

@@ -80,7 +80,7 @@ fn exit_statuses() {
     let folder = Folder::new("status");
     let list = folder.put("list", transaction().as_bytes());
     let cut = folder.put("cut", &transaction().as_bytes()[..30]);
-    let bad = folder.put("bad", &[0; 123]);
+    let bad = folder.put("bad", &[0; 124]);
     for (words, expected) in [
         (&["run", &list][..], 0),
         (&["run", &cut], 1),
@@ -88,7 +88,9 @@ fn exit_statuses() {
         (&["run", &list, "--image", &bad], 7),
         (&["image", &bad], 7),
         (&["run"], 64),
-        (&["run", &list, &list], 64),
+        (&["run", &list, &list], 0),
+        (&["run", &list, &cut, &bad], 1),
+        (&["disasm", &list, &list], 64),
         (&["run", &list, "--rom", "5"], 64),
         (&["run", &list, "--room", "x"], 64),
         (&["run", &list, "--save"], 64),
@@ -182,7 +184,8 @@ fn table_for_people() {
     let rows: Vec<&str> = table.lines().collect();
     assert_eq!(rows.len(), 6);
     let words = |row: &str| row.split_whitespace().map(String::from).collect::<Vec<_>>();
-    assert_eq!(words(rows[3]), ["3", "12", "0t", "RD", "VIA.IFR", "$81", "1", "1", "-"]);
+    // Item, byte offset, line, VIA ticks, the record and its answer.
+    assert_eq!(words(rows[3]), ["3", "17", "3", "12", "0t", "RD", "VIA.IFR", "$81", "1", "1", "-"]);
     assert!(rows[4].ends_with("NO 3: length wrong for the kind"));
     assert!(rows[5].ends_with("Q6"));
 }
@@ -482,4 +485,68 @@ fn bench_has_a_row_for_each_list() {
     let output = program(&["bench", "--records", "1000"], b"");
     assert_eq!(status(&output), 0, "{}", stderr(&output));
     assert!(stdout(&output).lines().count() >= 8);
+    for row in
+        ["KC in ", "KC out ", "WR x64 clock ", "MW x64 clock ", "MW x64 latch ", "MW x64 line "]
+    {
+        assert!(stdout(&output).lines().any(|line| line.starts_with(row)), "{row}");
+    }
+    let said = stdout(&output);
+    let values = said.lines().find_map(|line| line.strip_prefix("values ")).expect("a line");
+    let ratios: Vec<(&str, f64)> = values
+        .split(' ')
+        .filter_map(|word| word.split_once('='))
+        .map(|(name, ratio)| (name, ratio.parse().expect("a number")))
+        .collect();
+    assert_eq!(
+        ratios.iter().map(|it| it.0).collect::<Vec<_>>(),
+        ["clock", "latch", "line", "worst"]
+    );
+    assert!(ratios.iter().all(|it| it.1 > 0.0 && it.1 <= ratios[3].1), "{values}");
+    // The fewest records.
+    assert_eq!(status(&program(&["bench", "--records", "1"], b"")), 0);
+}
+
+const MANY: &str = include_str!("../../captures/many.txt");
+
+/// A transaction in one item, and bytes shifted by the keyboard's clock.
+#[test]
+fn many_writes_and_pulses() {
+    let folder = Folder::new("many");
+    let list = folder.put("many.txt", MANY.as_bytes());
+    let (save, vcd) = (folder.path("end"), folder.path("vcd"));
+    let output = program(&["run", "--text", &list, "--save", &save, "--vcd", &vcd], b"");
+    assert_eq!(status(&output), 0, "{}", stderr(&output));
+    let table = stdout(&output);
+    let rows: Vec<Vec<&str>> =
+        table.lines().skip(1).map(|row| row.split_whitespace().collect()).collect();
+    // Item, byte offset, line of the text, VIA ticks, record.
+    assert_eq!(rows[2][..8], ["3", "22", "8", "4", "4t", "MW", "VIA.ORB", "$00"]);
+    assert_eq!(rows[2][8..], ["..", "(34)", "-", "0", "1", "-"]);
+    assert_eq!(rows[7][..9], ["8", "127", "14", "12", "2t", "MW", "VIA.ORB", "$02", "$00"]);
+    let value = |kind: &str| -> Vec<u8> {
+        let values = rows.iter().filter(|row| row[5] == kind).map(|row| &row[row.len() - 4][1..]);
+        values.map(|value| u8::from_str_radix(value, 16).expect("a value")).collect()
+    };
+    let byte = |bits: &[u8]| bits.iter().fold(0u8, |byte, bit| byte << 1 | bit & 1);
+    assert_eq!(byte(&value("RD")[..8]), 0xAA, "cell 0 read back");
+    assert_eq!(byte(&value("KC")[..8]), 0xB2, "shifted out");
+    assert_eq!(value("KC")[8..], [0; 8], "shifted in");
+    assert_eq!(value("RD")[8..], [0xB2, 0x84, 0x7B]);
+    assert!(stderr(&output).contains("cell 0: $00 before, $AA after"), "{}", stderr(&output));
+    let said = stdout(&program(&["image", &save], b""));
+    assert!(said.contains("shift     in by the keyboard's clock, 0 of 8 pulses counted"), "{said}");
+    // The dump shows every bit of the transaction.
+    let dump = String::from_utf8(folder.get("vcd")).expect("UTF-8");
+    assert!(dump.contains("swrite_cell_0_=_$AA $\n") && dump.contains("sread_cell_0_=_$AA $\n"));
+    let points = dump.lines().filter(|line| line.starts_with('#')).count();
+    let writes = MANY.lines().filter_map(|line| line.split_once(" MW VIA.ORB "));
+    let values =
+        writes.map(|(_, rest)| rest.split(';').next().unwrap_or("").split('$').count() - 1);
+    let items = rows.len() + values.map(|count| count - 1).sum::<usize>();
+    assert_eq!(points, 1 + items + 1, "the start, a point for each value and item, the end");
+    // Text and back.
+    let bytes = program(&["asm", &list], b"").stdout;
+    let text = stdout(&program(&["disasm", "-"], &bytes));
+    assert_eq!(program(&["asm", "-"], text.as_bytes()).stdout, bytes);
+    assert!(text.contains("\n2t MW VIA.ORB $02 $04\n") && text.contains("\n258t KC 1\n"), "{text}");
 }

@@ -12,7 +12,6 @@ use std::os::unix::ffi::OsStrExt;
 use std::os::unix::fs::{symlink, MetadataExt, PermissionsExt};
 use std::os::unix::process::ExitStatusExt;
 use std::process::{Command, Stdio};
-use std::time::{Duration, Instant};
 use swarmtempo::Machine;
 
 /// The image after so many seconds.
@@ -278,11 +277,12 @@ fn synced_before_it_takes_its_place() {
     let calls = String::from_utf8(folder.get("calls")).expect("UTF-8");
     let at = |part: &str| calls.lines().position(|line| line.contains(part)).expect(part);
     let syncs = calls.lines().take(at("rename")).filter(|line| line.contains("sync(")).count();
-    assert_eq!(syncs, 2, "{calls}");
+    assert_eq!(syncs, 3, "{calls}");
 }
 
-/// A signal while finished files take their places: all of them do, and then it acts. The system's
-/// calls are slowed down for that, where they can be.
+/// A signal while finished files take their places: all of them do, and then it acts. It comes with the
+/// call that places the first file, the second or the third, where calls can be watched: at no time of
+/// the clock, so that a slow machine changes nothing.
 #[test]
 fn a_signal_while_files_take_their_places() {
     let folder = Folder::new("placing");
@@ -291,25 +291,18 @@ fn a_signal_while_files_take_their_places() {
         return;
     }
     let calls = "rename,renameat,renameat2";
-    let mut command = Command::new("strace");
-    command.args(["-f", "-o", "/dev/null", "-e", &format!("trace={calls}")]);
-    command.args(["-e", &format!("inject={calls}:delay_enter=1500000:when=1")]);
-    command.args([PROGRAM, "run", "x", "--quiet", "--save", "a.st", "--vcd", "b.vcd"]);
-    let mut child = command.current_dir(&folder.0).spawn().expect("started");
-    let hidden = || {
-        folder.names().into_iter().filter_map(|name| {
-            let number = name.strip_prefix(".swarmtempo-")?.split('-').next()?.to_string();
-            Some(number)
-        })
-    };
-    let start = Instant::now();
-    while hidden().count() < 2 && start.elapsed() < Duration::from_secs(20) {
-        std::thread::sleep(Duration::from_millis(5));
+    for place in 1..=3 {
+        let mut command = Command::new("strace");
+        command.args(["-f", "-o", "/dev/null", "-e", &format!("trace={calls}")]);
+        command.args(["-e", &format!("inject={calls}:signal=TERM:when={place}")]);
+        command.args([PROGRAM, "run", "x", "--quiet", "--save", "a.st", "--vcd", "b.vcd"]);
+        let output = feed(command.current_dir(&folder.0), b"");
+        let signal = output.status.signal();
+        assert_eq!(signal, Some(15), "it acts in the end: {place}, {}", stderr(&output));
+        assert_eq!(folder.names(), ["a.st", "b.gtkw", "b.vcd", "x"], "{place}");
+        assert_eq!(seconds_of(&folder.get("a.st")), 1);
+        for name in ["a.st", "b.gtkw", "b.vcd"] {
+            fs::remove_file(folder.path(name)).expect("removed");
+        }
     }
-    let number = hidden().next().expect("its process");
-    let sent = Command::new("sh").args(["-c", "kill -s TERM $0", &number]).status();
-    assert!(sent.expect("sent").success());
-    let ended = child.wait().expect("ended");
-    assert!(!ended.success(), "the signal acts in the end: {ended}");
-    assert_eq!(folder.names(), ["a.st", "b.vcd", "x"]);
 }

@@ -8,15 +8,23 @@ use std::process::Command;
 use swarmtempo::text::assemble;
 use swarmtempo::{Chip, Machine, CHUNK_LEN};
 
-const COMMANDS: [&str; 19] = [
+const COMMANDS: [&str; 27] = [
     "run",
+    "decode",
+    "summary",
+    "report",
+    "diff",
     "asm",
     "disasm",
     "convert",
     "cut",
     "join",
     "touches",
+    "step",
+    "import",
+    "export",
     "image",
+    "clock",
     "keyboard",
     "sheet get",
     "sheet list",
@@ -127,8 +135,8 @@ fn options_in_their_forms() {
         (&["run", "x", "--quiet=1"], "--quiet takes no value"),
         (&["run", "x", "--quiet", "--quiet"], "--quiet is given twice"),
         (&["run", "x", "--room", "1t"], "--room needs a number, not `1t`"),
-        (&["run", "x", "y"], "`y` is too much"),
-        (&["run", "--", "x", "--quiet"], "`--quiet` is too much"),
+        (&["disasm", "x", "y"], "`y` is too much"),
+        (&["disasm", "--", "x", "--quiet"], "`--quiet` is too much"),
         (&["run", "x", "--text", "--records"], "--text and --records"),
         (&["run", "x", "--color=red"], "--color needs always, never or auto"),
         (&["run"], "LIST is missing"),
@@ -300,8 +308,11 @@ fn microseconds_are_shown_as_ticks() {
                  the first, line 2: 12,000 microseconds are 9,401 VIA ticks\n";
     assert!(stderr(&output).contains(words), "{}", stderr(&output));
     let table = stdout(&output);
-    for row in ["1           9401  9401t SE", "2           9411  10t SE", "3           9412  1t SE"]
-    {
+    for row in [
+        "       1           0       2           9401  9401t SE",
+        "       2           6       3           9411  10t SE",
+        "       3          12       4           9412  1t SE",
+    ] {
         assert!(table.contains(row), "{table}");
     }
     assert!(table.lines().next().expect("a heading").contains("VIA ticks"));
@@ -354,14 +365,14 @@ fn files_of_another_kind_are_named() {
 fn a_bad_image_has_a_field() {
     let folder = Folder::new("field");
     let mut image = Machine::fresh(Chip::First).image().to_vec();
-    image[100] = 80;
+    image[101] = 80;
     let bad = folder.put("bad.st", &image);
     let old = folder.put("old.st", &[&[96, 0, b'S', b'T'][..], &[0; 94]].concat());
     let list = folder.put("list", &SECOND);
     for output in [program(&["image", &bad], b""), program(&["run", &list, "--image", &bad], b"")] {
         assert_eq!(status(&output), 7);
         let said = "bad.st: not the image of an accepted state: the track of the internal drive, \
-                    at offset 100, is 80 ($50); accepted is 0 to 79 (refusal 7)\n";
+                    at offset 101, is 80 ($50); accepted is 0 to 79 (refusal 7)\n";
         assert!(stderr(&output).contains(said), "{}", stderr(&output));
     }
     let output = program(&["image", &old], b"");
@@ -387,13 +398,14 @@ fn the_first_list_and_what_it_names() {
     }
     let (_, next) = tour.split_once("\nNext:\n").expect("what comes next");
     let commands: Vec<&str> = next.lines().filter_map(|line| line.split("  ").nth(1)).collect();
-    assert_eq!(commands.len(), 6, "{next}");
+    assert_eq!(commands.len(), 8, "{next}");
     for command in commands {
         let script = command.replacen("swarmtempo", "\"$0\"", 1);
         let output = shell(&folder, &script, &[], b"");
         assert_eq!(status(&output), 0, "{command}: {}", stderr(&output));
     }
-    assert_eq!(folder.names(), ["end.st", "first.txt", "first.vcd"]);
+    let files = ["end.st", "first.gtkw", "first.html", "first.txt", "first.vcd"];
+    assert_eq!(folder.names(), files);
     assert_eq!(
         Machine::from_image(&folder.get("end.st")).expect("accepted").state().cells[0],
         0xAA
@@ -444,7 +456,7 @@ fn completions_complete() {
     let script = "source <(\"$0\" completions bash); COMP_WORDS=(swarmtempo \"$@\"); \
                   COMP_CWORD=$#; _swarmtempo; echo ${COMPREPLY[@]}";
     for (words, expected) in [
-        (&["di"][..], "disasm"),
+        (&["dis"][..], "disasm"),
         (&["run", "--st"], "--strict"),
         (&["run", "--color", "al"], "always"),
         (&["run", "--save", "li"], "list.bin"),

@@ -70,6 +70,29 @@ fn parts_run_as_the_whole() {
     }
 }
 
+/// An MW is one record: parts begin and end around it, amid a command, and never within it.
+#[test]
+fn many_writes_stay_whole() {
+    let folder = Folder::new("cut_many");
+    let many = include_str!("../../captures/many.txt");
+    let whole = assemble(many).expect("in the form");
+    folder.put("whole", &whole);
+    let run = "\"$0\" run whole --answers answers --save save --quiet 2>/dev/null";
+    assert_eq!(status(&shell(&folder, run, &[], b"")), 0);
+    let wanted = (folder.get("answers"), folder.get("save"));
+    let (status, told) = cut(&folder, &["whole", "--every", "1", "--out", "p"]);
+    let records = swarmtempo::pieces(&whole).count();
+    assert!(status == 0 && told.contains(&format!("{records} parts")), "{told}");
+    assert_eq!(run_parts(&folder, records), wanted);
+    // The first MW has bytes 22 to 67: 11 and 34 values.
+    for (at, wanted) in [("22", 0), ("23", 64), ("40", 64), ("66", 64), ("67", 0)] {
+        let (status, told) = cut(&folder, &["whole", "--at", at, "--out", "q"]);
+        assert_eq!(status, wanted, "{at}: {told}");
+        let said = format!("byte {at} of whole is inside a record, which has bytes 22 to 67");
+        assert_eq!(told.contains(&said), wanted == 64, "{told}");
+    }
+}
+
 /// A part goes on from the state of an image.
 #[test]
 fn from_an_image() {

@@ -75,10 +75,11 @@ fn for_a_while(salt: u64, mut act: impl FnMut(&mut Random)) {
     println!("seed {seed}: {rounds} rounds");
 }
 
-const TEXTS: [&str; 4] = [
+const TEXTS: [&str; 5] = [
     include_str!("../../captures/first.txt"),
     include_str!("../../captures/seek.txt"),
     include_str!("../../captures/far.txt"),
+    include_str!("../../captures/many.txt"),
     "12t WR $EFE1FE 0x41\n83658us RD VIA.IFR\n0t IN 6 1\n0t SN external 15 1\n\
      0t DI external 1 1 1\n$FFFFt PW 4294967295s\nRAW 05 00 53 45 00 00 00\n",
 ];
@@ -86,6 +87,15 @@ const TEXTS: [&str; 4] = [
 const SHEET: &str = "7 3 \"north bench\"\n20 1 14\n$201 255 00 FF ; remark\n7 3 \"x\"\n9 0\n";
 
 const EVENTS: &str = "0t COMMAND Inquiry\n100t KEY $33\n195840t ; alone\n0t COMMAND 0x16\n";
+
+/// As analysers write them.
+const WAVES: [&str; 2] = [
+    "$timescale 10 us $end\n$scope module top $end\n$var wire 1 ! enable $end\n\
+     $var wire 1 \" data_clock $end\n$var wire 1 # data $end\n$upscope $end\n\
+     $enddefinitions $end\n#0\n$dumpvars\n1!\nx\"\nz#\n$end\n#5 0!\n#7 0\" b0 #\n#90000 1\"\n",
+    "; Channels (3/3): enable, data_clock, data\n; Samplerate: 10 MHz\nnanoseconds,logic,logic,logic\n\
+     100,1,1,1\n600,0,1,1\n800,0,0,0\n2100.5,0,1,0\n3e8,0,1,0\n",
+];
 
 fn broken_text(random: &mut Random) -> Vec<u8> {
     let text = TEXTS[random.below(TEXTS.len())];
@@ -106,7 +116,11 @@ fn contents(random: &mut Random) -> Vec<u8> {
             let chip = Chip::BOTH[random.below(2)];
             random.broken(Machine::fresh(chip).image())
         }
-        6 => random.broken(EVENTS.as_bytes()),
+        6 if random.below(2) == 0 => random.broken(EVENTS.as_bytes()),
+        6 => {
+            let wave = WAVES[random.below(WAVES.len())];
+            random.broken(wave.as_bytes())
+        }
         4 => {
             let list = records(random);
             random.broken(&list)
@@ -148,7 +162,8 @@ fn lists_and_answers() {
         let whole: usize =
             pieces(&list).map(|(Piece::Record(it) | Piece::Rest(it))| it.len()).sum();
         assert_eq!(whole, list.len());
-        let mut chunks = Chunks::new(&list[..]);
+        let chunks = Chunks::new(&list[..]);
+        let mut chunks = if random.below(2) == 0 { chunks } else { chunks.eager() };
         let mut joined = Vec::new();
         while let Some(chunk) = chunks.next().expect("no error") {
             joined.extend_from_slice(chunk);
@@ -184,8 +199,21 @@ fn images() {
 fn the_program() {
     let folder = Folder::new("robust");
     folder.put("nothing", b"");
-    let commands: [&[&str]; 22] = [
+    folder.put("orders", b"next 3\nrefusal\ncell\nend\nanswers 5\nwhere\nstate\n");
+    let commands: &[&[&str]] = &[
         &["run", "file"],
+        &["run", "file", "--records", "--json", "--from", "item:2", "--only", "clock"],
+        &["run", "-", "--text", "--csv", "--refused", "--to", "100t"],
+        &["decode", "file", "--records"],
+        &["decode", "-", "--text", "--json", "--cells", "256"],
+        &["decode", "-", "--image", "file", "--csv"],
+        &["summary", "file", "--records", "--csv"],
+        &["report", "file", "--records", "-o", "page", "--from", "offset:9"],
+        &["report", "-", "--text", "--cells", "256"],
+        &["diff", "file", "nothing"],
+        &["diff", "nothing", "file", "--records"],
+        &["diff", "-", "file", "--text"],
+        &["image", "file", "--json"],
         &["run", "file", "--text"],
         &["run", "file", "--records", "--vcd", "vcd", "--quiet"],
         &["run", "file", "--records", "--save", "save", "--answers", "answers"],
@@ -200,9 +228,17 @@ fn the_program() {
         &["join", "file", "nothing", "file", "-o", "out"],
         &["touches", "file", "--records"],
         &["touches", "-", "file", "--text"],
+        &["step", "nothing", "--records"],
+        &["step", "file", "--records", "--script", "orders"],
+        &["import", "file", "-o", "out"],
+        &["import", "-", "--as-text", "--rate", "1000000", "--unit", "ns", "--seconds"],
+        &["export", "file", "--records", "-o", "wires.vcd"],
+        &["export", "-", "--text", "--csv"],
         &["sheet", "get", "7", "--bench", "file"],
         &["sheet", "get", "7", "--text", "--house", "file"],
         &["sheet", "list"],
+        &["clock", "file", "read", "3"],
+        &["clock", "-", "write", "3", "$AA", "--save", "out"],
         &["keyboard", "--save", "out"],
         &["keyboard", "--image", "file", "nothing"],
         &["sheet", "make", "file", "-o", "out"],
@@ -230,6 +266,9 @@ fn the_program() {
         let told = String::from_utf8_lossy(&folder.get("told")).into_owned();
         assert!(!told.contains("panicked"), "{words:?} on {file}: {told}");
         let status = ended.code().unwrap_or(-1);
-        assert!([0, 1, 2, 3, 4, 5, 6, 7, 8, 9, 65].contains(&status), "{words:?} {status}: {told}");
+        assert!(
+            [0, 1, 2, 3, 4, 5, 6, 7, 8, 9, 10, 65].contains(&status),
+            "{words:?} {status}: {told}"
+        );
     });
 }

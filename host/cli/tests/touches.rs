@@ -15,15 +15,22 @@ RAW 02 00 5A 5A
 0t WR VIA.DDRB $06
 65535t RS
 0t RD VIA.ORB
+3t MW VIA.DDRB $07 $06
+0t KC 1
+2t MW VIA.ORA $07 $06
+1t MW VIA.ORB $03
 ";
 
-/// The refused DI takes no time.
+/// The refused DI takes no time. An MW counts as its single writes, a KC and an MW elsewhere not.
 const ROWS: &str = "      offset           VIA ticks  item
            0                  12  SE
           17                  17  WR VIA.ORB $41
           52                  33  PW 5s
           62                  33  WR VIA.DDRB $06
           73               65568  RS
+          89               65571  WR VIA.DDRB $07
+          89               65571  WR VIA.DDRB $06
+         122               65574  WR VIA.ORB $03
 ";
 
 #[test]
@@ -52,16 +59,22 @@ fn two_captures() {
         let done = shell(&folder, "exec \"$0\" touches --text a b", &[], b"");
         (status(&done), stdout(&done))
     };
-    let agree = "0t SE\n9t VB\n0t WR VIA.ORB $41\n0t PW 5s\n8t WR VIA.DDRB $06\n0t RS\n";
-    assert_eq!(compare(agree), (0, "they agree: 5 items in both\n".into()));
+    let agree = "0t SE\n9t VB\n0t WR VIA.ORB $41\n0t PW 5s\n8t WR VIA.DDRB $06\n0t RS\n\
+                 0t WR VIA.DDRB $07\n0t MW VIA.DDRB $06\n0t WR VIA.ORB $03\n";
+    assert_eq!(compare(agree), (0, "they agree: 8 items in both\n".into()));
     let ours = "a: at byte 52, after 33 VIA ticks: PW 5s";
     let b = "b: at byte 23, after 9 VIA ticks";
     for (from, to, wanted) in [
         ("PW 5s", "PW 6s", format!("they part after 2 items:\n  {ours}\n  {b}: PW 6s\n")),
         ("PW 5s", "SE", format!("they part after 2 items:\n  {ours}\n  {b}: SE\n")),
-        ("0t RS\n", "", {
-            let ours = "a: at byte 73, after 65,568 VIA ticks: RS";
-            format!("they part after 4 items:\n  {ours}\n  b: no more\n")
+        ("0t WR VIA.ORB $03\n", "", {
+            let ours = "a: at byte 122, after 65,574 VIA ticks: WR VIA.ORB $03";
+            format!("they part after 7 items:\n  {ours}\n  b: no more\n")
+        }),
+        ("MW VIA.DDRB $06", "MW VIA.DDRB $05 $06", {
+            let ours = "a: at byte 89, after 65,571 VIA ticks: WR VIA.DDRB $06";
+            let b = "b: at byte 61, after 17 VIA ticks: WR VIA.DDRB $05";
+            format!("they part after 6 items:\n  {ours}\n  {b}\n")
         }),
         ("DDRB $06", "ORB $06", {
             let ours = "a: at byte 62, after 33 VIA ticks: WR VIA.DDRB $06";

@@ -13,8 +13,8 @@ impl Chip {
     /// second command byte.
     pub fn image_len(self) -> usize {
         match self {
-            Chip::First => 123,
-            Chip::Later => 123 + 236 + 1,
+            Chip::First => 124,
+            Chip::Later => 124 + 236 + 1,
         }
     }
 
@@ -143,7 +143,7 @@ impl Machine {
         w.put(&via.t2.counter.to_le_bytes());
         w.put(&[via.t2.low]);
         w.flag(via.t2.armed);
-        w.put(&[via.sr, via.acr, via.pcr, via.flags, via.enables]);
+        w.put(&[via.sr, via.acr, via.pcr, via.flags, via.enables, via.pulses]);
         w.put(&match self.clock.phase {
             Phase::Idle => [0; 4],
             Phase::Listening { bits, value } => [1, 0, bits, value],
@@ -204,6 +204,7 @@ impl Machine {
         [via.sr, via.acr, via.pcr] = r.take()?;
         via.flags = r.seven_bits()?;
         via.enables = r.seven_bits()?;
+        via.pulses = r.byte().filter(|&pulses| pulses < 8)?;
         m.clock.phase = r.phase(chip)?;
         let store = &mut m.clock.store;
         store.protect = r.flag()?;

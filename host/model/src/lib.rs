@@ -15,6 +15,7 @@ mod keyboard;
 mod machine;
 mod run;
 pub mod sheet;
+mod transaction;
 mod via;
 
 pub use clock::{
@@ -23,12 +24,13 @@ pub use clock::{
 pub use convert::{convert, Conversion};
 pub use drive::{ticks_of_micros, Drive, Drives, Strobe, EJECT_TICKS, STEP_TICKS, WRITE_TICKS};
 pub use image::{fresh_image, run_image};
-pub use items::{decode, Item, IWM_BASE, STRIDE, VIA_BASE};
+pub use items::{decode, Item, Place, IWM_BASE, STRIDE, VALUES_MOST, VIA_BASE};
 pub use keyboard::{
     keyboard_call, keyboard_fresh, Keyboard, KeyboardEvent, FULL, INQUIRY_TICKS, KEYBOARD_LEN,
 };
 pub use machine::{Machine, Wires};
 pub use run::{frame, Run};
+pub use transaction::{transaction, ENABLE_DOWN};
 pub use via::{Timer1, Timer2, Via};
 
 /// Refusal and stop numbers.
@@ -41,7 +43,7 @@ pub mod refusal {
     pub const LENGTH: u8 = 3;
     /// An address that is none of the 32.
     pub const ADDRESS: u8 = 4;
-    /// A line, drive, register or level out of range.
+    /// A line, drive, register, level or count out of range.
     pub const RANGE: u8 = 5;
     /// Fewer than 8 answer bytes left.
     pub const ROOM: u8 = 6;

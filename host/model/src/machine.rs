@@ -96,7 +96,7 @@ impl Machine {
     }
 
     /// The refusal of an item that the state does not allow.
-    pub fn refuses(&self, item: &Item) -> Option<u8> {
+    pub fn refuses(&self, item: &Item<'_>) -> Option<u8> {
         match *item {
             Item::Disk { drive, insert, .. } => {
                 let there = self.drives.drives[usize::from(drive)].disk;
@@ -106,8 +106,21 @@ impl Machine {
         }
     }
 
-    /// Carries out an item and gives the value read, 0 unless it reads.
-    pub fn step(&mut self, wait: u16, item: &Item) -> u8 {
+    /// Carries out an item and gives the value read, 0 unless it reads or shifts a bit out.
+    pub fn step(&mut self, wait: u16, item: &Item<'_>) -> u8 {
+        let Item::Many { place, values } = *item else {
+            return self.single(wait, item);
+        };
+        let mut wait = wait;
+        for &value in values {
+            self.single(wait, &place.write(value));
+            wait = 0;
+        }
+        0
+    }
+
+    /// One access or event: the wires and the strobe are looked at before and after.
+    fn single(&mut self, wait: u16, item: &Item<'_>) -> u8 {
         let before = self.wires();
         let strobe = (self.lines & LSTRB != 0).then(|| self.watched());
         self.via.wait(wait);
@@ -122,7 +135,7 @@ impl Machine {
         value
     }
 
-    fn act(&mut self, item: &Item) -> u8 {
+    fn act(&mut self, item: &Item<'_>) -> u8 {
         match *item {
             Item::ReadVia { register } => {
                 let (input_b, input_a) = (self.input_b(), self.input_a());
@@ -134,11 +147,13 @@ impl Machine {
             }
             Item::WriteVia { register, value } => self.via.write(register, value),
             Item::WriteIwm { location } => self.access(location),
+            Item::Many { .. } => unreachable!("it is taken apart into its writes"),
             Item::Blank => self.via.flags |= via::BLANK,
             Item::Second => {
                 self.via.flags |= via::SECOND;
                 self.clock.store.advance(1);
             }
+            Item::Pulse { level } => return self.via.pulse(level),
             Item::Line { line, level } => set(&mut self.inputs, 1 << line, level),
             Item::Sense { drive, register, level } => {
                 let bit = 1u32 << (16 * drive + register);

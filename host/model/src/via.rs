@@ -4,6 +4,8 @@
 const T1: u8 = 0x40;
 /// Flag 5, set by T2.
 const T2: u8 = 0x20;
+/// Flag 2, set by each eighth pulse of the keyboard's clock.
+const SHIFT: u8 = 0x04;
 /// Flag 1, set by vertical blanking.
 pub const BLANK: u8 = 0x02;
 /// Flag 0, set by the one-second tick.
@@ -46,6 +48,8 @@ pub struct Via {
     pub flags: u8,
     /// Below 128.
     pub enables: u8,
+    /// Pulses of the keyboard's clock since the last eighth one, below 8.
+    pub pulses: u8,
 }
 
 /// The levels of a port: the output bit where its direction is 1, else the input.
@@ -122,6 +126,29 @@ impl Via {
         }
     }
 
+    /// What any access to register 10 does: the pulses are counted anew.
+    fn touch_shift(&mut self) {
+        self.flags &= !SHIFT;
+        self.pulses = 0;
+    }
+
+    /// A pulse of the keyboard's clock with the level of its data line, by ACR bits 4 to 2: shift in
+    /// (011), shift out (111), or nothing. Gives the bit shifted out, else 0.
+    pub fn pulse(&mut self, level: bool) -> u8 {
+        let (next, value) = match self.acr >> 2 & 7 {
+            0b011 => (u8::from(level), 0),
+            0b111 => (self.sr >> 7, self.sr >> 7),
+            _ => return 0,
+        };
+        self.sr = self.sr << 1 | next;
+        self.pulses += 1;
+        if self.pulses == 8 {
+            self.pulses = 0;
+            self.flags |= SHIFT;
+        }
+        value
+    }
+
     pub fn write(&mut self, register: u8, value: u8) {
         let high = u16::from(value) << 8;
         match register {
@@ -150,7 +177,10 @@ impl Via {
                 self.t2.armed = true;
                 self.flags &= !T2;
             }
-            10 => self.sr = value,
+            10 => {
+                self.sr = value;
+                self.touch_shift();
+            }
             11 => self.acr = value,
             12 => self.pcr = value,
             13 => self.flags &= !value,
@@ -182,7 +212,10 @@ impl Via {
                 self.t2.counter as u8
             }
             9 => (self.t2.counter >> 8) as u8,
-            10 => self.sr,
+            10 => {
+                self.touch_shift();
+                self.sr
+            }
             11 => self.acr,
             12 => self.pcr,
             13 => self.flags | u8::from(self.asks()) << 7,

@@ -266,7 +266,7 @@ fn ranges_in_images() {
     b.line(0, LSTRB, true);
     b.ok(&record(b"VB", 700, &[]));
     let image = b.0.image();
-    assert_eq!(image[118..123], [188, 2, 0, 0, 1]);
+    assert_eq!(image[119..124], [188, 2, 0, 0, 1]);
     assert_eq!(Machine::from_image(&image), Some(b.0.clone()));
     let with = |changes: &[(usize, u8)]| {
         let mut image = image.clone();
@@ -274,21 +274,21 @@ fn ranges_in_images() {
         Machine::from_image(&image).is_some()
     };
     assert!(with(&[]));
-    assert!(!with(&[(100, 80)]), "track");
-    assert!(with(&[(100, 79)]));
-    for at in (101..106).chain([108, 122]).chain(110..115).chain([117]) {
+    assert!(!with(&[(101, 80)]), "track");
+    assert!(with(&[(101, 79)]));
+    for at in (102..107).chain([109, 123]).chain(111..116).chain([118]) {
         assert!(!with(&[(at, 2)]), "level at {at}");
     }
-    assert!(!with(&[(102, 0)]), "locked with no disk");
-    assert!(!with(&[(102, 0), (103, 0), (105, 1)]), "motor with no disk");
-    assert!(!with(&[(108, 1)]), "a direction with no step");
-    assert!(with(&[(106, 1), (108, 1)]));
-    assert!(with(&[(106, 0xB9), (107, 0x24)]), "9,401 ticks left");
-    assert!(!with(&[(106, 0xBA), (107, 0x24)]), "9,402 ticks left");
-    assert!(!with(&[(122, 0)]), "ticks of a strobe that is spoilt");
-    assert!(with(&[(122, 0), (118, 0), (119, 0)]));
-    assert!(!with(&[(56, 0)]), "LSTRB off");
-    assert!(!with(&[(57, 0)]), "ENABLE off");
-    assert!(with(&[(118, 0x00), (119, 0xFA), (120, 0x05)]), "391,680 ticks");
-    assert!(!with(&[(118, 0x01), (119, 0xFA), (120, 0x05)]), "391,681 ticks");
+    assert!(!with(&[(103, 0)]), "locked with no disk");
+    assert!(!with(&[(103, 0), (104, 0), (106, 1)]), "motor with no disk");
+    assert!(!with(&[(109, 1)]), "a direction with no step");
+    assert!(with(&[(107, 1), (109, 1)]));
+    assert!(with(&[(107, 0xB9), (108, 0x24)]), "9,401 ticks left");
+    assert!(!with(&[(107, 0xBA), (108, 0x24)]), "9,402 ticks left");
+    assert!(!with(&[(123, 0)]), "ticks of a strobe that is spoilt");
+    assert!(with(&[(123, 0), (119, 0), (120, 0)]));
+    assert!(!with(&[(57, 0)]), "LSTRB off");
+    assert!(!with(&[(58, 0)]), "ENABLE off");
+    assert!(with(&[(119, 0x00), (120, 0xFA), (121, 0x05)]), "391,680 ticks");
+    assert!(!with(&[(119, 0x01), (120, 0xFA), (121, 0x05)]), "391,681 ticks");
 }

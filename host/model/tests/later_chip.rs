@@ -144,16 +144,16 @@ fn protect_counts_for_all_cells_and_reset_and_power_keep_them() {
 #[test]
 fn images_of_kind_sx() {
     let fresh = fresh_image(Chip::Later);
-    assert_eq!(fresh.len(), 360);
-    assert_eq!(fresh[..4], [0x66, 0x01, b'S', b'X']);
-    assert_eq!(fresh[4..123], fresh_image(Chip::First)[4..], "ST in all but length and kind");
-    assert_eq!(fresh[123..], [0; 237]);
+    assert_eq!(fresh.len(), 361);
+    assert_eq!(fresh[..4], [0x67, 0x01, b'S', b'X']);
+    assert_eq!(fresh[4..124], fresh_image(Chip::First)[4..], "ST in all but length and kind");
+    assert_eq!(fresh[124..], [0; 237]);
     let mut b = later();
     b.send(&[0x41, 0x11]);
     b.send(&[0x38, 0x50, 0x22]);
     b.send(&[0x3F, 0x7C, 0x33]);
     let image = b.0.image();
-    assert_eq!([image[33], image[123], image[358]], [0x11, 0x22, 0x33], "cells 0, 20 and 255");
+    assert_eq!([image[34], image[124], image[359]], [0x11, 0x22, 0x33], "cells 0, 20 and 255");
     for (rises, phase, second) in [
         (8, [2, 0x3F, 0, 0], 0),
         (11, [2, 0x3F, 3, 0b011], 0),
@@ -165,7 +165,7 @@ fn images_of_kind_sx() {
         let mut b = later();
         bits_of(&mut b, &[0x3F, 0x7C, 0xAA], rises);
         let mut image = b.0.image();
-        assert_eq!((&image[23..27], image[359]), (&phase[..], second), "{rises} rises");
+        assert_eq!((&image[24..28], image[360]), (&phase[..], second), "{rises} rises");
         assert_eq!(Machine::from_image(&image), Some(b.0.clone()));
         let run = run_image(&mut image, &record(b"SE", 0, &[]), &mut [0; 8]);
         assert_eq!(run, Run { stop: 0, consumed: 6, written: 8 });
@@ -191,26 +191,29 @@ fn images_that_no_state_has() {
         }
         machine.is_some()
     };
-    assert!(accepted(&fresh, &[(123, 7), (358, 255)]));
-    assert!(accepted(&open, &[(23, 2), (24, 0x3F), (25, 7), (26, 127)]));
-    assert!(accepted(&open, &[(23, 2), (24, 0xB8)]));
-    assert!(accepted(&open, &[(23, 5), (24, 0x3F), (25, 7), (26, 127), (359, 0x7C)]));
-    assert!(accepted(&open, &[(23, 5), (24, 0x38)]));
-    assert!(!accepted(&fresh, &[(359, 1)]), "idle with a second byte");
-    assert!(!accepted(&open, &[(359, 4)]), "listening with a second byte");
-    assert!(!accepted(&open, &[(23, 2), (24, 0x3F), (359, 4)]), "a second byte not whole");
-    assert!(!accepted(&open, &[(23, 5), (24, 0xBF), (359, 0x7C)]), "a read takes no data");
-    assert!(!accepted(&open, &[(23, 5), (24, 0x41)]), "a command of one byte");
-    assert!(!accepted(&open, &[(23, 5), (24, 0x3F), (359, 0x7D)]), "a bad second byte");
-    assert!(!accepted(&open, &[(23, 5), (24, 0x3F), (25, 8), (359, 0x7C)]), "8 data bits");
-    assert!(!accepted(&open, &[(23, 5), (24, 0x3F), (25, 2), (26, 4)]), "a value of 3 bits");
-    assert!(!accepted(&open, &[(23, 6)]));
-    assert!(!accepted(&first, &[(23, 2), (24, 0x3F)]), "extended on the first chip");
-    assert!(!accepted(&first, &[(23, 5), (24, 0x3F)]), "extended on the first chip");
+    assert!(accepted(&fresh, &[(124, 7), (359, 255)]));
+    assert!(accepted(&open, &[(24, 2), (25, 0x3F), (26, 7), (27, 127)]));
+    assert!(accepted(&open, &[(24, 2), (25, 0xB8)]));
+    assert!(accepted(&open, &[(24, 5), (25, 0x3F), (26, 7), (27, 127), (360, 0x7C)]));
+    assert!(accepted(&open, &[(24, 5), (25, 0x38)]));
+    assert!(!accepted(&fresh, &[(360, 1)]), "idle with a second byte");
+    assert!(!accepted(&open, &[(360, 4)]), "listening with a second byte");
+    assert!(!accepted(&open, &[(24, 2), (25, 0x3F), (360, 4)]), "a second byte not whole");
+    assert!(!accepted(&open, &[(24, 5), (25, 0xBF), (360, 0x7C)]), "a read takes no data");
+    assert!(!accepted(&open, &[(24, 5), (25, 0x41)]), "a command of one byte");
+    assert!(!accepted(&open, &[(24, 5), (25, 0x3F), (360, 0x7D)]), "a bad second byte");
+    assert!(!accepted(&open, &[(24, 5), (25, 0x3F), (26, 8), (360, 0x7C)]), "8 data bits");
+    assert!(!accepted(&open, &[(24, 5), (25, 0x3F), (26, 2), (27, 4)]), "a value of 3 bits");
+    assert!(!accepted(&open, &[(24, 6)]));
+    assert!(!accepted(&first, &[(24, 2), (25, 0x3F)]), "extended on the first chip");
+    assert!(!accepted(&first, &[(24, 5), (25, 0x3F)]), "extended on the first chip");
     assert!(!accepted(&fresh, &[(3, b'T')]), "ST of this length");
-    assert!(!accepted(&fresh, &[(0, 121), (1, 0), (3, b'T')]), "ST of this length");
-    assert!(!accepted(&fresh[..123], &[(0, 121), (1, 0)]), "SX with 20 cells' length");
-    assert!(!accepted(&fresh[..359], &[(0, 101)]), "a byte short");
+    assert!(!accepted(&fresh, &[(0, 122), (1, 0), (3, b'T')]), "ST of this length");
+    assert!(!accepted(&fresh[..124], &[(0, 122), (1, 0)]), "SX with 20 cells' length");
+    assert!(!accepted(&fresh[..360], &[(0, 102)]), "a byte short");
+    let older = [&fresh[..23], &fresh[24..]].concat();
+    assert!(!accepted(&older, &[(0, 102)]), "without the pulse count");
+    assert!(accepted(&fresh, &[(23, 7)]) && !accepted(&fresh, &[(23, 8)]), "the pulse count");
     assert!(!accepted(&[&fresh[..], &[0]].concat(), &[]), "a byte long");
     assert!(!accepted(&fresh, &[(3, b'V')]));
 }

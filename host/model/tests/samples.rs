@@ -408,8 +408,8 @@ fn images_come_back() {
     b.bit(1);
     b.bit(0);
     let mut image = b.0.image();
-    assert_eq!(image[..4], [121, 0, b'S', b'T']);
-    assert_eq!(image[23..27], [2, 0x41, 2, 2]);
+    assert_eq!(image[..4], [122, 0, b'S', b'T']);
+    assert_eq!(image[24..28], [2, 0x41, 2, 2]);
     assert_eq!(Machine::from_image(&image), Some(b.0.clone()));
     let mut answers = [0; 8];
     let run = run_image(&mut image, &record(b"SE", 0, &[]), &mut answers);
@@ -417,11 +417,11 @@ fn images_come_back() {
     b.ok(&record(b"SE", 0, &[]));
     assert_eq!(image, b.0.image());
     let fresh = fresh_image(Chip::First);
-    assert_eq!(fresh[61..66], [1; 5]);
-    assert_eq!(fresh[66..68], [0; 2]);
-    assert_eq!(fresh[68..100], [1; 32]);
-    assert_eq!(fresh[100..], [0; 23]);
-    assert!(fresh[4..61].iter().all(|&byte| byte == 0));
+    assert_eq!(fresh[62..67], [1; 5]);
+    assert_eq!(fresh[67..69], [0; 2]);
+    assert_eq!(fresh[69..101], [1; 32]);
+    assert_eq!(fresh[101..], [0; 23]);
+    assert!(fresh[4..62].iter().all(|&byte| byte == 0));
 }
 
 #[test]
@@ -438,7 +438,7 @@ fn images_that_no_state_has() {
         assert_eq!(lent, image, "{why}");
         assert_eq!(answers, [0xEE; 16]);
     };
-    refused(&fresh[..122], "short");
+    refused(&fresh[..123], "short");
     refused(&[&fresh[..], &[0]].concat(), "long");
     let with = |image: &[u8], changes: &[(usize, u8)]| {
         let mut image = image.to_vec();
@@ -448,36 +448,40 @@ fn images_that_no_state_has() {
     refused(&with(&fresh, &[(0, 96)]), "length");
     refused(&[&[96, 0][..], &fresh[2..98]].concat(), "an older length");
     refused(&[&[119, 0][..], &fresh[2..121]].concat(), "an older length");
+    refused(&[&[121, 0][..], &fresh[2..23], &fresh[24..]].concat(), "an older length");
     refused(&with(&fresh, &[(1, 1)]), "length, high byte");
     refused(&with(&fresh, &[(3, b'X')]), "kind");
-    for at in (12..14).chain([17, 27]).chain(53..100) {
+    for at in (12..14).chain([17, 28]).chain(54..101) {
         refused(&with(&fresh, &[(at, 2)]), "level");
     }
     for at in [21, 22] {
         refused(&with(&fresh, &[(at, 128)]), "bit 7");
         assert!(Machine::from_image(&with(&fresh, &[(at, 127)])).is_some());
     }
-    refused(&with(&fresh, &[(23, 1)]), "listening with enable up");
-    refused(&with(&fresh, &[(24, 1)]), "idle with a command");
-    refused(&with(&fresh, &[(25, 1)]), "idle with bits");
-    refused(&with(&fresh, &[(26, 1)]), "idle with a value");
-    refused(&with(&open, &[(23, 0)]), "idle with enable down");
-    refused(&with(&open, &[(23, 5)]), "phase 5");
-    refused(&with(&open, &[(24, 0x41)]), "listening with a command");
-    refused(&with(&open, &[(25, 8)]), "8 bits");
-    refused(&with(&open, &[(25, 2), (26, 4)]), "value of 3 bits");
-    refused(&with(&open, &[(23, 2), (24, 0xC1)]), "a read command");
-    refused(&with(&open, &[(23, 2), (24, 0x42)]), "no legal command");
-    refused(&with(&open, &[(23, 2), (24, 0x41), (25, 8)]), "8 data bits");
-    refused(&with(&open, &[(23, 3), (25, 9)]), "9 falls");
-    refused(&with(&open, &[(23, 3), (24, 0xC1)]), "sending with a command");
-    refused(&with(&open, &[(23, 4), (26, 1)]), "ignoring with a value");
+    (8..=255).for_each(|pulses| refused(&with(&fresh, &[(23, pulses)]), "a pulse count"));
+    refused(&with(&fresh, &[(24, 1)]), "listening with enable up");
+    refused(&with(&fresh, &[(25, 1)]), "idle with a command");
+    refused(&with(&fresh, &[(26, 1)]), "idle with bits");
+    refused(&with(&fresh, &[(27, 1)]), "idle with a value");
+    refused(&with(&open, &[(24, 0)]), "idle with enable down");
+    refused(&with(&open, &[(24, 5)]), "phase 5");
+    refused(&with(&open, &[(25, 0x41)]), "listening with a command");
+    refused(&with(&open, &[(26, 8)]), "8 bits");
+    refused(&with(&open, &[(26, 2), (27, 4)]), "value of 3 bits");
+    refused(&with(&open, &[(24, 2), (25, 0xC1)]), "a read command");
+    refused(&with(&open, &[(24, 2), (25, 0x42)]), "no legal command");
+    refused(&with(&open, &[(24, 2), (25, 0x41), (26, 8)]), "8 data bits");
+    refused(&with(&open, &[(24, 3), (26, 9)]), "9 falls");
+    refused(&with(&open, &[(24, 3), (25, 0xC1)]), "sending with a command");
+    refused(&with(&open, &[(24, 4), (27, 1)]), "ignoring with a value");
     for image in [
-        with(&open, &[(25, 7), (26, 127)]),
-        with(&open, &[(23, 2), (24, 0x35), (25, 7), (26, 127)]),
-        with(&open, &[(23, 3), (25, 8), (26, 255)]),
-        with(&open, &[(23, 4)]),
-        with(&fresh, &[(13, 1), (28, 255)]),
+        with(&open, &[(26, 7), (27, 127)]),
+        with(&open, &[(24, 2), (25, 0x35), (26, 7), (27, 127)]),
+        with(&open, &[(24, 3), (26, 8), (27, 255)]),
+        with(&open, &[(24, 4)]),
+        with(&fresh, &[(13, 1), (29, 255)]),
+        with(&fresh, &[(23, 7)]),
+        with(&open, &[(23, 1)]),
     ] {
         let machine = Machine::from_image(&image).expect("accepted");
         assert_eq!(machine.image()[..], image);

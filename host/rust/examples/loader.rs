@@ -1,86 +1,25 @@
-//! A loader: writes settings into cells of the clock chip, reads them back and checks them. Where one
-//! of them is a cell past 19, the machine has the later chip, of 256 cells.
+//! A loader: writes settings into cells of the clock chip, and the date, reads them back and checks them, and
+//! sets write-protect. Where one of them is a cell past 19, the machine has the later chip, of 256 cells.
+//! It knows nothing of wires: the library writes the transactions.
 //!
 //! ```sh
 //! cargo run --example loader -- 3=0x41 19=7 255=1
 //! ```
 
 use std::error::Error;
-use swarmtempo::{Address, Chip, Item, List, Machine, Register, ViaTicks};
+use swarmtempo::{Ask, Chip, ClockError, Machine, Seconds};
 
-/// Every wait of a transaction.
-const NOW: ViaTicks = ViaTicks(0);
+/// 1 January 2000, in seconds from 1 January 1904.
+const DATE: Seconds = Seconds(3_029_529_600);
 
-/// Port B has data, data-clock and enable (low active) in bits 0, 1 and 2.
-fn port(list: &mut List, levels: u8) {
-    list.push(NOW, Item::Write(Address::Via(Register::ORB), levels));
-}
-
-/// Which of the lines are outputs.
-fn directions(list: &mut List, outputs: u8) {
-    list.push(NOW, Item::Write(Address::Via(Register::DDRB), outputs));
-}
-
-/// Enable goes down, and a command is sent, high-order bits first.
-fn begin(list: &mut List, command: &[u8]) {
-    port(list, 4);
-    directions(list, 7);
-    port(list, 0);
-    command.iter().for_each(|&byte| send(list, byte));
-}
-
-fn send(list: &mut List, byte: u8) {
-    for bit in (0..8).rev().map(|i| byte >> i & 1) {
-        port(list, bit);
-        port(list, bit | 2);
+/// Writes all, with write-protect clear, and sets it.
+fn load(machine: &mut Machine, settings: &[(u8, u8)]) -> Result<(), ClockError> {
+    machine.protect(false)?;
+    for &(cell, value) in settings {
+        machine.write_cell(cell, value)?;
     }
-}
-
-/// The command for a cell, of two bytes past cell 19; bit 7, given in `read`, makes it a read.
-fn command(cell: u8, read: u8) -> Vec<u8> {
-    match cell {
-        0..16 => vec![read | 0x41 | cell << 2],
-        16..20 => vec![read | 0x21 | (cell - 16) << 2],
-        _ => vec![read | 0x38 | cell >> 5, (cell & 0x1F) << 2],
-    }
-}
-
-fn write_cell(cell: u8, value: u8) -> List {
-    let mut list = List::new();
-    begin(&mut list, &command(cell, 0));
-    send(&mut list, value);
-    port(&mut list, 4);
-    list
-}
-
-/// Its eight reads have the byte, high-order bit first, in bit 0.
-fn read_cell(cell: u8) -> List {
-    let mut list = List::new();
-    begin(&mut list, &command(cell, 0x80));
-    directions(&mut list, 6);
-    for _ in 0..8 {
-        port(&mut list, 0);
-        list.push(NOW, Item::Read(Address::Via(Register::ORB)));
-        port(&mut list, 2);
-    }
-    port(&mut list, 4);
-    list
-}
-
-/// Runs a transaction; the byte that its reads give. Every item must be done.
-fn run(machine: &mut Machine, list: &List) -> Result<u8, Box<dyn Error>> {
-    let mut byte = 0;
-    let transcript = machine.run_items(list);
-    for done in &transcript {
-        let seen = done.answer.result()?;
-        if let Item::Read(_) = done.item?.item {
-            byte = byte << 1 | seen.value & 1;
-        }
-    }
-    match transcript.run().stop {
-        Some(refusal) => Err(refusal.into()),
-        None => Ok(byte),
-    }
+    machine.set_seconds(DATE)?;
+    machine.protect(true)
 }
 
 /// `3=0x41` or `3=65`.
@@ -105,13 +44,21 @@ fn main() -> Result<(), Box<dyn Error>> {
     let fits = |chip: &Chip| settings.iter().all(|&(cell, _)| usize::from(cell) < chip.cells());
     let chip = Chip::BOTH.into_iter().find(fits).unwrap_or(Chip::Later);
     let mut machine = Machine::fresh(chip);
+    load(&mut machine, &settings)?;
     for &(cell, value) in &settings {
-        run(&mut machine, &write_cell(cell, value))?;
-        let got = run(&mut machine, &read_cell(cell))?;
-        if got != value || machine.state().cells[usize::from(cell)] != value {
+        let got = machine.read_cell(cell)?;
+        if got != value {
             return Err(format!("cell {cell} holds ${got:02X}, not ${value:02X}").into());
         }
         println!("cell {cell} holds ${got:02X}");
+        // Write-protect is set: an error, and nothing is changed.
+        assert_eq!(machine.write_cell(cell, !value), Err(ClockError::Protected));
     }
+    if machine.seconds()? != DATE {
+        return Err("the seconds are others".into());
+    }
+    // A transaction as items, for a capture.
+    let list = machine.transaction(Ask::ReadSeconds(0))?;
+    println!("a read of a seconds byte is {} items of no wait", list.iter().count());
     Ok(())
 }

@@ -20,7 +20,7 @@ pub enum Refusal {
     Length = 3,
     /// Address is none of the 32.
     Address = 4,
-    /// Line, drive, register or level out of range.
+    /// Line, drive, register, level or count out of range.
     Range = 5,
     /// List bytes remain, and fewer than 8 answer bytes are left. The run stops before the item.
     Room = 6,
@@ -64,7 +64,7 @@ impl fmt::Display for Refusal {
             Refusal::Kind => "unknown kind",
             Refusal::Length => "length wrong for the kind",
             Refusal::Address => "address is none of the 32",
-            Refusal::Range => "line, drive, register or level out of range",
+            Refusal::Range => "line, drive, register, level or count out of range",
             Refusal::Room => "no room for an answer",
             Refusal::State => "image is none of an accepted state",
             Refusal::Disk => "a disk is there already, or none is",
@@ -134,7 +134,7 @@ impl fmt::Display for Lines {
 /// What an item that was done showed. Level, lines and SEL are those after the item.
 #[derive(Clone, Copy, Debug, PartialEq, Eq, Hash)]
 pub struct Seen {
-    /// The value read, 0 unless the item reads.
+    /// The value read, or of KC the bit shifted out; else 0.
     pub value: u8,
     /// The interrupt level: 4 for the programmer's switch, 2 for the serial chip, 1 for the VIA while
     /// the serial chip is not asking.

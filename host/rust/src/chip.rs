@@ -42,8 +42,8 @@ impl Chip {
     /// Bytes of an image.
     pub const fn image_len(self) -> usize {
         match self {
-            Chip::First => 123,
-            Chip::Later => 360,
+            Chip::First => 124,
+            Chip::Later => 361,
         }
     }
 

@@ -74,13 +74,21 @@ pub struct Chunks<R> {
     end: usize,
     ended: bool,
     broken: bool,
+    eager: bool,
 }
 
 impl<R: Read> Chunks<R> {
     /// A reader of chunks.
     pub fn new(source: R) -> Chunks<R> {
         let buffer = vec![0; CHUNK_LEN].into_boxed_slice();
-        Chunks { source, buffer, start: 0, end: 0, ended: false, broken: false }
+        Chunks { source, buffer, start: 0, end: 0, ended: false, broken: false, eager: false }
+    }
+
+    /// Hands out whole records as soon as they have come, however few they are: for a pipe that is
+    /// fed now and then.
+    #[must_use]
+    pub fn eager(self) -> Chunks<R> {
+        Chunks { eager: true, ..self }
     }
 
     /// The next chunk, or none at the end of the list.
@@ -99,6 +107,9 @@ impl<R: Read> Chunks<R> {
                 Err(error) if error.kind() == io::ErrorKind::Interrupted => {}
                 Err(error) => return Err(error),
             }
+            if self.eager && (self.broken || self.any_record()) {
+                break;
+            }
         }
         let held = &self.buffer[..self.end];
         let mut whole = 0;
@@ -111,6 +122,21 @@ impl<R: Read> Chunks<R> {
         }
         self.start = if self.ended || self.broken { self.end } else { whole };
         Ok((self.start > 0).then_some(&held[..self.start]))
+    }
+
+    /// True where bytes that can be handed out begin with those held.
+    fn any_record(&self) -> bool {
+        !matches!(whole_record(&self.buffer[..self.end]), Found::Short)
+    }
+
+    /// The chunk that was handed out last.
+    pub fn last(&self) -> &[u8] {
+        &self.buffer[..self.start]
+    }
+
+    /// The source of the bytes, to look at.
+    pub fn source(&self) -> &R {
+        &self.source
     }
 
     /// The source of the bytes.

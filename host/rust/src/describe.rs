@@ -82,9 +82,20 @@ fn via(state: &State, out: &mut String) {
         "  SR ${:02X}, ACR ${:02X}, PCR ${:02X}\n",
         state.sr, state.acr, state.pcr
     ));
+    let pulses = state.pulses;
+    out.push_str(&format!("  shift     {}, {pulses} of 8 pulses counted\n", shift(state.acr)));
     out.push_str(&format!("  flags     ${:02X}: {}\n", state.flags, flags(state.flags)));
     out.push_str(&format!("  enables   ${:02X}: {}\n", state.enables, flags(state.enables)));
     out.push_str(&format!("  level     {}\n", state.level()));
+}
+
+/// What a pulse of the keyboard's clock does, by ACR bits 4 to 2.
+fn shift(acr: u8) -> &'static str {
+    match acr >> 2 & 7 {
+        0b011 => "in by the keyboard's clock",
+        0b111 => "out by the keyboard's clock",
+        _ => "standing still",
+    }
 }
 
 fn armed(armed: bool) -> &'static str {

@@ -9,6 +9,7 @@ use crate::address::named;
 use crate::units::number;
 use crate::{text, Address, ParseError, Refusal, Seconds, ViaTicks};
 use std::fmt;
+use std::ops::Deref;
 use std::str::FromStr;
 
 /// A drive.
@@ -125,6 +126,66 @@ macro_rules! numbered {
 numbered!(InLine, "an input line, 0 to 6");
 numbered!(SenseRegister, "a sense register, 0 to 15");
 
+/// The values that an MW writes, 1 to 64 of them, in their order.
+///
+/// ```
+/// use swarmtempo::{Refusal, Values};
+///
+/// let values = Values::try_from(&[0xF9, 0xFB][..])?;
+/// assert_eq!(values[..], [0xF9, 0xFB]);
+/// assert_eq!(Values::new(&[]), None);
+/// assert_eq!(Values::try_from(&[0; 65][..]), Err(Refusal::Range));
+/// # Ok::<(), Refusal>(())
+/// ```
+#[derive(Clone, Copy, PartialEq, Eq, Hash)]
+pub struct Values {
+    count: u8,
+    /// 0 past the count.
+    bytes: [u8; Values::MAX],
+}
+
+impl Values {
+    /// How many there are at most.
+    pub const MAX: usize = 64;
+
+    /// These, where they are 1 to [`Values::MAX`].
+    pub fn new(values: &[u8]) -> Option<Values> {
+        let mut bytes = [0; Values::MAX];
+        bytes.get_mut(..values.len())?.copy_from_slice(values);
+        let count = u8::try_from(values.len()).ok().filter(|&count| count > 0)?;
+        Some(Values { count, bytes })
+    }
+}
+
+impl Deref for Values {
+    type Target = [u8];
+
+    fn deref(&self) -> &[u8] {
+        &self.bytes[..usize::from(self.count)]
+    }
+}
+
+impl AsRef<[u8]> for Values {
+    fn as_ref(&self) -> &[u8] {
+        self
+    }
+}
+
+impl fmt::Debug for Values {
+    fn fmt(&self, f: &mut fmt::Formatter<'_>) -> fmt::Result {
+        fmt::Debug::fmt(&**self, f)
+    }
+}
+
+impl TryFrom<&[u8]> for Values {
+    type Error = Refusal;
+
+    /// [`Refusal::Range`] where there are none, or too many.
+    fn try_from(values: &[u8]) -> Result<Values, Refusal> {
+        Values::new(values).ok_or(Refusal::Range)
+    }
+}
+
 /// What an item does once its wait has passed.
 ///
 /// Written and read as in the text form ([`crate::text`]), without the wait:
@@ -142,6 +203,9 @@ pub enum Item {
     Read(Address),
     /// WR: writes a byte.
     Write(Address, u8),
+    /// MW: writes many bytes to one address, the first after the wait and the others with none.
+    /// [`Timed::singles`] gives the single writes.
+    WriteMany(Address, Values),
     /// VB: vertical blanking.
     Blank,
     /// SE: the one-second tick.
@@ -161,6 +225,8 @@ pub enum Item {
         /// Counts on insertion only.
         double_sided: bool,
     },
+    /// KC: a pulse of the keyboard's clock, with the level of its data line.
+    Pulse(bool),
     /// RS: reset.
     Reset,
     /// PW: power cut, with the time off.
@@ -169,19 +235,21 @@ pub enum Item {
 
 impl Item {
     /// The letters of all kinds.
-    pub const KINDS: [&'static [u8; 2]; 9] =
-        [b"RD", b"WR", b"VB", b"SE", b"IN", b"SN", b"DI", b"RS", b"PW"];
+    pub const KINDS: [&'static [u8; 2]; 11] =
+        [b"RD", b"WR", b"MW", b"VB", b"SE", b"IN", b"SN", b"DI", b"KC", b"RS", b"PW"];
 
     /// The two letters of its kind.
     pub fn kind(&self) -> &'static [u8; 2] {
         match self {
             Item::Read(_) => b"RD",
             Item::Write(..) => b"WR",
+            Item::WriteMany(..) => b"MW",
             Item::Blank => b"VB",
             Item::Second => b"SE",
             Item::In(..) => b"IN",
             Item::Sense(..) => b"SN",
             Item::Disk { .. } => b"DI",
+            Item::Pulse(_) => b"KC",
             Item::Reset => b"RS",
             Item::Power(_) => b"PW",
         }
@@ -199,6 +267,11 @@ impl Item {
                 out.extend_from_slice(&address.number().to_le_bytes());
                 out.push(value);
             }
+            Item::WriteMany(address, values) => {
+                out.extend_from_slice(&address.number().to_le_bytes());
+                out.push(values.count);
+                out.extend_from_slice(&values);
+            }
             Item::Blank | Item::Second | Item::Reset => {}
             Item::In(line, level) => out.extend_from_slice(&[line.0, u8::from(level)]),
             Item::Sense(drive, register, level) => {
@@ -208,6 +281,7 @@ impl Item {
                 out.push(drive.into());
                 out.extend([insert, locked, double_sided].map(u8::from));
             }
+            Item::Pulse(level) => out.push(level.into()),
             Item::Power(seconds) => out.extend_from_slice(&seconds.0.to_le_bytes()),
         }
         // No kind has a body that comes near 65,535 bytes.
@@ -230,6 +304,9 @@ impl Item {
         let item = match (kind, body) {
             (b"RD", &[a, b, c, d]) => Item::Read(address([a, b, c, d])?),
             (b"WR", &[a, b, c, d, value]) => Item::Write(address([a, b, c, d])?, value),
+            (b"MW", &[a, b, c, d, count, ref values @ ..]) => {
+                many(address([a, b, c, d])?, count, values)?
+            }
             (b"VB", []) => Item::Blank,
             (b"SE", []) => Item::Second,
             (b"IN", &[line, to]) => Item::In(line.try_into()?, level(to)?),
@@ -242,6 +319,7 @@ impl Item {
                 locked: level(locked)?,
                 double_sided: level(double_sided)?,
             },
+            (b"KC", &[to]) => Item::Pulse(level(to)?),
             (b"RS", []) => Item::Reset,
             (b"PW", &[a, b, c, d]) => Item::Power(Seconds(u32::from_le_bytes([a, b, c, d]))),
             _ => return Err(Refusal::Length),
@@ -252,6 +330,17 @@ impl Item {
 
 fn address(bytes: [u8; 4]) -> Result<Address, Refusal> {
     u32::from_le_bytes(bytes).try_into()
+}
+
+/// An MW: its address is judged first, then the count, and last whether so many values follow.
+fn many(address: Address, count: u8, values: &[u8]) -> Result<Item, Refusal> {
+    if !(1..=Values::MAX).contains(&count.into()) {
+        return Err(Refusal::Range);
+    }
+    if values.len() != usize::from(count) {
+        return Err(Refusal::Length);
+    }
+    Ok(Item::WriteMany(address, values.try_into()?))
 }
 
 fn level(byte: u8) -> Result<bool, Refusal> {
@@ -310,6 +399,31 @@ impl Timed {
         let mut bytes = Vec::new();
         self.item.write(self.wait, &mut bytes);
         bytes
+    }
+
+    /// The single items that it stands for: of an MW a WR for each value, the first after its wait and
+    /// the others with none; else itself.
+    ///
+    /// ```
+    /// use swarmtempo::Timed;
+    ///
+    /// let many: Timed = "12t MW VIA.ORB $F9 $FB".parse()?;
+    /// let singles: Vec<String> = many.singles().map(|single| single.to_string()).collect();
+    /// assert_eq!(singles, ["12t WR VIA.ORB $F9", "0t WR VIA.ORB $FB"]);
+    /// # Ok::<(), swarmtempo::text::LineError>(())
+    /// ```
+    pub fn singles(self) -> impl Iterator<Item = Timed> {
+        let count = match self.item {
+            Item::WriteMany(_, values) => values.len(),
+            _ => 1,
+        };
+        (0..count).map(move |i| match self.item {
+            Item::WriteMany(address, values) => Timed {
+                wait: if i == 0 { self.wait } else { ViaTicks(0) },
+                item: Item::Write(address, values[i]),
+            },
+            _ => self,
+        })
     }
 }
 

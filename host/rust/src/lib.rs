@@ -24,10 +24,14 @@
 //!   memory: [`Chunks`].
 //! - Runs: [`Machine::step`] for one item, [`Machine::run_items`] for items with their answers,
 //!   [`Machine::run`] and [`Machine::run_in`] for answers as bytes, which [`answers`] reads.
+//! - The clock, with no word of its wires: [`Machine::read_cell`], [`Machine::write_cell`],
+//!   [`Machine::seconds`], [`Machine::set_seconds`], [`Machine::protect`]; as items: [`Machine::transaction`].
 //! - States: [`Machine::image`] to save and [`Machine::from_image`] to restore; [`State`] to look at.
 //! - For people: [`table`], [`vcd`], [`describe`], and `Display` of nearly everything.
+//! - The clock's wires as an analyser sees them: [`WireDump`] writes them, [`WireImport`] makes items of
+//!   them.
 //! - Captures from before SN retired on the drives' own registers: [`convert`].
-//! - What of a capture can touch the clock: [`Touches`].
+//! - What of a capture can touch the clock: [`Touches`]; its clock transactions: [`Decoding`].
 //! - A keyboard, by itself: [`Keyboard`].
 //! - Settings of a bench: [`Sheets`], [`compact`], and as text [`sheet_text`].
 //! - The C functions as they are: [`sys`].
@@ -45,8 +49,10 @@ mod address;
 mod answer;
 mod chip;
 mod chunks;
+mod clock;
 mod command;
 mod convert;
+pub mod decode;
 pub mod describe;
 mod error;
 mod item;
@@ -67,6 +73,8 @@ pub mod text;
 mod touches;
 mod units;
 pub mod vcd;
+mod wire_dump;
+mod wire_import;
 
 pub use address::{Address, DiskLine, Register};
 pub use answer::{
@@ -74,10 +82,12 @@ pub use answer::{
 };
 pub use chip::Chip;
 pub use chunks::{pieces, Chunks, Piece, Pieces, CHUNK_LEN};
+pub use clock::{Ask, ClockError, TRANSACTION_MAX};
 pub use command::{Command, Target};
 pub use convert::{convert, convert_in, Conversion};
+pub use decode::{Asked, Decoder, Decoding, Fate, Place, SeenBits, SeenDate, Transaction, Watch};
 pub use error::ParseError;
-pub use item::{Drive, InLine, Item, SenseRegister, Timed};
+pub use item::{Drive, InLine, Item, SenseRegister, Timed, Values};
 pub use keyboard::{Keyboard, KeyboardFull, KeyboardState, INQUIRY_TICKS, KEYBOARD_LEN};
 pub use list::{items, Items, List};
 pub use machine::{Exchange, Exchanges, Machine, Run, Transcript};
@@ -87,3 +97,5 @@ pub use sheets::{
 pub use state::{DriveState, Phase, State, Strobe, Timer1, Timer2, Wires};
 pub use touches::{Touch, Touched, Touches};
 pub use units::{Micros, Seconds, TickCount, TooLong, ViaTicks, TICKS_PER_SECOND};
+pub use wire_dump::{wire_save_file, wire_steps, WireDump, WireForm, WIRES};
+pub use wire_import::{Femtoseconds, GapTooLong, WireEvent, WireImport};

@@ -20,6 +20,13 @@ pub struct Run {
 }
 
 impl Run {
+    #[allow(clippy::cast_possible_truncation, reason = "counts are at most the slices' lengths")]
+    fn of_report(report: sys::Report) -> Run {
+        let sys::Report { stop, consumed, written } = report;
+        let stop = Refusal::from_number(stop);
+        Run { stop, consumed: consumed as usize, written: written as usize }
+    }
+
     /// True where the run came to the end of its list.
     pub fn at_end(&self) -> bool {
         self.stop.is_none()
@@ -138,11 +145,14 @@ impl Machine {
     }
 
     /// Runs a list with a given room for answers. Bytes past those written keep their contents.
-    #[allow(clippy::cast_possible_truncation, reason = "counts are at most the slices' lengths")]
     pub fn run_in(&mut self, list: &[u8], room: &mut [u8]) -> Run {
-        let sys::Report { stop, consumed, written } = sys::run(&mut self.image, list, room);
-        let stop = Refusal::from_number(stop);
-        Run { stop, consumed: consumed as usize, written: written as usize }
+        Run::of_report(sys::run(&mut self.image, list, room))
+    }
+
+    /// The same by the plain engine: the clock chip's command bytes by their bit patterns, where
+    /// [`Machine::run_in`] looks them up in a table. That both do the same is proved.
+    pub fn run_in_plain(&mut self, list: &[u8], room: &mut [u8]) -> Run {
+        Run::of_report(sys::run_plain(&mut self.image, list, room))
     }
 
     /// Runs a list, and gives its items with their answers.

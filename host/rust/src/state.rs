@@ -146,6 +146,8 @@ pub struct State {
     pub flags: u8,
     /// Enables of flags 0 to 6.
     pub enables: u8,
+    /// Pulses of the keyboard's clock counted, 0 to 7. The eighth sets flag 2.
+    pub pulses: u8,
     /// The clock chip's transaction.
     pub phase: Phase,
     /// Only write-protect can be written.
@@ -264,6 +266,7 @@ impl State {
             pcr: f.byte(),
             flags: f.byte(),
             enables: f.byte(),
+            pulses: f.byte(),
             phase: f.phase(),
             protect: f.flag(),
             test: f.byte(),

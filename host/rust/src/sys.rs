@@ -19,6 +19,16 @@ extern "C" {
         consumed: *mut u64,
         written: *mut u64,
     ) -> u8;
+    fn swarmtempo_run_plain(
+        image: *mut c_uchar,
+        image_len: usize,
+        list: *const c_uchar,
+        list_len: usize,
+        answers: *mut c_uchar,
+        answers_len: usize,
+        consumed: *mut u64,
+        written: *mut u64,
+    ) -> u8;
     fn swarmtempo_image_len(cells: u32) -> u64;
     fn swarmtempo_ticks_of_micros(micros: u32) -> u32;
     fn swarmtempo_fresh(image: *mut c_uchar, image_len: usize, cells: u32) -> u8;
@@ -43,6 +53,16 @@ extern "C" {
     fn swarmtempo_sheet_compact(
         sheet: *const c_uchar,
         sheet_len: usize,
+        out: *mut c_uchar,
+        out_len: usize,
+        written: *mut u64,
+    ) -> u8;
+    fn swarmtempo_transaction(
+        image: *const c_uchar,
+        image_len: usize,
+        ask: u8,
+        number: u32,
+        value: u8,
         out: *mut c_uchar,
         out_len: usize,
         written: *mut u64,
@@ -83,13 +103,24 @@ pub struct Report {
     pub written: u64,
 }
 
-/// Runs a list on the state of an image.
-pub fn run(image: &mut [u8], list: &[u8], answers: &mut [u8]) -> Report {
+/// What a call of either engine's entry is given.
+type RunEntry = unsafe extern "C" fn(
+    *mut c_uchar,
+    usize,
+    *const c_uchar,
+    usize,
+    *mut c_uchar,
+    usize,
+    *mut u64,
+    *mut u64,
+) -> u8;
+
+fn run_by(entry: RunEntry, image: &mut [u8], list: &[u8], answers: &mut [u8]) -> Report {
     // Numbers that no run reports, so that one left unwritten would show.
     let (mut consumed, mut written) = (u64::MAX, u64::MAX);
     // SAFETY: three slices and two numbers that live through the call and do not overlap.
     let stop = unsafe {
-        swarmtempo_run(
+        entry(
             image.as_mut_ptr(),
             image.len(),
             list.as_ptr(),
@@ -101,6 +132,17 @@ pub fn run(image: &mut [u8], list: &[u8], answers: &mut [u8]) -> Report {
         )
     };
     Report { stop, consumed, written }
+}
+
+/// Runs a list on the state of an image.
+pub fn run(image: &mut [u8], list: &[u8], answers: &mut [u8]) -> Report {
+    run_by(swarmtempo_run, image, list, answers)
+}
+
+/// The same by the plain engine: command bytes of the clock chip by their bit patterns, not by the
+/// table.
+pub fn run_plain(image: &mut [u8], list: &[u8], answers: &mut [u8]) -> Report {
+    run_by(swarmtempo_run_plain, image, list, answers)
 }
 
 /// Bytes of an image of a machine with so many cells; 0 where no machine has so many.
@@ -120,6 +162,35 @@ pub fn ticks_of_micros(micros: u32) -> u32 {
 pub fn fresh(image: &mut [u8], cells: u32) -> u8 {
     // SAFETY: a slice that lives through the call, and a number.
     unsafe { swarmtempo_fresh(image.as_mut_ptr(), image.len(), cells) }
+}
+
+/// What a writer reports, as numbers.
+#[derive(Clone, Copy, Debug, PartialEq, Eq)]
+pub struct Transaction {
+    /// 0, or 7, 5, 10 or 6.
+    pub refusal: u8,
+    /// Bytes written.
+    pub written: u64,
+}
+
+/// Writes a transaction with the clock of the state of an image, asked for by numbers.
+pub fn transaction(image: &[u8], ask: u8, number: u32, value: u8, out: &mut [u8]) -> Transaction {
+    let mut written = u64::MAX;
+    // SAFETY: two slices, of which the first is only read, and a number that live through the call and
+    // do not overlap.
+    let refusal = unsafe {
+        swarmtempo_transaction(
+            image.as_ptr(),
+            image.len(),
+            ask,
+            number,
+            value,
+            out.as_mut_ptr(),
+            out.len(),
+            &raw mut written,
+        )
+    };
+    Transaction { refusal, written }
 }
 
 /// What a conversion reports, as numbers.

@@ -5,10 +5,12 @@
 //! 12t WR $EFE1FE $41      ; 12 VIA ticks, then a write
 //! 0t  RD VIA.IFR          ; an address by name
 //! 0t  WR IWM.LSTRB+ 0
+//! 0t  MW VIA.ORB $F9 $FB  ; many writes to one address, 1 to 64 values
 //! 12000us VB              ; 12,000 microseconds: 9,401 VIA ticks, rounded up; also SE and RS
 //! 0t  IN 3 1              ; line, level
 //! 0t  SN internal 6 0     ; drive, register, level
 //! 0t  DI internal 1 0 1   ; drive, insert, locked, double-sided
+//! 0t  KC 1                ; a pulse of the keyboard's clock, with its data level
 //! 0t  PW 5s               ; power cut, 5 seconds off
 //! RAW 05 00 53 45 00 00 00  ; bytes as they are
 //! ```

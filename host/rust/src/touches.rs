@@ -1,13 +1,13 @@
 //! What of a run can touch the clock chip.
 
-use crate::{pieces, Address, Item, Machine, Register, Run, Seconds, Timed, ANSWER_LEN};
+use crate::{pieces, Address, Item, Machine, Register, Run, Seconds, Timed, ViaTicks, ANSWER_LEN};
 use std::fmt;
 
-/// An item that can touch the clock chip. Two runs from one state that carry out the same of these, in
+/// An item that can touch the clock chip; an MW counts as its single writes. Two runs from one state that carry out the same of these, in
 /// the same order, leave the same cells, seconds, protect, test and half-made command.
 #[derive(Clone, Copy, Debug, PartialEq, Eq, Hash)]
 pub enum Touch {
-    /// A write to VIA register 0 ([`Register::ORB`]) or 2 ([`Register::DDRB`]).
+    /// A write to VIA register 0 ([`Register::ORB`]) or 2 ([`Register::DDRB`]): a WR, or a value of an MW.
     Write(Register, u8),
     /// A second tick.
     Second,
@@ -18,8 +18,14 @@ pub enum Touch {
 }
 
 impl Touch {
-    /// Of an item, where it is one of them.
-    pub fn of(item: Item) -> Option<Touch> {
+    /// Those of an item: one or none, and of an MW one for each value or none.
+    pub fn of(item: Item) -> impl Iterator<Item = Touch> {
+        let timed = Timed { wait: ViaTicks(0), item };
+        timed.singles().filter_map(|single| Touch::of_single(single.item))
+    }
+
+    /// That of an item which is no MW.
+    fn of_single(item: Item) -> Option<Touch> {
         match item {
             Item::Write(Address::Via(register @ (Register::ORB | Register::DDRB)), value) => {
                 Some(Touch::Write(register, value))
@@ -29,10 +35,12 @@ impl Touch {
             Item::Power(seconds) => Some(Touch::Power(seconds)),
             Item::Read(_)
             | Item::Write(..)
+            | Item::WriteMany(..)
             | Item::Blank
             | Item::In(..)
             | Item::Sense(..)
-            | Item::Disk { .. } => None,
+            | Item::Disk { .. }
+            | Item::Pulse(_) => None,
         }
     }
 }
@@ -111,7 +119,7 @@ impl Touches {
                 continue;
             };
             self.via_ticks += u64::from(wait.0);
-            if let Some(touch) = Touch::of(item) {
+            for touch in Touch::of(item) {
                 take(Touched { offset, via_ticks: self.via_ticks, touch });
             }
         }

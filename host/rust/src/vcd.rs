@@ -2,8 +2,8 @@
 //!
 //! A VIA tick is 1,276.55 nanoseconds. Items with no wait between them are drawn 10 nanoseconds apart,
 //! so that their order shows; where more than 127 come in one tick, what follows is late by that much.
-//! The state is taken after each item: what ends within a wait (a step of a drive, a timer) shows at
-//! its end.
+//! The state is taken after each item, of an MW after each of its values: what ends within a wait (a step
+//! of a drive, a timer) shows at its end.
 //!
 //! ```
 //! use swarmtempo::{vcd, Chip, List, Machine};
@@ -65,6 +65,45 @@ const TRACKS: [(&str, &str, u32); COUNT] = [
     ("list", "refused", 4),
 ];
 
+/// What a save file of `GTKWave` begins with: the dump, the save file itself (by which `GTKWave` finds
+/// the dump beside it), and a zoom at which all units of time up to the end are in sight.
+pub(crate) fn save_head(dump: &str, save: &str, end: u64) -> String {
+    // 200 pixels are 2 to the power of the zoom; a window of the size below shows about 800.
+    let zoom = (end.max(4) as f64 / 4.0).log2();
+    format!(
+        "[*] Swarmtempo\n[dumpfile] \"{dump}\"\n[savefile] \"{save}\"\n[timestart] 0\n\
+         [size] 1280 800\n[pos] -1 -1\n*-{zoom:.6} -1\n"
+    )
+}
+
+/// A save file of `GTKWave`, named `save`, for a dump that stands beside it, named `dump`, and ends at
+/// so many nanoseconds: all tracks in place, scope by scope, numbers as people read them.
+///
+/// ```
+/// let text = swarmtempo::vcd::save_file("cell.vcd", "cell.gtkw", 222_130);
+/// assert!(text.contains("[dumpfile] \"cell.vcd\"\n"));
+/// assert!(text.contains("@28\nswarmtempo.clock.enable\n"));
+/// ```
+pub fn save_file(dump: &str, save: &str, end: u64) -> String {
+    let mut out = save_head(dump, save, end);
+    let mut scope = "";
+    for (of, name, bits) in TRACKS {
+        if of != scope {
+            out.push_str(&format!("@200\n-{of}\n"));
+            scope = of;
+        }
+        // Binary for a wire, hexadecimal for a byte, decimal for a count, text for words.
+        let (flags, range) = match bits {
+            0 => ("820", String::new()),
+            1 => ("28", String::new()),
+            8 => ("22", "[7:0]".to_string()),
+            bits => ("24", format!("[{}:0]", bits - 1)),
+        };
+        out.push_str(&format!("@{flags}\nswarmtempo.{of}.{name}{range}\n"));
+    }
+    out
+}
+
 /// Runs a list record by record, with room for every answer, and writes the dump.
 ///
 /// # Errors
@@ -74,11 +113,12 @@ pub fn dump(machine: &mut Machine, list: &[u8], out: impl Write) -> io::Result<R
     let mut all = Run { stop: None, consumed: 0, written: 0 };
     for piece in pieces(list) {
         let mut answer = [0; ANSWER_LEN];
+        let before = machine.clone();
         let run = machine.run_in(piece.as_ref(), &mut answer);
         all.consumed += run.consumed;
         all.written += run.written;
         all.stop = run.stop;
-        vcd.record(piece, &answer, machine.state())?;
+        vcd.record(piece, &answer, before, machine.state())?;
         if all.stop.is_some() {
             break;
         }
@@ -154,7 +194,8 @@ impl<W: Write> Vcd<W> {
         Ok(vcd)
     }
 
-    /// After a record: its answer, and the state then.
+    /// After a record: its answer, the machine before it, and the state after it. The values of an MW are
+    /// written to that machine one by one, to see the wires after each; they are one item of the dump.
     ///
     /// # Errors
     /// Those of the output.
@@ -162,13 +203,29 @@ impl<W: Write> Vcd<W> {
         &mut self,
         piece: Piece<'_>,
         answer: &[u8; ANSWER_LEN],
+        before: Machine,
         after: State,
     ) -> io::Result<()> {
         match (Answer::read(answer), Timed::try_from(piece)) {
-            (Some(Answer::Ok(_)), Ok(timed)) => self.item(timed.wait, 0, after),
+            (Some(Answer::Ok(_)), Ok(timed)) => self.done(timed, before, after),
             (Some(Answer::No(refusal)), _) => self.item(ViaTicks(0), refusal.number(), after),
             _ => Ok(()),
         }
+    }
+
+    /// After an item that was done: a point for each single item that it stands for.
+    fn done(&mut self, timed: Timed, mut machine: Machine, after: State) -> io::Result<()> {
+        self.items += 1;
+        let mut singles = timed.singles().peekable();
+        while let Some(Timed { wait, item }) = singles.next() {
+            if singles.peek().is_none() {
+                return self.point(wait, 0, after);
+            }
+            // A write that an MW did is not refused.
+            let _ = machine.step(wait, item);
+            self.point(wait, 0, machine.state())?;
+        }
+        Ok(())
     }
 
     /// After an item: its wait (0 where it was refused), the refusal's number or 0, and the state then.
@@ -177,6 +234,11 @@ impl<W: Write> Vcd<W> {
     /// Those of the output.
     pub fn item(&mut self, wait: ViaTicks, refused: u8, after: State) -> io::Result<()> {
         self.items += 1;
+        self.point(wait, refused, after)
+    }
+
+    /// A point of the dump: so many VIA ticks after the one before, or a little later.
+    fn point(&mut self, wait: ViaTicks, refused: u8, after: State) -> io::Result<()> {
         self.ticks += u64::from(wait.0);
         let exact = u128::from(self.ticks) * 1_000_000_000 / u128::from(TICKS_PER_SECOND);
         self.nanoseconds = u64::try_from(exact)
@@ -189,12 +251,17 @@ impl<W: Write> Vcd<W> {
         Ok(())
     }
 
+    /// Where the dump ends, in nanoseconds.
+    pub fn end(&self) -> u64 {
+        self.nanoseconds.saturating_add(GAP_NANOSECONDS)
+    }
+
     /// The end of the list. The output is given back, flushed.
     ///
     /// # Errors
     /// Those of the output.
     pub fn finish(mut self) -> io::Result<W> {
-        let end = format!("#{}\n", self.nanoseconds.saturating_add(GAP_NANOSECONDS));
+        let end = format!("#{}\n", self.end());
         self.out.write_all(end.as_bytes())?;
         self.out.flush()?;
         Ok(self.out)

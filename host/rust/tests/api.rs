@@ -7,13 +7,20 @@ use std::fmt::{Debug, Display};
 use std::str::FromStr;
 use swarmtempo::text::{LineError, TextError};
 use swarmtempo::{
-    answers, items, sys, table, vcd, Address, Answer, Chip, DiskLine, Drive, InLine, Item,
-    KeyboardFull, Lines, List, Machine, Micros, NoAnswer, ParseError, Phase, Refusal, Register,
-    Seconds, Seen, SenseRegister, Setting, State, TickCount, Timed, TooLong, UnknownRefusal,
-    ViaTicks, ANSWER_LEN, INQUIRY_TICKS, KEYBOARD_LEN, SETTING_MAX, TICKS_PER_SECOND,
+    answers, items, sys, table, vcd, Address, Answer, Ask, Chip, ClockError, DiskLine, Drive,
+    InLine, Item, KeyboardFull, Lines, List, Machine, Micros, NoAnswer, ParseError, Phase, Refusal,
+    Register, Seconds, Seen, SenseRegister, Setting, State, TickCount, Timed, TooLong,
+    UnknownRefusal, Values, ViaTicks, ANSWER_LEN, INQUIRY_TICKS, KEYBOARD_LEN, SETTING_MAX,
+    TICKS_PER_SECOND, TRANSACTION_MAX,
 };
 
 const NOW: ViaTicks = ViaTicks(0);
+
+/// As many values as there can be.
+fn many() -> Values {
+    let values: Vec<u8> = (0..Values::MAX).map(|i| 0xC1 ^ i as u8).collect();
+    Values::new(&values).expect("64 of them")
+}
 
 /// A sample of each kind. The match has no other arm, so a new kind has to come in here.
 fn samples() -> Vec<Item> {
@@ -21,11 +28,13 @@ fn samples() -> Vec<Item> {
     let all = vec![
         Item::Read(Address::Iwm(DiskLine::LSTRB, true)),
         Item::Write(Address::Via(Register::T1CH), 0xA5),
+        Item::WriteMany(Address::Via(Register::DDRB), many()),
         Item::Blank,
         Item::Second,
         Item::In(line, true),
         Item::Sense(Drive::External, register, true),
         Item::Disk { drive: Drive::External, insert: true, locked: false, double_sided: true },
+        Item::Pulse(true),
         Item::Reset,
         Item::Power(Seconds(0x8765_4321)),
     ];
@@ -33,11 +42,13 @@ fn samples() -> Vec<Item> {
         match item {
             Item::Read(_)
             | Item::Write(..)
+            | Item::WriteMany(..)
             | Item::Blank
             | Item::Second
             | Item::In(..)
             | Item::Sense(..)
             | Item::Disk { .. }
+            | Item::Pulse(_)
             | Item::Reset
             | Item::Power(_) => {}
         }
@@ -268,7 +279,7 @@ fn runs_give_items_with_answers() {
     assert!(rows[0].contains("VIA ticks"));
     assert!(rows[1].ends_with("9  9t WR VIA.IER $81                  -      0    1  -"), "{table}");
     assert!(rows[2].ends_with("NO 3: length wrong for the kind"));
-    assert!(rows[3].starts_with("       3             12  3t SE"));
+    assert!(rows[3].starts_with("       3          18             12  3t SE"), "{table}");
     assert_eq!(rows.len(), 5);
     let run = transcript.run();
     assert_eq!(run.to_string(), "stop 1 (record cut short): 4 answers, 24 bytes consumed");
@@ -296,6 +307,89 @@ fn dumps() {
     assert!(vcd::dump(&mut Machine::fresh(Chip::First), &cut, Full).is_err());
 }
 
+/// An MW has a point for each value, all of them one item: the first after the wait, the others 10 ns
+/// apart. The wires are seen after each.
+#[test]
+fn dumps_of_many_writes() {
+    let many: List =
+        "1t WR VIA.ORB 4\n0t WR VIA.DDRB 7\n6t MW VIA.ORB 0 1 3 4\n2t SE".parse().unwrap();
+    let singles: List = many.iter().flat_map(|timed| timed.unwrap().singles()).collect();
+    let (mut dumped, mut single) = (Machine::fresh(Chip::First), Machine::fresh(Chip::First));
+    let (mut dump, mut other) = (Vec::new(), Vec::new());
+    assert!(vcd::dump(&mut dumped, many.as_ref(), &mut dump).unwrap().at_end());
+    assert!(vcd::dump(&mut single, singles.as_ref(), &mut other).unwrap().at_end());
+    assert_eq!(dumped, single);
+    let (dump, other) = (String::from_utf8(dump).unwrap(), String::from_utf8(other).unwrap());
+    let times: Vec<&str> = dump.lines().filter(|line| line.starts_with('#')).collect();
+    let expected = ["#0", "#1276", "#1286", "#8935", "#8945", "#8955", "#8965", "#11488", "#11498"];
+    assert_eq!(times, expected);
+    // The same but for the numbers of the items.
+    let code = dump.lines().find_map(|line| line.strip_suffix(" item $end")).unwrap();
+    let code = format!(" {}", code.split(' ').next_back().unwrap());
+    let but_items = |dump: &str| -> Vec<String> {
+        dump.lines().filter(|line| !line.ends_with(&code)).map(String::from).collect()
+    };
+    assert_eq!(but_items(&dump), but_items(&other));
+    let items: Vec<&str> =
+        dump.lines().filter(|line| line.starts_with('b') && line.ends_with(&code)).collect();
+    assert_eq!(items.len(), 5, "none, and four items: {items:?}");
+}
+
+/// The table has an MW's first value and their number, the bit that a KC shifts out, and one row each,
+/// with the byte offset of its record.
+#[test]
+fn tables_of_both_kinds() {
+    let list: List =
+        "5t MW VIA.SR 1 $80\n1t MW VIA.ACR 0 0 0 $1C\n0t KC 0\n0t KC 0\n0t WR VIA.ORB 1"
+            .parse()
+            .unwrap();
+    let table = Machine::fresh(Chip::First).run_items(&list).to_string();
+    let rows: Vec<&str> = table.lines().skip(1).collect();
+    for (row, part) in rows.iter().zip([
+        "       1           0              5  5t MW VIA.SR $01 $80               -      0    1  -",
+        "       2          13              6  1t MW VIA.ACR $00 .. (4)           -      0    1  -",
+        "       3          28              6  0t KC 0                          $01      0    1  -",
+        "       4          35              6  0t KC 0                          $00      0    1  -",
+        "       5          42              6  0t WR VIA.ORB $01                  -      0    1  -",
+    ]) {
+        assert_eq!(*row, part);
+    }
+    assert_eq!(rows.len(), 5);
+}
+
+/// Refusals of an MW in their order.
+#[test]
+fn refusals_of_many_writes() {
+    let read = |address: u32, count: u8, values: usize| {
+        let mut record = b"MW\x09\x00".to_vec();
+        record.extend(address.to_le_bytes());
+        record.push(count);
+        record.resize(9 + values, 7);
+        let (length, mut answer) = (record.len() as u16, [0; ANSWER_LEN]);
+        let list = [&length.to_le_bytes()[..], &record].concat();
+        Machine::fresh(Chip::First).run_in(&list, &mut answer);
+        let item = Item::read(&record).map(|(wait, item)| (wait.0, item.kind()));
+        assert_eq!(Answer::read(&answer).unwrap().result().err(), item.err(), "{record:02X?}");
+        item
+    };
+    let (right, wrong) = (0xDF_E1FF, 0xDF_E200);
+    assert_eq!(read(right, 64, 64), Ok((9, b"MW")));
+    assert_eq!(read(right, 1, 1), Ok((9, b"MW")));
+    for (count, values) in [(0, 0), (65, 65), (1, 2), (1, 1)] {
+        assert_eq!(read(wrong, count, values), Err(Refusal::Address));
+    }
+    for (count, values) in [(0, 0), (0, 1), (65, 65), (65, 64), (255, 255)] {
+        assert_eq!(read(right, count, values), Err(Refusal::Range));
+    }
+    for (count, values) in [(1, 0), (1, 2), (64, 63), (64, 65)] {
+        assert_eq!(read(right, count, values), Err(Refusal::Length));
+    }
+    let short = Item::read(b"MW\0\0\xFF\xE1\xDF\x01");
+    assert_eq!(short, Err(Refusal::Length), "a length of 8, whatever the address");
+    assert_eq!(Item::read(b"KC\0\0\x02"), Err(Refusal::Range));
+    assert_eq!(Item::read(b"KC\0\0"), Err(Refusal::Length));
+}
+
 /// Takes nothing.
 struct Full;
 
@@ -312,16 +406,18 @@ impl std::io::Write for Full {
 #[test]
 fn states_in_words() {
     let mut machine = Machine::fresh(Chip::First);
-    let text = "0t WR VIA.ORB 4\n0t WR VIA.DDRB 7\n0t WR VIA.ORB 0\n0t WR VIA.ORB 2\n0t DI external 1 1 1\n0t IN 5 1";
+    let text = "0t WR VIA.ORB 4\n0t WR VIA.DDRB 7\n0t WR VIA.ORB 0\n0t WR VIA.ORB 2\n0t DI external 1 1 1\n0t IN 5 1\n0t WR VIA.ACR $0C\n0t KC 1\n0t KC 0\n0t KC 1";
     machine.run(text.parse::<List>().unwrap(), &mut Vec::new());
     let state: State = machine.state();
     let inputs: [bool; 7] = state.inputs;
     assert_eq!((&state.cells[..], inputs[5]), (&[0; 20][..], true));
+    assert_eq!((state.sr, state.pulses), (0b101, 3));
     assert_eq!(state.phase, Phase::Listening { bits: 1, value: 0 });
     let words = machine.to_string();
     assert!(words.ends_with(&state.to_string()));
     for part in [
-        "State image of kind ST, 123 bytes",
+        "State image of kind ST, 124 bytes",
+        "shift     in by the keyboard's clock, 3 of 8 pulses counted",
         "IN 5      1 (serial chip asks)",
         "enable 0 (low active), data-clock 1, data 0",
         "half-made: 1 bit, 0 of the command taken",
@@ -340,10 +436,13 @@ fn states_in_words() {
 
 #[test]
 fn errors_are_errors() {
-    let errors: [Box<dyn Error + Send + Sync>; 7] = [
+    let errors: [Box<dyn Error + Send + Sync>; 10] = [
         Box::new(Refusal::Range),
         Box::new(UnknownRefusal(77)),
         Box::new(NoAnswer),
+        Box::new(ClockError::Range),
+        Box::new(ClockError::Enable),
+        Box::new(ClockError::Protected),
         Box::new(TooLong(TickCount(65_536))),
         Box::new("5".parse::<ViaTicks>().unwrap_err()),
         Box::new("5 SE".parse::<Timed>().unwrap_err()),
@@ -386,6 +485,7 @@ fn the_header_has_the_same_numbers() {
         assert_eq!(number_of(length) as usize, chip.image_len());
         assert_eq!(sys::image_len(number_of(cells)), chip.image_len() as u64);
     }
+    assert_eq!(number_of("VALUES_MAX") as usize, Values::MAX);
     let longest =
         samples().into_iter().map(|item| Timed { wait: NOW, item }.to_bytes().len()).max();
     assert_eq!(Some(number_of("ITEM_MAX") as usize), longest);
@@ -407,6 +507,31 @@ fn the_header_has_the_same_numbers() {
         let found = sys::sheet_get(bench, house, 0);
         assert_eq!(number_of(&format!("SHEET_{name}")), u32::from(found.sheet));
     }
+    for (name, ask) in [
+        ("WRITE_CELL", Ask::WriteCell(0, 0)),
+        ("READ_CELL", Ask::ReadCell(0)),
+        ("WRITE_SECONDS", Ask::WriteSeconds(0, 0)),
+        ("READ_SECONDS", Ask::ReadSeconds(0)),
+        ("WRITE_PROTECT", Ask::WriteProtect(0)),
+    ] {
+        assert_eq!(number_of(name), u32::from(ask.numbers().0));
+    }
+    let mut longest = (0, 0);
+    for (name, ask) in [
+        ("WRITE", Ask::WriteCell(19, 0)),
+        ("READ", Ask::ReadCell(19)),
+        ("WRITE_FAR", Ask::WriteCell(20, 0)),
+        ("READ_FAR", Ask::ReadCell(20)),
+    ] {
+        let list = Machine::fresh(Chip::Later).transaction(ask).expect("enable is up");
+        let long = (list.as_bytes().len(), list.iter().count());
+        assert_eq!(number_of(&format!("{name}_LEN")) as usize, long.0);
+        assert_eq!(number_of(&format!("{name}_ITEMS")) as usize, long.1);
+        longest = longest.max(long);
+    }
+    assert_eq!(number_of("TRANSACTION_MAX") as usize, longest.0);
+    assert_eq!(number_of("TRANSACTION_ITEMS_MAX") as usize, longest.1);
+    assert_eq!(TRANSACTION_MAX, longest.0);
     // Every kind has its writer.
     for kind in Item::KINDS {
         let letters = std::str::from_utf8(kind).unwrap().to_lowercase();
@@ -418,8 +543,12 @@ fn the_header_has_the_same_numbers() {
 fn refusals_have_the_same_numbers_and_words_in_c() {
     let words = include_str!("../../c/words.c");
     let cases = words.lines().filter(|line| line.trim_start().starts_with("case "));
-    // None, those of lists and images, and the keyboard's.
-    assert_eq!(cases.count(), 1 + Refusal::ALL.len() + 1);
+    // None, those of lists and images, the keyboard's, and the writer's own.
+    assert_eq!(cases.count(), 1 + Refusal::ALL.len() + 2);
+    let enable = ClockError::Enable;
+    assert_eq!(enable.number(), u8::try_from(number_of("REFUSED_ENABLE")).ok());
+    assert!(words.contains(&format!("case SWARMTEMPO_REFUSED_ENABLE: return \"{enable}\";")));
+    assert_eq!(ClockError::Range.number(), Some(Refusal::Range.number()));
     assert_eq!(number_of("REFUSED_KEY"), u32::from(KeyboardFull::NUMBER));
     assert!(words.contains(&format!("case SWARMTEMPO_REFUSED_KEY: return \"{KeyboardFull}\";")));
     for refusal in Refusal::ALL {

@@ -5,7 +5,7 @@ use std::str::FromStr;
 use swarmtempo::{
     answers, items, pieces, table, vcd, Address, Answer, Chip, Chunks, Command, DiskLine, Drive,
     InLine, Item, List, Machine, Micros, Refusal, Register, Seconds, SenseRegister, TickCount,
-    Timed, ViaTicks, ANSWER_LEN,
+    Timed, Values, ViaTicks, ANSWER_LEN,
 };
 
 /// Random numbers (splitmix64).
@@ -45,7 +45,7 @@ fn some_item(random: &mut Random) -> Timed {
     let mut level = || random.byte() % 2 == 1;
     let disk = [level(), level(), level()];
     let number = random.byte();
-    let item = match random.below(9) {
+    let item = match random.below(11) {
         0 => Item::Read(address),
         1 => Item::Write(address, number),
         2 => Item::Blank,
@@ -54,6 +54,11 @@ fn some_item(random: &mut Random) -> Timed {
         5 => Item::Sense(drive, SenseRegister::new(number % 16).expect("a register"), disk[0]),
         6 => Item::Disk { drive, insert: disk[0], locked: disk[1], double_sided: disk[2] },
         7 => Item::Reset,
+        8 => Item::Pulse(disk[0]),
+        9 => {
+            let values: Vec<u8> = (0..=number % 64).map(|_| random.byte()).collect();
+            Item::WriteMany(address, Values::new(&values).expect("1 to 64"))
+        }
         _ => Item::Power(Seconds(number.into())),
     };
     Timed { wait: ViaTicks(u16::from_le_bytes([random.byte(), random.byte() % 3])), item }

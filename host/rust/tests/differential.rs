@@ -1,16 +1,21 @@
-//! The library against the plain model on random lists: answers, counts and images.
+//! The library, by the table and by the plain engine, against the plain model on random lists: answers,
+//! counts and images.
 //!
 //! `SWARMTEMPO_SEED` takes another seed (the fixed one is 1), `SWARMTEMPO_LISTS` another number of
 //! lists.
 //! A difference is made small and printed.
 
+#[path = "differential/decode.rs"]
+mod decode;
 #[path = "differential/laws.rs"]
 mod laws;
 #[path = "differential/touches.rs"]
 mod touches;
+#[path = "differential/transactions.rs"]
+mod transactions;
 
 use swarmtempo::text::disassemble;
-use swarmtempo::{sys, Address, Chip, DiskLine, Machine, Register};
+use swarmtempo::{pieces, sys, Address, Chip, DiskLine, Machine, Register};
 use swarmtempo_model as model;
 
 const LISTS: u64 = 250_000;
@@ -71,10 +76,18 @@ fn by_model(case: &Case) -> Left {
     Left { stop: run.stop, consumed: run.consumed, written: run.written, answers, image }
 }
 
-/// By the C entry itself, so that images that are not accepted can be given too.
+/// One of the two engines: the C entry itself, so that images that are not accepted can be given too.
+type Engine = fn(&mut [u8], &[u8], &mut [u8]) -> sys::Report;
+
+const ENGINES: [(&str, Engine); 2] = [("library", sys::run), ("plain engine", sys::run_plain)];
+
 fn by_library(case: &Case) -> Left {
+    by_engine(sys::run, case)
+}
+
+fn by_engine(engine: Engine, case: &Case) -> Left {
     let (mut image, mut answers) = (case.image.clone(), vec![UNUSED; case.room]);
-    let run = sys::run(&mut image, &case.parts.concat(), &mut answers);
+    let run = engine(&mut image, &case.parts.concat(), &mut answers);
     let [consumed, written] =
         [run.consumed, run.written].map(|n| usize::try_from(n).expect("64 bits"));
     Left { stop: run.stop, consumed, written, answers, image }
@@ -113,6 +126,14 @@ impl Maker<'_> {
         self.record(b"WR", wait, &rest);
     }
 
+    /// An MW of these values.
+    fn mw(&mut self, wait: u16, address: Address, values: &[u8]) {
+        let mut rest = address.number().to_le_bytes().to_vec();
+        rest.push(values.len() as u8);
+        rest.extend_from_slice(values);
+        self.record(b"MW", wait, &rest);
+    }
+
     fn rd(&mut self, wait: u16, register: Register) {
         self.record(b"RD", wait, &Address::Via(register).number().to_le_bytes());
     }
@@ -133,7 +154,7 @@ impl Maker<'_> {
     fn item(&mut self) {
         let wait = self.wait();
         let odd = usize::from(self.random.one_in(12));
-        match self.random.below(12) {
+        match self.random.below(15) {
             0..=2 => {
                 let address = self.address().to_le_bytes();
                 self.record(b"RD", wait, &address);
@@ -160,6 +181,11 @@ impl Maker<'_> {
             10 if self.random.one_in(4) => self.record(b"RS", wait, &[]),
             10 if self.random.one_in(2) => self.place(wait, odd),
             10 => self.disk(),
+            12 | 13 => self.many(wait),
+            14 => {
+                let level = self.random.below(2 + odd) as u8;
+                self.record(b"KC", wait, &[level]);
+            }
             _ if self.random.one_in(4) => {
                 let seconds = self.random.next() as u32;
                 let seconds = self.random.pick(&[0, 1, 5, seconds, u32::MAX]);
@@ -167,6 +193,25 @@ impl Maker<'_> {
             }
             _ => self.rd(wait, Register::IFR),
         }
+    }
+
+    /// An MW of random values; now and then a count that is not theirs, or a record cut in its body.
+    fn many(&mut self, wait: u16) {
+        let count = self.random.pick(&[1, 1, 2, 3, 17, 63, 64, 64, 65]);
+        let count = if self.random.one_in(3) { self.random.below(67) } else { count };
+        let said = match self.random.below(16) {
+            0 => self.random.pick(&[0, 1, 64, 65, 128, 255]),
+            1 => count as u8 + 1,
+            2 => (count as u8).wrapping_sub(1),
+            _ => count as u8,
+        };
+        let mut rest = self.address().to_le_bytes().to_vec();
+        rest.push(said);
+        rest.extend((0..count).map(|_| self.random.byte()));
+        if self.random.one_in(40) {
+            rest.truncate(self.random.below(7));
+        }
+        self.record(b"MW", wait, &rest);
     }
 
     /// A disk inserted or removed.
@@ -213,6 +258,10 @@ impl Maker<'_> {
             left -= u32::from(wait);
             if left == 0 && !self.random.one_in(5) {
                 self.line(wait, DiskLine::LSTRB, false);
+            } else if self.random.one_in(10) {
+                // SEL, which may move and come back within the item.
+                let values = self.random.pick(&[[0x20, 0x00], [0x00, 0x20], [0x00, 0x00]]);
+                self.mw(wait, Address::Via(Register::ORANH), &values);
             } else if self.random.one_in(12) {
                 let line = self.random.pick(&DiskLine::ALL);
                 let on = self.random.one_in(2);
@@ -382,6 +431,73 @@ impl Maker<'_> {
         }
     }
 
+    /// A transaction in one MW, or in a few: port B's values, or its directions, one after the other.
+    fn in_one(&mut self) {
+        let bytes = self.command();
+        let bits = self.bits(bytes[0]);
+        let high = self.random.byte() & 0xF8;
+        let bit = |i: usize| bytes[i / 8] >> (7 - i % 8) & 1;
+        let (register, mut values) = if self.random.one_in(4) {
+            self.wr(0, Register::ORB, high);
+            let low = |i: usize| high | (1 - bit(i));
+            let edges = (0..bits).flat_map(|i| [low(i) | 6, low(i) | 4]);
+            (Register::DDRB, [high | 6].into_iter().chain(edges).collect::<Vec<u8>>())
+        } else {
+            self.wr(0, Register::ORB, high | 4);
+            self.wr(0, Register::DDRB, high | 7);
+            let edges = (0..bits).flat_map(|i| [high | bit(i), high | bit(i) | 2]);
+            (Register::ORB, [high].into_iter().chain(edges).collect())
+        };
+        if !self.random.one_in(3) {
+            let end = if register == Register::ORB { high | 4 } else { high };
+            values.push(end);
+        }
+        if self.random.one_in(4) {
+            // One more edge somewhere: enable up and down again, or a level again.
+            let at = self.random.below(values.len());
+            let more = self.random.pick(&[[high | 4, high], [values[at]; 2]]);
+            values.splice(at..at, more);
+        }
+        let most = if self.random.one_in(4) { 1 + self.random.below(64) } else { 64 };
+        for part in values.chunks(most) {
+            let wait = self.wait();
+            self.mw(wait, Address::Via(register), part);
+            self.between();
+        }
+    }
+
+    /// Pulses of the keyboard's clock in every mode, and what clears flag 2 or starts the count anew.
+    fn shift(&mut self) {
+        if self.random.one_in(2) {
+            self.wr(0, Register::IER, 0x84);
+        }
+        for _ in 0..=self.random.below(3) {
+            let any = self.random.byte();
+            let acr = self.random.pick(&[0x0C, 0x1C, 0x0C | any & 0xE3, 0x1C | any & 0xE3, any]);
+            self.wr(0, Register::ACR, acr);
+            for _ in 0..self.random.below(18) {
+                let wait = self.random.pick(&[0, 0, 0, 1, 300]);
+                let level = self.random.below(2) as u8;
+                self.record(b"KC", wait, &[level]);
+                let any = self.random.byte();
+                match self.random.below(40) {
+                    0 => self.rd(0, Register::SR),
+                    1 => self.wr(0, Register::SR, any),
+                    2 => self.mw(0, Address::Via(Register::SR), &[any, !any]),
+                    3 => self.wr(0, Register::IFR, any),
+                    4 => self.rd(0, Register::IFR),
+                    5 => self.record(b"RS", 0, &[]),
+                    6 => self.item(),
+                    _ => {}
+                }
+            }
+        }
+        if self.random.one_in(3) {
+            let register = self.random.pick(&[Register::SR, Register::IFR]);
+            self.rd(0, register);
+        }
+    }
+
     /// Loads a timer and waits around its passages.
     fn timers(&mut self) {
         let latch = match self.random.below(6) {
@@ -458,7 +574,9 @@ impl Maker<'_> {
     }
 
     fn part(&mut self) {
-        match self.random.below(24) {
+        match self.random.below(30) {
+            24..=26 => self.in_one(),
+            27..=29 => self.shift(),
             20..=23 => (0..=self.random.below(3)).for_each(|_| self.strobe()),
             0..=4 => self.by_port(),
             5..=7 => self.by_direction(),
@@ -485,8 +603,8 @@ fn some_list(random: &mut Random, chip: model::Chip, most: usize) -> Vec<Vec<u8>
 fn some_image(random: &mut Random, chip: model::Chip) -> Vec<u8> {
     let mut image = model::fresh_image(chip);
     let later = chip == model::Chip::Later;
-    let cells = if later { 123..359 } else { 0..0 };
-    for at in (4..12).chain(14..17).chain(18..23).chain(28..53).chain(cells) {
+    let cells = if later { 124..360 } else { 0..0 };
+    for at in (4..12).chain(14..17).chain(18..23).chain(29..54).chain(cells) {
         if random.one_in(2) {
             image[at] = random.byte();
         }
@@ -495,10 +613,11 @@ fn some_image(random: &mut Random, chip: model::Chip) -> Vec<u8> {
     image[9] = random.pick(&[0, 0, 255]);
     image[21] &= 0x7F;
     image[22] &= 0x7F;
-    for at in [12, 13, 17, 27].into_iter().chain(53..100) {
+    image[23] = random.below(8) as u8;
+    for at in [12, 13, 17, 28].into_iter().chain(54..101) {
         image[at] = random.byte() & 1;
     }
-    for drive in [100, 109] {
+    for drive in [101, 110] {
         let disk = random.byte() & 1;
         let left = random.pick(&[0u16, 0, 1, 2, 9_400, 9_401]);
         let fields = [
@@ -513,10 +632,10 @@ fn some_image(random: &mut Random, chip: model::Chip) -> Vec<u8> {
         image[drive + 6..drive + 8].copy_from_slice(&left.to_le_bytes());
         image[drive + 8] = u8::from(left > 0) & random.byte();
     }
-    if image[56] == 1 && image[57] == 1 && !random.one_in(4) {
+    if image[57] == 1 && image[58] == 1 && !random.one_in(4) {
         let ticks = random.pick(&[0u32, 1, 782, 783, 784, 391_679, 391_680]);
-        image[118..122].copy_from_slice(&ticks.to_le_bytes());
-        image[122] = 1;
+        image[119..123].copy_from_slice(&ticks.to_le_bytes());
+        image[123] = 1;
     }
     let low = !random.one_in(5);
     image[4] = image[4] & 0xFB | if low { 0 } else { 4 };
@@ -539,7 +658,7 @@ fn some_image(random: &mut Random, chip: model::Chip) -> Vec<u8> {
             }
             // A write of two bytes, with some of its data.
             6 | 7 => {
-                image[359] = random.byte() & 0x7C;
+                image[360] = random.byte() & 0x7C;
                 [5, 0x38 | random.byte() & 7, bits, value]
             }
             2 => {
@@ -549,7 +668,7 @@ fn some_image(random: &mut Random, chip: model::Chip) -> Vec<u8> {
             3 => [3, 0, random.below(9) as u8, random.byte()],
             _ => [4, 0, 0, 0],
         };
-        image[23..27].copy_from_slice(&phase);
+        image[24..28].copy_from_slice(&phase);
     }
     image
 }
@@ -569,7 +688,7 @@ fn odd_phase(random: &mut Random) -> [u8; 4] {
 
 /// A field of the drives or of the strobe at or past the edges of its range.
 fn odd_drives(random: &mut Random, image: &mut [u8]) {
-    let drive = random.pick(&[100, 109]);
+    let drive = random.pick(&[101, 110]);
     match random.below(5) {
         0 => image[drive] = random.pick(&[79, 80, 255]),
         1 => {
@@ -579,10 +698,10 @@ fn odd_drives(random: &mut Random, image: &mut [u8]) {
         }
         2 => {
             let ticks = random.pick(&[0u32, 1, 391_680, 391_681, 1 << 24]);
-            image[118..122].copy_from_slice(&ticks.to_le_bytes());
-            image[122] = random.byte() & 1;
+            image[119..123].copy_from_slice(&ticks.to_le_bytes());
+            image[123] = random.byte() & 1;
         }
-        3 => image[56 + random.below(2)] ^= 1,
+        3 => image[57 + random.below(2)] ^= 1,
         _ => image[drive + 1 + random.below(5)] ^= random.pick(&[1, 1, 2]),
     }
 }
@@ -624,17 +743,18 @@ fn some_case(seed: u64) -> Case {
     };
     if random.one_in(12) {
         // Mostly an image that no state has.
-        match random.below(14) {
+        match random.below(15) {
             0 => image.truncate(random.below(image.len())),
             1 => image.push(0),
             2..=4 => {
-                image[23..27].copy_from_slice(&odd_phase(random));
+                image[24..28].copy_from_slice(&odd_phase(random));
                 if random.one_in(2) {
-                    image[23] = random.pick(&[2, 5, 5]);
+                    image[24] = random.pick(&[2, 5, 5]);
                     set_last(&mut image, random.pick(&[0, 4, 0x7C, 0x7D, 0x80]));
                 }
             }
             12 => other_kind(random, &mut image),
+            14 => image[23] = random.pick(&[7, 8, 9, 16, 128, 255]),
             13 => set_last(&mut image, random.pick(&[1, 4, 0x7C, 0x7D])),
             5 | 6 => odd_drives(random, &mut image),
             _ => {
@@ -647,6 +767,19 @@ fn some_case(seed: u64) -> Case {
     let whole = 8 * (parts.len() + 8);
     let room = if random.one_in(6) { random.below(whole) } else { whole };
     Case { image, parts, room }
+}
+
+/// A sound MW of two values or more, without one of them.
+fn without_value(part: &[u8], value: usize) -> Option<Vec<u8>> {
+    let count = part.len().checked_sub(11)?;
+    if part[2..4] != *b"MW" || count < 2 || usize::from(part[10]) != count || value >= count {
+        return None;
+    }
+    let mut less = part.to_vec();
+    less.remove(11 + value);
+    less[0] -= 1;
+    less[10] -= 1;
+    Some(less)
 }
 
 /// The smallest case found that still differs.
@@ -672,6 +805,19 @@ fn shrink(mut case: Case, differs: impl Fn(&Case) -> bool) -> Case {
             }
             width /= 2;
         }
+        // Values left out of an MW, one by one.
+        let places = (0..case.parts.len()).flat_map(|part| (0..64).map(move |value| (part, value)));
+        for (at, value) in places {
+            if better.is_none() {
+                better = without_value(&case.parts[at], value)
+                    .map(|part| {
+                        let mut less = case.clone();
+                        less.parts[at] = part;
+                        less
+                    })
+                    .filter(&differs);
+            }
+        }
         // Bytes made 0, one by one, waits first.
         for at in 0..if better.is_none() { case.parts.len() } else { 0 } {
             for byte in 2..case.parts[at].len() {
@@ -689,6 +835,7 @@ fn shrink(mut case: Case, differs: impl Fn(&Case) -> bool) -> Case {
 }
 
 fn report(case: &Case, seed: u64, index: u64) -> String {
+    let [library, plain] = ENGINES.map(|(_, engine)| by_engine(engine, case));
     let list = case.parts.concat();
     let fresh = model::Chip::BOTH.into_iter().find(|&it| case.image == model::fresh_image(it));
     let image = match fresh {
@@ -696,11 +843,10 @@ fn report(case: &Case, seed: u64, index: u64) -> String {
         None => format!("{:02X?}", case.image),
     };
     format!(
-        "list {index} of seed {seed}\nimage: {image}\nanswer room: {} bytes\nlist:\n{}bytes: {list:02X?}\nmodel:   {:02X?}\nlibrary: {:02X?}",
+        "list {index} of seed {seed}\nimage: {image}\nanswer room: {} bytes\nlist:\n{}bytes: {list:02X?}\nmodel:   {:02X?}\nlibrary: {library:02X?}\nplain:   {plain:02X?}",
         case.room,
         disassemble(&list),
         by_model(case),
-        by_library(case),
     )
 }
 
@@ -730,13 +876,26 @@ struct Reached {
     moved: u64,
     motors: u64,
     strobes: u64,
+    /// Answers to MW: carried out, and refused by number.
+    many: [u64; 10],
+    /// Bits 1 shifted out, lists that leave flag 2 set, and the pulse counts that lists leave.
+    bits_out: u64,
+    shifted: u64,
+    pulses: [u64; 8],
 }
 
 impl Reached {
     fn count(&mut self, case: &Case, left: &Left) {
         self.stops[usize::from(left.stop)] += 1;
-        for answer in left.answers[..left.written].chunks(8) {
+        let list = case.parts.concat();
+        for (piece, answer) in pieces(&list).zip(left.answers[..left.written].chunks(8)) {
             self.answers += 1;
+            let refused = if answer[2] == b'N' { answer[4] } else { 0 };
+            match piece.as_ref().get(2..4) {
+                Some(b"MW") => self.many[usize::from(refused)] += 1,
+                Some(b"KC") => self.bits_out += u64::from(refused == 0 && answer[4] == 1),
+                _ => {}
+            }
             if answer[2] == b'N' {
                 self.refusals[usize::from(answer[4])] += 1;
             } else {
@@ -747,16 +906,18 @@ impl Reached {
             let later = left.image[3] == b'X';
             assert_eq!(left.image[..4], case.image[..4], "no run changes the chip");
             self.chips[usize::from(later)] += 1;
-            self.phases[usize::from(left.image[23])] += 1;
-            let first = left.image[24] & 0x78 == 0x38;
-            self.second_bytes += u64::from(left.image[23] == 2 && first);
-            self.far_cells += u64::from(later && left.image[123..359] != case.image[123..359]);
-            self.protected += u64::from(left.image[27]);
-            self.cells += u64::from(left.image[33..53] != case.image[33..53]);
-            self.moved += u64::from(left.image[100] != case.image[100]);
-            self.motors += u64::from(left.image[105] != case.image[105]);
-            self.strobes += u64::from(left.image[122]);
-            self.seconds += u64::from(left.image[29..33] != case.image[29..33]);
+            self.phases[usize::from(left.image[24])] += 1;
+            let first = left.image[25] & 0x78 == 0x38;
+            self.second_bytes += u64::from(left.image[24] == 2 && first);
+            self.far_cells += u64::from(later && left.image[124..360] != case.image[124..360]);
+            self.protected += u64::from(left.image[28]);
+            self.cells += u64::from(left.image[34..54] != case.image[34..54]);
+            self.moved += u64::from(left.image[101] != case.image[101]);
+            self.motors += u64::from(left.image[106] != case.image[106]);
+            self.strobes += u64::from(left.image[123]);
+            self.seconds += u64::from(left.image[30..34] != case.image[30..34]);
+            self.pulses[usize::from(left.image[23])] += 1;
+            self.shifted += u64::from(left.image[21] & 4 != 0);
         }
     }
 
@@ -766,6 +927,8 @@ impl Reached {
         let counts = counts.chain(refusals).chain(self.phases);
         let counts = counts.chain([self.moved, self.motors, self.strobes]).chain(self.chips);
         let counts = counts.chain([self.second_bytes, self.far_cells]);
+        let counts = counts.chain([0, 3, 4, 5].map(|i| self.many[i])).chain(self.pulses);
+        let counts = counts.chain([self.bits_out, self.shifted]);
         let counts = counts.chain([self.protected, self.cells, self.seconds, self.asked]);
         for count in counts {
             assert!(count * 500 >= lists, "too little of something: {self:?}");
@@ -782,9 +945,11 @@ fn library_equals_model() {
     for index in 0..lists {
         let case = some_case(Random(seed ^ index.wrapping_mul(0xD134_2543_DE82_EF95)).next());
         let left = by_model(&case);
-        if by_library(&case) != left {
-            let small = shrink(case, |case| by_library(case) != by_model(case));
-            panic!("library and model differ\n{}", report(&small, seed, index));
+        for (name, engine) in ENGINES {
+            if by_engine(engine, &case) != left {
+                let small = shrink(case, |case| by_engine(engine, case) != by_model(case));
+                panic!("{name} and model differ\n{}", report(&small, seed, index));
+            }
         }
         reached.count(&case, &left);
     }
@@ -799,7 +964,7 @@ fn library_equals_model() {
 fn a_difference_is_made_small() {
     let differs = |case: &Case| {
         let left = by_model(case);
-        left.stop != 7 && left.image[33] == 0xAA && case.image[33] != 0xAA
+        left.stop != 7 && left.image[34] == 0xAA && case.image[34] != 0xAA
     };
     let mut random = Random(3);
     let mut maker = Maker { random: &mut random, chip: model::Chip::First, parts: Vec::new() };
@@ -817,5 +982,17 @@ fn a_difference_is_made_small() {
     let image = Machine::fresh(Chip::First).image().to_vec();
     let small = shrink(Case { image, room: 4000, parts }, differs);
     assert!(small.parts.len() <= 34, "{}", disassemble(&small.parts.concat()));
+    assert!(differs(&small));
+    // The same in one MW, with values that do nothing.
+    let mut maker = Maker { random: &mut random, chip: model::Chip::First, parts: Vec::new() };
+    maker.wr(0, Register::DDRB, 7);
+    let bits = (0..16).rev().map(|i| (0x41AA >> i & 1) as u8);
+    let values: Vec<u8> = [0; 20].into_iter().chain(bits.flat_map(|bit| [bit, bit | 2])).collect();
+    maker.mw(9, Address::Via(Register::ORB), &values);
+    let parts = maker.parts;
+    let image = Machine::fresh(Chip::First).image().to_vec();
+    let small = shrink(Case { image, room: 4000, parts }, differs);
+    let lengths: Vec<usize> = small.parts.iter().map(Vec::len).collect();
+    assert!(lengths.len() == 2 && lengths[1] <= 11 + 32, "{lengths:?}");
     assert!(differs(&small));
 }

@@ -26,14 +26,18 @@ impl Random {
 
 /// Records of right and wrong kinds, lengths and values, and now and then a broken rest.
 fn some_list(random: &mut Random) -> Vec<u8> {
-    let kinds: [&[u8]; 12] =
-        [b"RD", b"WR", b"VB", b"SE", b"IN", b"SN", b"DI", b"RS", b"PW", b"ST", b"XX", b"rd"];
+    let kinds: [&[u8]; 14] = [
+        b"RD", b"WR", b"MW", b"VB", b"SE", b"IN", b"SN", b"DI", b"KC", b"RS", b"PW", b"ST", b"XX",
+        b"rd",
+    ];
     let mut list = Vec::new();
     for _ in 0..random.below(12) {
         let mut record = random.pick(&kinds).to_vec();
         let right = match &record[..] {
             b"RD" | b"PW" | b"DI" => 8,
             b"WR" => 9,
+            b"MW" => 9 + random.below(67),
+            b"KC" => 5,
             b"IN" => 6,
             b"SN" => 7,
             _ => 4,
@@ -46,6 +50,9 @@ fn some_list(random: &mut Random) -> Vec<u8> {
         if length >= 8 && record[..2] != *b"DI" && random.below(5) > 0 {
             let any = Address::all().nth(random.below(32) as usize).expect("32 of them");
             record[4..8].copy_from_slice(&any.number().to_le_bytes());
+        }
+        if length >= 9 && record[..2] == *b"MW" && random.below(5) > 0 {
+            record[8] = (length - 9) as u8;
         }
         list.extend_from_slice(&(length as u16).to_le_bytes());
         list.extend_from_slice(&record);
@@ -87,10 +94,12 @@ fn every_address_has_a_name() {
 
 #[test]
 fn forms_of_the_manual() {
-    let text = "; a comment\n\n12t WR $EFE1FE $41 ; more\r\n0t SE\n0t PW 5s\n  0t\tIN 3 1\n0t SN internal 1 0\n$FFFFt RD VIA.ORB\nRAW 01 ff";
+    let text = "; a comment\n\n12t WR $EFE1FE $41 ; more\r\n3t mw VIA.DDRB 7 $F9 0xFB ; three\n0t KC 1\n0t SE\n0t PW 5s\n  0t\tIN 3 1\n0t SN internal 1 0\n$FFFFt RD VIA.ORB\nRAW 01 ff";
     let bytes = assemble(text).expect("in the form");
-    let expected: [&[u8]; 7] = [
+    let expected: [&[u8]; 9] = [
         &[9, 0, b'W', b'R', 12, 0, 0xFE, 0xE1, 0xEF, 0, 0x41],
+        &[12, 0, b'M', b'W', 3, 0, 0xFE, 0xE5, 0xEF, 0, 3, 7, 0xF9, 0xFB],
+        &[5, 0, b'K', b'C', 0, 0, 1],
         &[4, 0, b'S', b'E', 0, 0],
         &[8, 0, b'P', b'W', 0, 0, 5, 0, 0, 0],
         &[6, 0, b'I', b'N', 0, 0, 3, 1],
@@ -136,6 +145,14 @@ fn errors_have_line_and_column() {
         ("0t SE 1", 1, 7, "too much"),
         ("0t DI internal 1 0 2", 1, 20, "0 to 1"),
         ("0t DI internal 1 0", 1, 20, "double-sided 0 or 1 is missing"),
+        ("0t MW VIA.ORB", 1, 15, "a value is missing"),
+        ("0t MW", 1, 7, "an address is missing"),
+        ("0t MW 7 1", 1, 7, "none of the 32"),
+        ("0t MW VIA.ORB 1 256", 1, 17, "0 to 255"),
+        ("0t MW VIA.ORB 1 x", 1, 17, "as 65, $41 or 0x41"),
+        ("0t KC", 1, 7, "a level is missing"),
+        ("0t KC 2", 1, 7, "0 to 1"),
+        ("0t KC 1 1", 1, 9, "too much"),
         ("0t XX", 1, 4, "unknown kind"),
         ("0t", 1, 4, "a kind"),
         ("RAW 1", 1, 5, "two hexadecimal digits"),
@@ -149,6 +166,36 @@ fn errors_have_line_and_column() {
         assert_eq!((error.line, error.column), (line, column), "{text}: {error}");
         assert!(error.message.contains(part), "{text}: {error}");
     }
+}
+
+/// One to 64 values.
+#[test]
+fn many_values() {
+    for count in 1..=66 {
+        let text = format!("0t MW IWM.CA0+{}", " 1".repeat(count));
+        match assemble(&text) {
+            Ok(bytes) => {
+                assert_eq!(
+                    (bytes.len(), bytes[0], bytes[10]),
+                    (11 + count, 9 + count as u8, count as u8)
+                );
+                assert_eq!(
+                    disassemble(&bytes),
+                    format!("0t MW IWM.CA0+{}\n", " $01".repeat(count))
+                );
+            }
+            Err(error) => {
+                assert_eq!((error.line, error.column), (1, 16 + 2 * 64), "{count}");
+                assert!(error.message.contains("64 values at most"), "{error}");
+            }
+        }
+        assert_eq!(assemble(&text).is_ok(), count <= 64);
+    }
+    // Records that are none stay as they are.
+    let odd = [10, 0, b'M', b'W', 0, 0, 0xFE, 0xE1, 0xEF, 0, 2, 7];
+    let text = disassemble(&odd);
+    assert!(text.starts_with("RAW 0A 00 4D 57") && text.contains("NO 3"), "{text}");
+    assert_eq!(assemble(&text).as_deref(), Ok(&odd[..]));
 }
 
 /// Waits in microseconds become VIA ticks by the library, rounded up, and are given back as such.

@@ -13,6 +13,8 @@ use Rattle.item_plain.proofs.power_item.Reads as power-item-reads
 use Rattle.item_plain.proofs.read_item.Reads as read-item-reads
 use Rattle.item_ranged.proofs.sense_item.Reads as sense-item-reads
 use Rattle.item_plain.proofs.write_item.Reads as write-item-reads
+use Rattle.item_many.proofs.many_item.Reads as many-item-reads
+use Rattle.item_ranged.proofs.pulse_item.Reads as pulse-item-reads
 
 is-requires : tie.Need-is-requires
 is-requires c κs = search needs
@@ -104,9 +106,29 @@ returns-9 : tie.Need-returns-9
 unfolding decodedOf
 returns-9 c = simp (← c .before .before .before .before .before .before .before .before .before .before .before .before .before .before .before .before .before .before .before .before .before .before .before .before .before .before .is .ensures, c .before .before .before .before .before .before .before .before .before .before .before .before .before .before .before .before .before .before .before .before .before .before .before .before .before .if1 .left, ← c .before .before .before .before .before .before .before .before .before .before .before .before .before .before .before .before .before .before .before .before .before .before .before .is2 .ensures, c .before .before .before .before .before .before .before .before .before .before .before .before .before .before .before .before .before .before .before .before .before .before .if2 .left, ← c .before .before .before .before .before .before .before .before .before .before .before .before .before .before .before .before .before .before .before .before .is3 .ensures, c .before .before .before .before .before .before .before .before .before .before .before .before .before .before .before .before .before .before .before .if3 .left, ← c .before .before .before .before .before .before .before .before .before .before .before .before .before .before .before .before .before .is4 .ensures, c .before .before .before .before .before .before .before .before .before .before .before .before .before .before .before .before .if4 .left, ← c .before .before .before .before .before .before .before .before .before .before .before .before .before .before .is5 .ensures, c .before .before .before .before .before .before .before .before .before .before .before .before .before .if5 .left, ← c .before .before .before .before .before .before .before .before .before .before .before .is6 .ensures, c .before .before .before .before .before .before .before .before .before .before .if6 .left, ← c .before .before .before .before .before .before .before .before .is7 .ensures, c .before .before .before .before .before .before .before .if7 .left, ← c .before .before .before .before .before .is8 .ensures, c .before .before .before .before .if8 .left, ← c .before .before .is9 .ensures, c .before .if9 .taken, ← c .disk-item .ensures)
 
+is-requires-10 : tie.Need-is-requires-10
+is-requires-10 c κs = search needs
+
+many-item-requires : tie.Need-many-item-requires
+many-item-requires c κs = c .before .before .before .before .before .before .before .before .before .before .before .before .before .before .before .before .before .before .before .before .before .before .before .before .before .before .before .before .before .before .before .pre
+
 returns-10 : tie.Need-returns-10
 unfolding decodedOf
-returns-10 c = simp (← c .before .before .before .before .before .before .before .before .before .before .before .before .before .before .before .before .before .before .before .before .before .before .before .before .before .is .ensures, c .before .before .before .before .before .before .before .before .before .before .before .before .before .before .before .before .before .before .before .before .before .before .before .before .if1 .left, ← c .before .before .before .before .before .before .before .before .before .before .before .before .before .before .before .before .before .before .before .before .before .before .is2 .ensures, c .before .before .before .before .before .before .before .before .before .before .before .before .before .before .before .before .before .before .before .before .before .if2 .left, ← c .before .before .before .before .before .before .before .before .before .before .before .before .before .before .before .before .before .before .before .is3 .ensures, c .before .before .before .before .before .before .before .before .before .before .before .before .before .before .before .before .before .before .if3 .left, ← c .before .before .before .before .before .before .before .before .before .before .before .before .before .before .before .before .is4 .ensures, c .before .before .before .before .before .before .before .before .before .before .before .before .before .before .before .if4 .left, ← c .before .before .before .before .before .before .before .before .before .before .before .before .before .is5 .ensures, c .before .before .before .before .before .before .before .before .before .before .before .before .if5 .left, ← c .before .before .before .before .before .before .before .before .before .before .is6 .ensures, c .before .before .before .before .before .before .before .before .before .if6 .left, ← c .before .before .before .before .before .before .before .is7 .ensures, c .before .before .before .before .before .before .if7 .left, ← c .before .before .before .before .is8 .ensures, c .before .before .before .if8 .left, ← c .before .is9 .ensures, c .if9 .left)
+returns-10 c = simp (← c .before .before .before .before .before .before .before .before .before .before .before .before .before .before .before .before .before .before .before .before .before .before .before .before .before .before .before .before .before .is .ensures, c .before .before .before .before .before .before .before .before .before .before .before .before .before .before .before .before .before .before .before .before .before .before .before .before .before .before .before .before .if1 .left, ← c .before .before .before .before .before .before .before .before .before .before .before .before .before .before .before .before .before .before .before .before .before .before .before .before .before .before .is2 .ensures, c .before .before .before .before .before .before .before .before .before .before .before .before .before .before .before .before .before .before .before .before .before .before .before .before .before .if2 .left, ← c .before .before .before .before .before .before .before .before .before .before .before .before .before .before .before .before .before .before .before .before .before .before .before .is3 .ensures, c .before .before .before .before .before .before .before .before .before .before .before .before .before .before .before .before .before .before .before .before .before .before .if3 .left, ← c .before .before .before .before .before .before .before .before .before .before .before .before .before .before .before .before .before .before .before .before .is4 .ensures, c .before .before .before .before .before .before .before .before .before .before .before .before .before .before .before .before .before .before .before .if4 .left, ← c .before .before .before .before .before .before .before .before .before .before .before .before .before .before .before .before .before .is5 .ensures, c .before .before .before .before .before .before .before .before .before .before .before .before .before .before .before .before .if5 .left, ← c .before .before .before .before .before .before .before .before .before .before .before .before .before .before .is6 .ensures, c .before .before .before .before .before .before .before .before .before .before .before .before .before .if6 .left, ← c .before .before .before .before .before .before .before .before .before .before .before .is7 .ensures, c .before .before .before .before .before .before .before .before .before .before .if7 .left, ← c .before .before .before .before .before .before .before .before .is8 .ensures, c .before .before .before .before .before .before .before .if8 .left, ← c .before .before .before .before .before .is9 .ensures, c .before .before .before .before .if9 .left, ← c .before .before .is10 .ensures, c .before .if10 .taken, ← c .many-item .ensures)
+
+is-requires-11 : tie.Need-is-requires-11
+is-requires-11 c κs = c .before .before .before .before .before .before .before .before .before .before .before .before .before .before .before .before .before .before .before .before .before .before .before .before .before .before .before .before .before .before .before .before .pre
+
+pulse-item-requires : tie.Need-pulse-item-requires
+pulse-item-requires c κs = c .before .before .before .before .before .before .before .before .before .before .before .before .before .before .before .before .before .before .before .before .before .before .before .before .before .before .before .before .before .before .before .before .before .before .pre
+
+returns-11 : tie.Need-returns-11
+unfolding decodedOf
+returns-11 c = simp (← c .before .before .before .before .before .before .before .before .before .before .before .before .before .before .before .before .before .before .before .before .before .before .before .before .before .before .before .before .before .before .before .before .is .ensures, c .before .before .before .before .before .before .before .before .before .before .before .before .before .before .before .before .before .before .before .before .before .before .before .before .before .before .before .before .before .before .before .if1 .left, ← c .before .before .before .before .before .before .before .before .before .before .before .before .before .before .before .before .before .before .before .before .before .before .before .before .before .before .before .before .before .is2 .ensures, c .before .before .before .before .before .before .before .before .before .before .before .before .before .before .before .before .before .before .before .before .before .before .before .before .before .before .before .before .if2 .left, ← c .before .before .before .before .before .before .before .before .before .before .before .before .before .before .before .before .before .before .before .before .before .before .before .before .before .before .is3 .ensures, c .before .before .before .before .before .before .before .before .before .before .before .before .before .before .before .before .before .before .before .before .before .before .before .before .before .if3 .left, ← c .before .before .before .before .before .before .before .before .before .before .before .before .before .before .before .before .before .before .before .before .before .before .before .is4 .ensures, c .before .before .before .before .before .before .before .before .before .before .before .before .before .before .before .before .before .before .before .before .before .before .if4 .left, ← c .before .before .before .before .before .before .before .before .before .before .before .before .before .before .before .before .before .before .before .before .is5 .ensures, c .before .before .before .before .before .before .before .before .before .before .before .before .before .before .before .before .before .before .before .if5 .left, ← c .before .before .before .before .before .before .before .before .before .before .before .before .before .before .before .before .before .is6 .ensures, c .before .before .before .before .before .before .before .before .before .before .before .before .before .before .before .before .if6 .left, ← c .before .before .before .before .before .before .before .before .before .before .before .before .before .before .is7 .ensures, c .before .before .before .before .before .before .before .before .before .before .before .before .before .if7 .left, ← c .before .before .before .before .before .before .before .before .before .before .before .is8 .ensures, c .before .before .before .before .before .before .before .before .before .before .if8 .left, ← c .before .before .before .before .before .before .before .before .is9 .ensures, c .before .before .before .before .before .before .before .if9 .left, ← c .before .before .before .before .before .is10 .ensures, c .before .before .before .before .if10 .left, ← c .before .before .is11 .ensures, c .before .if11 .taken, ← c .pulse-item .ensures)
+
+returns-12 : tie.Need-returns-12
+unfolding decodedOf
+returns-12 c = simp (← c .before .before .before .before .before .before .before .before .before .before .before .before .before .before .before .before .before .before .before .before .before .before .before .before .before .before .before .before .before .before .before .is .ensures, c .before .before .before .before .before .before .before .before .before .before .before .before .before .before .before .before .before .before .before .before .before .before .before .before .before .before .before .before .before .before .if1 .left, ← c .before .before .before .before .before .before .before .before .before .before .before .before .before .before .before .before .before .before .before .before .before .before .before .before .before .before .before .before .is2 .ensures, c .before .before .before .before .before .before .before .before .before .before .before .before .before .before .before .before .before .before .before .before .before .before .before .before .before .before .before .if2 .left, ← c .before .before .before .before .before .before .before .before .before .before .before .before .before .before .before .before .before .before .before .before .before .before .before .before .before .is3 .ensures, c .before .before .before .before .before .before .before .before .before .before .before .before .before .before .before .before .before .before .before .before .before .before .before .before .if3 .left, ← c .before .before .before .before .before .before .before .before .before .before .before .before .before .before .before .before .before .before .before .before .before .before .is4 .ensures, c .before .before .before .before .before .before .before .before .before .before .before .before .before .before .before .before .before .before .before .before .before .if4 .left, ← c .before .before .before .before .before .before .before .before .before .before .before .before .before .before .before .before .before .before .before .is5 .ensures, c .before .before .before .before .before .before .before .before .before .before .before .before .before .before .before .before .before .before .if5 .left, ← c .before .before .before .before .before .before .before .before .before .before .before .before .before .before .before .before .is6 .ensures, c .before .before .before .before .before .before .before .before .before .before .before .before .before .before .before .if6 .left, ← c .before .before .before .before .before .before .before .before .before .before .before .before .before .is7 .ensures, c .before .before .before .before .before .before .before .before .before .before .before .before .if7 .left, ← c .before .before .before .before .before .before .before .before .before .before .is8 .ensures, c .before .before .before .before .before .before .before .before .before .if8 .left, ← c .before .before .before .before .before .before .before .is9 .ensures, c .before .before .before .before .before .before .if9 .left, ← c .before .before .before .before .is10 .ensures, c .before .before .before .if10 .left, ← c .before .is11 .ensures, c .if11 .left)
 
 pub decode-spec : {M : Type 1} → statement M
 decode-spec =
@@ -139,4 +161,10 @@ decode-spec =
     is-requires-9
     disk-item-requires
     returns-9
-    returns-10)
+    is-requires-10
+    many-item-requires
+    returns-10
+    is-requires-11
+    pulse-item-requires
+    returns-11
+    returns-12)

@@ -8,8 +8,8 @@ returns : tie.Need-returns
 unfolding plainRecord
 returns c = simp (ne-eqb _ _ (c .if1 .taken))
 
-le16-requires : tie.Need-le16-requires
-le16-requires c κs = search needs
+wait-of-requires : tie.Need-wait-of-requires
+wait-of-requires c κs = search needs
 
 enum-told : tie.Need-enum-told
 enum-told c = search needs
@@ -22,22 +22,22 @@ enum-told-3 c = search needs
 
 returns-2 : tie.Need-returns-2
 unfolding plainRecord
-returns-2 c = simp (eq-eqb _ _ (c .before .before .before .if1 .left), ← c .before .before .le16 .ensures, c .enum-told .given .1)
+returns-2 c = simp (eq-eqb _ _ (c .before .before .before .if1 .left), ← c .before .before .wait-of .ensures, c .enum-told .given .1)
 
 returns-3 : tie.Need-returns-3
 unfolding plainRecord
-returns-3 c = simp (eq-eqb _ _ (c .before .before .before .if1 .left), ← c .before .before .le16 .ensures, c .enum-told2 .given .1)
+returns-3 c = simp (eq-eqb _ _ (c .before .before .before .if1 .left), ← c .before .before .wait-of .ensures, c .enum-told2 .given .1)
 
 returns-4 : tie.Need-returns-4
 unfolding plainRecord
-returns-4 c = simp (eq-eqb _ _ (c .before .before .before .if1 .left), ← c .before .before .le16 .ensures, c .enum-told3 .given .1)
+returns-4 c = simp (eq-eqb _ _ (c .before .before .before .if1 .left), ← c .before .before .wait-of .ensures, c .enum-told3 .given .1)
 
 pub plain-item-spec : {M : Type 1} → statement M
 plain-item-spec =
     tie.close
     (tie.spec
     returns
-    le16-requires
+    wait-of-requires
     enum-told
     enum-told-2
     enum-told-3

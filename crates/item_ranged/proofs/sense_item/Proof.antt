@@ -6,7 +6,7 @@ use Rattle.item_ranged.proofs.sense_item.Statement.{statement}
 use Rattle.item_ranged.proofs.sense_item.Tie as tie
 use Rattle.item_ranged.proofs.sense_item.Reads as reads
 use Rattle.item_ranged.proofs.sense_item.Lts as lts
-use Rattle.octets.proofs.le16.Reads as le16-reads
+use Rattle.item_wait.proofs.wait_of.Reads as wait-of-reads
 use Rattle.item_ranged.proofs.is_retired.Reads as is-retired-reads
 
 returns : tie.Need-returns
@@ -33,12 +33,12 @@ returns-3 : tie.Need-returns-3
 unfolding senseRecord
 returns-3 c = simp (eq-eqb _ _ (c .before .before .before .before .before .before .if1 .left), any3, c .before .before .if2 .left, ← c .before .is-retired .ensures, c .if3 .taken)
 
-le16-requires : tie.Need-le16-requires
-le16-requires c κs = search needs
+wait-of-requires : tie.Need-wait-of-requires
+wait-of-requires c κs = search needs
 
 returns-4 : tie.Need-returns-4
 unfolding senseRecord
-returns-4 c = simp (eq-eqb _ _ (c .before .before .before .before .before .before .before .if1 .left), any3, c .before .before .before .if2 .left, ← c .before .before .is-retired .ensures, c .before .if3 .left, ← c .le16 .ensures)
+returns-4 c = simp (eq-eqb _ _ (c .before .before .before .before .before .before .before .if1 .left), any3, c .before .before .before .if2 .left, ← c .before .before .is-retired .ensures, c .before .if3 .left, ← c .wait-of .ensures)
 
 pub sense-item-spec : {M : Type 1} → statement M
 sense-item-spec =
@@ -51,5 +51,5 @@ sense-item-spec =
     returns-2
     is-retired-requires
     returns-3
-    le16-requires
+    wait-of-requires
     returns-4)

@@ -1,4 +1,5 @@
-use Rattle.machine_spec.specs.Machine.{acceptedOf}
+use mathlib.Core.Path.{_≡_, ap, _∙_}
+use Rattle.machine_spec.specs.Machine.{acceptedOf, strobeLevels}
 use borrow.Author.Needs.{needs}
 use Rattle.machine.proofs.accepted.Statement.{statement}
 use Rattle.machine.proofs.accepted.Tie as tie
@@ -27,6 +28,9 @@ accepted-phase-requires c κs = search needs
 unused-clear-requires : tie.Need-unused-clear-requires
 unused-clear-requires c κs = search needs
 
+board-of-requires : tie.Need-board-of-requires
+board-of-requires c κs = search needs
+
 watched-requires : tie.Need-watched-requires
 watched-requires c κs = search needs
 
@@ -36,9 +40,12 @@ accepted-requires-2 c κs = search needs
 returns : tie.Need-returns
 unfolding acceptedOf
 returns c =
-    let a = c .before .before .before in
+    let a = c .before .before .before .before in
     let b = a .before .before in
-    simp (c .accepted2 .ensures, c .before .watched .ensures, c .before .before .unused-clear .ensures, a .accepted-phase .ensures, a .before .accepted .ensures, b .all-levels2 .ensures, b .before .before .all-levels .ensures, b .before .before .before .before .wires .ensures)
+    let w = b .before .before .before .before in
+    let m = w .before .before .before .before .before .args .m in
+    let levels : c .before .watched .result ≡ strobeLevels m = c .before .watched .ensures (m .clock) (m .sense) (m .drives) ∙ ap strobeLevels (c .before .before .board-of .ensures) in
+    simp (c .accepted2 .ensures, levels, c .before .before .before .unused-clear .ensures, a .accepted-phase .ensures, a .before .accepted .ensures, b .all-levels2 .ensures, b .before .before .all-levels .ensures, w .wires .ensures)
 
 pub accepted-spec : {M : Type 1} → statement M
 accepted-spec =
@@ -52,6 +59,7 @@ accepted-spec =
     accepted-requires
     accepted-phase-requires
     unused-clear-requires
+    board-of-requires
     watched-requires
     accepted-requires-2
     returns)

@@ -1,20 +1,23 @@
-use mathlib.Core.Path.{_≡_, refl, ap, subst, _∙_}
+use mathlib.Core.Path.{_≡_, refl, sym, ap, subst, _∙_}
 use denote.Ref.{now}
 use Rattle.via.specs.Registers.{registerRead}
 use Rattle.via.specs.Writes.{viaWritten}
+use Rattle.via.specs.declared.Via.{Via}
 use Rattle.via.specs.Via.{freshVia, raisedOf, resetOf}
 use Rattle.clock_spec.specs.Phase.{shownLevel}
 use Rattle.clock_spec.specs.Shared.{advance, stops}
 use Rattle.clock_parts.specs.Parts.{coreSeconds}
 use Rattle.clock_parts.proofs.Laws.{enabled-idle}
+use Rattle.item_spec.specs.declared.Item.{Item}
 use Rattle.item_spec.specs.Items.{ItemInRange}
 use Rattle.machine_spec.specs.declared.Machine.{Machine}
-use Rattle.machine_spec.specs.Machine.{withDisk, wires}
+use Rattle.machine_spec.specs.Machine.{withVia, wires}
 use Rattle.machine_spec.specs.Pins.{wiresOf}
-use Rattle.machine_spec.specs.Accesses.{viaRead, iwmRead}
+use Rattle.machine_spec.specs.Accesses.{viaRead, iwmRead, keyboardPulse}
 use Rattle.machine_spec.specs.Action.{actedOf}
-use Rattle.machine_act.specs.Parts.{wholeMachine, machineChange, senseChange, clockedOf}
-use Rattle.machine_act.proofs.Laws.{quietly}
+use Rattle.machine_act.specs.Parts.{wholeMachine, boardDisk, boardChange, senseChange, clockedOf, ChangeInRange}
+use Rattle.machine_spec.proofs.Step.{pulse-quiet}
+use Rattle.machine_act.proofs.Laws.{quietly, pulse-shift}
 use borrow.Author.Needs.{needs}
 use Rattle.machine_act.proofs.act.Statement.{statement}
 use Rattle.machine_act.proofs.act.Tie as tie
@@ -30,12 +33,13 @@ use Rattle.machine_act.proofs.clocked.Reads as clocked-reads
 use Rattle.machine_act.proofs.iwm_value.Reads as iwm-value-reads
 use Rattle.machine_act.proofs.sense_index.Reads as sense-index-reads
 use Rattle.machine_act.proofs.via_value.Reads as via-value-reads
-use Rattle.via.proofs.Via.write.Reads as write-reads
-use Rattle.via_registers.proofs.flags_read.Reads as flags-read-reads
+use Rattle.machine_act.proofs.read_change.Reads as read-change-reads
+use Rattle.machine_act.proofs.via_change.Reads as via-change-reads
+use Rattle.via.proofs.Via.pulse.Reads as pulse-reads
 
 -- The machine that the parts make.
 abbrev whole : tie.Start → Machine
-whole c = wholeMachine (c .args .m) (c .args .k) (now (c .args .cells)) (c .args .d) (now (c .args .sense))
+whole c = wholeMachine (c .args .b) (c .args .k) (now (c .args .cells)) (c .args .d) (now (c .args .sense))
 
 -- An action that moves no wire.
 quiet : (c : tie.Start) (y : Machine) → y ≡ actedOf (whole c) (c .args .item) .machine → wires (actedOf (whole c) (c .args .item) .machine) ≡ wires (whole c)
@@ -48,8 +52,8 @@ enum-known-item c = search needs
 via-value-requires : tie.Need-via-value-requires
 via-value-requires c κs = (subst ItemInRange (c .before .item .given .1) (c .before .before .before .before .pre .0), c .before .before .before .before .pre .1 .0 .0)
 
-flags-read-requires : tie.Need-flags-read-requires
-flags-read-requires c κs = search needs
+read-change-requires : tie.Need-read-change-requires
+read-change-requires c κs = search needs
 
 enum-known-item-2 : tie.Need-enum-known-item-2
 enum-known-item-2 c = search needs
@@ -58,7 +62,7 @@ access-requires : tie.Need-access-requires
 access-requires c κs = subst ItemInRange (c .before .item2 .given .1) (c .before .before .before .before .pre .0)
 
 iwm-value-requires : tie.Need-iwm-value-requires
-iwm-value-requires c κs = c .before .before .before .before .before .pre .1 .0 .1
+iwm-value-requires c κs = search needs
 
 enum-known-item-3 : tie.Need-enum-known-item-3
 enum-known-item-3 c = search needs
@@ -87,8 +91,8 @@ add-seconds-requires c κs = search needs
 enum-known-item-5 : tie.Need-enum-known-item-5
 enum-known-item-5 c = search needs
 
-cast-t31 : tie.Need-cast-t31
-cast-t31 c = search needs
+cast-t33 : tie.Need-cast-t33
+cast-t33 c = search needs
 
 enum-known-item-6 : tie.Need-enum-known-item-6
 enum-known-item-6 c = search needs
@@ -126,55 +130,71 @@ enum-known-item-8 c = search needs
 place-requires : tie.Need-place-requires
 place-requires c κs = search needs
 
+enum-known-item-9 : tie.Need-enum-known-item-9
+enum-known-item-9 c = search needs
+
+pulse-requires : tie.Need-pulse-requires
+pulse-requires c κs = subst ItemInRange (c .before .item9 .given .1) (c .before .before .before .before .pre .0)
+
 returns : tie.Need-returns
-unfolding actedOf viaRead registerRead iwmRead raisedOf machineChange senseChange
-returns c = (quiet (c .before .before .before .before .before .before) _ (simp (c .before .before .before .item .given .1, c .flags-read .ensures)) (simp (c .before .before .before .item .given .1)), (simp (c .before .before .before .item .given .1) (c .before .via-value .ensures), tt))
+unfolding actedOf viaRead registerRead iwmRead raisedOf boardChange senseChange
+returns c = (quiet (c .before .before .before .before .before .before) _ (simp (c .before .before .before .item .given .1, c .read-change .ensures)) (simp (c .before .before .before .item .given .1)), (simp (c .before .before .before .item .given .1) (c .before .via-value .ensures), subst ChangeInRange (sym (c .read-change .ensures)) tt))
 
 returns-2 : tie.Need-returns-2
-unfolding actedOf viaRead registerRead iwmRead raisedOf machineChange senseChange
+unfolding actedOf viaRead registerRead iwmRead raisedOf boardChange senseChange
 returns-2 c = (quiet (c .before .before .before .before .before .before) _ (simp (c .before .before .before .item2 .given .1, c .before .access .ensures)) (simp (c .before .before .before .item2 .given .1)), (simp (c .before .before .before .item2 .given .1, c .iwm-value .ensures, c .before .access .ensures), tt))
 
 returns-3 : tie.Need-returns-3
 unfolding actedOf viaWritten
 returns-3 c =
     let a = c .before .before .before .before .before .before .before .args in
-    (simp (c .before .before .before .before .item3 .given .1, c .via-change .ensures .0 (withDisk (a .m) (a .m .disk)), c .via-change .ensures .1 .0 (now (a .sense)), ← c .before .clocked .ensures), (simp (c .before .before .before .before .item3 .given .1), c .via-change .ensures .1 .1))
+    (simp (c .before .before .before .before .item3 .given .1, c .via-change .ensures .0 (boardDisk (a .b) (a .b .disk)) refl, c .via-change .ensures .1 .0 (now (a .sense)), ← c .before .clocked .ensures), (simp (c .before .before .before .before .item3 .given .1), c .via-change .ensures .1 .1))
 
 returns-4 : tie.Need-returns-4
-unfolding actedOf viaRead registerRead iwmRead raisedOf machineChange senseChange
+unfolding actedOf viaRead registerRead iwmRead raisedOf boardChange senseChange
 returns-4 c = (quiet (c .before .before .before .before .before) _ (simp (c .before .before .item4 .given .1, c .access2 .ensures)) (simp (c .before .before .item4 .given .1)), (simp (c .before .before .item4 .given .1), tt))
 
 returns-5 : tie.Need-returns-5
-unfolding actedOf viaRead registerRead iwmRead raisedOf machineChange senseChange
+unfolding actedOf viaRead registerRead iwmRead raisedOf boardChange senseChange
 returns-5 c = (quiet (c .before .before .before .before) _ (simp (c .before .enum-told .given .1)) (simp (c .before .enum-told .given .1)), (simp (c .before .enum-told .given .1), tt))
 
 returns-6 : tie.Need-returns-6
-unfolding actedOf viaRead registerRead iwmRead raisedOf machineChange senseChange
+unfolding actedOf viaRead registerRead iwmRead raisedOf boardChange senseChange
 returns-6 c = (quiet (c .before .before .before .before .before) _ (simp (c .before .before .enum-told2 .given .1, c .before .add-seconds .ensures)) (simp (c .before .before .enum-told2 .given .1)), (simp (c .before .before .enum-told2 .given .1), tt))
 
 returns-7 : tie.Need-returns-7
-unfolding actedOf viaRead registerRead iwmRead raisedOf machineChange senseChange
+unfolding actedOf viaRead registerRead iwmRead raisedOf boardChange senseChange
 returns-7 c = (quiet (c .before .before .before .before) _ (simp (c .before .item5 .given .1)) (simp (c .before .item5 .given .1)), (simp (c .before .item5 .given .1), (subst ItemInRange (c .before .item5 .given .1) (c .before .before .before .before .pre .0)) .0))
 
 returns-8 : tie.Need-returns-8
-unfolding actedOf viaRead registerRead iwmRead raisedOf machineChange senseChange
+unfolding actedOf viaRead registerRead iwmRead raisedOf boardChange senseChange
 returns-8 c = (quiet (c .before .before .before .before .before) _ (simp (c .before .before .item6 .given .1, c .sense-index .ensures .0)) (simp (c .before .before .item6 .given .1)), (simp (c .before .before .item6 .given .1), c .sense-index .ensures .1))
 
 returns-9 : tie.Need-returns-9
-unfolding actedOf machineChange senseChange wiresOf resetOf
+unfolding actedOf boardChange senseChange wiresOf resetOf
 returns-9 c =
     let a = c .before .before .before .before .before .args in
-    (simp (c .before .before .enum-told3 .given .1, c .before .off .ensures, c .idle .ensures, enabled-idle (a .k) (now (a .cells)) (wiresOf (a .m .via .ports) (shownLevel (a .k .phase))) (wiresOf (resetOf (a .m .via) .ports) (shownLevel (a .k .phase))) refl), (simp (c .before .before .enum-told3 .given .1), tt))
+    (simp (c .before .before .enum-told3 .given .1, c .before .off .ensures, c .idle .ensures, enabled-idle (a .k) (now (a .cells)) (wiresOf (a .b .via .ports) (shownLevel (a .k .phase))) (wiresOf (resetOf (a .b .via) .ports) (shownLevel (a .k .phase))) refl), (simp (c .before .before .enum-told3 .given .1), tt))
 
 returns-10 : tie.Need-returns-10
-unfolding actedOf machineChange senseChange wiresOf freshVia
+unfolding actedOf boardChange senseChange wiresOf freshVia
 returns-10 c =
     let a = c .before .before .before .before .before .before .before .before .args in
-    (simp (c .before .before .before .before .before .item7 .given .1, c .before .before .before .off2 .ensures, c .power-cut .ensures, c .before .idle2 .ensures, c .before .before .add-seconds2 .ensures, enabled-idle (coreSeconds (a .k) (advance (stops (a .k .test)) (c .before .before .before .before .before .item7 .given .0 .1 .0) (a .k .seconds))) (now (a .cells)) (wiresOf (a .m .via .ports) (shownLevel (a .k .phase))) (wiresOf (freshVia .ports) (shownLevel (a .k .phase))) refl), (simp (c .before .before .before .before .before .item7 .given .1), tt))
+    (simp (c .before .before .before .before .before .item7 .given .1, c .before .before .before .off2 .ensures, c .power-cut .ensures, c .before .idle2 .ensures, c .before .before .add-seconds2 .ensures, enabled-idle (coreSeconds (a .k) (advance (stops (a .k .test)) (c .before .before .before .before .before .item7 .given .0 .1 .0) (a .k .seconds))) (now (a .cells)) (wiresOf (a .b .via .ports) (shownLevel (a .k .phase))) (wiresOf (freshVia .ports) (shownLevel (a .k .phase))) refl), (simp (c .before .before .before .before .before .item7 .given .1), tt))
 
 returns-11 : tie.Need-returns-11
-unfolding actedOf viaRead registerRead iwmRead raisedOf machineChange senseChange
+unfolding actedOf viaRead registerRead iwmRead raisedOf boardChange senseChange
 returns-11 c = (quiet (c .before .before .before .before .before) _ (simp (c .before .before .item8 .given .1, c .place .ensures)) (simp (c .before .before .item8 .given .1)), (simp (c .before .before .item8 .given .1), tt))
+
+returns-12 : tie.Need-returns-12
+unfolding actedOf keyboardPulse boardChange senseChange
+returns-12 c =
+    let s = c .before .before .before .before .before in
+    let i = c .before .before .item9 .given in (
+      quiet s _ (simp (i .1, c .pulse .ensures) (ap (λ (u : Via). withVia (whole s) u) (pulse-shift (i .0 .1 .0) (s .args .b .via))))
+          (subst (λ (x : Item). wires (actedOf (whole s) x .machine) ≡ wires (whole s)) (sym (i .1)) (pulse-quiet (i .0 .0) (i .0 .1 .0) (whole s) .0)),
+      (simp (i .1, c .pulse .ensures), tt),
+    )
 
 pub act-spec : {M : Type 1} → statement M
 act-spec =
@@ -182,7 +202,7 @@ act-spec =
     (tie.spec
     enum-known-item
     via-value-requires
-    flags-read-requires
+    read-change-requires
     enum-known-item-2
     access-requires
     iwm-value-requires
@@ -195,7 +215,7 @@ act-spec =
     enum-told-2
     add-seconds-requires
     enum-known-item-5
-    cast-t31
+    cast-t33
     enum-known-item-6
     sense-index-requires
     enum-told-3
@@ -208,6 +228,8 @@ act-spec =
     power-cut-requires
     enum-known-item-8
     place-requires
+    enum-known-item-9
+    pulse-requires
     returns
     returns-2
     returns-3
@@ -218,4 +240,5 @@ act-spec =
     returns-8
     returns-9
     returns-10
-    returns-11)
+    returns-11
+    returns-12)

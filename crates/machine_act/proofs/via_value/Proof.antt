@@ -25,8 +25,8 @@ returns : tie.Need-returns
 returns c =
     let a = c .before .before .before .before .args in
     c .value-read .ensures
-    ∙ ap (λ (i : Inputs). valueRead (a .register) i (a .m .via))
-    (c .before .inputs-of .ensures ∙ ap (λ (b : Bool). inputsOf b (a .m .inputs)) (c .before .before .shown-line .ensures))
+    ∙ ap (λ (i : Inputs). valueRead (a .register) i (a .b .via))
+    (c .before .inputs-of .ensures ∙ ap (λ (b : Bool). inputsOf b (a .b .inputs)) (c .before .before .shown-line .ensures))
 
 pub via-value-spec : {M : Type 1} → statement M
 via-value-spec =

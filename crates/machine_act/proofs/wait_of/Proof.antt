@@ -39,6 +39,9 @@ enum-known-item-10 c = search needs
 enum-known-item-11 : tie.Need-enum-known-item-11
 enum-known-item-11 c = search needs
 
+enum-known-item-12 : tie.Need-enum-known-item-12
+enum-known-item-12 c = search needs
+
 returns : tie.Need-returns
 unfolding itemWait
 returns c = simp (c .before .item .given .1)
@@ -83,6 +86,10 @@ returns-11 : tie.Need-returns-11
 unfolding itemWait
 returns-11 c = simp (c .before .item11 .given .1)
 
+returns-12 : tie.Need-returns-12
+unfolding itemWait
+returns-12 c = simp (c .before .item12 .given .1)
+
 pub wait-of-spec : {M : Type 1} → statement M
 wait-of-spec =
     tie.close
@@ -98,6 +105,7 @@ wait-of-spec =
     enum-known-item-9
     enum-known-item-10
     enum-known-item-11
+    enum-known-item-12
     returns
     returns-2
     returns-3
@@ -108,4 +116,5 @@ wait-of-spec =
     returns-8
     returns-9
     returns-10
-    returns-11)
+    returns-11
+    returns-12)

@@ -27,7 +27,7 @@ sel-of-requires c κs = search needs
 
 returns : tie.Need-returns
 unfolding answerOf
-returns c = simp (c .sel-of .ensures .0, c .before .interrupt-level .ensures, c .before .before .level .ensures)
+returns c = λ k s d. simp (c .sel-of .ensures .0, c .before .interrupt-level .ensures, c .before .before .level .ensures)
 
 pub answer-spec : {M : Type 1} → statement M
 answer-spec =

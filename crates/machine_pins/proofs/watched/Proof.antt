@@ -13,7 +13,7 @@ watched-of-requires : tie.Need-watched-of-requires
 watched-of-requires c κs = search needs
 
 returns : tie.Need-returns
-returns c = simp (c .watched-of .ensures, c .before .sel-of .ensures .0)
+returns c = λ k s d. simp (c .watched-of .ensures, c .before .sel-of .ensures .0)
 
 pub watched-spec : {M : Type 1} → statement M
 watched-spec = tie.close (tie.spec sel-of-requires watched-of-requires returns)

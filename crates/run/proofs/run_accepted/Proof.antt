@@ -9,13 +9,16 @@ use Rattle.disk_spec.specs.declared.Watched.{Watched}
 use Rattle.disk_spec.specs.Drives.{drivesTicks, drivesAfter}
 use Rattle.disk_spec.proofs.DrivesLaws.{idle-drives}
 use mathlib.Core.Bool.{_||_}
+use mathlib.Core.Bool.{true}
+use mathlib.Core.List.{List}
+use Rattle.machine_spec.specs.Machine.{acceptedOf}
 use Rattle.machine_spec.specs.Stages.{itemWait}
 use Rattle.machine_spec.specs.declared.Machine.{Machine}
 use Rattle.machine_spec.specs.declared.Did.{Did}
 use Rattle.machine_spec.specs.Step.{stepOf}
 use Rattle.machine_spec.proofs.MachineLaws.{parts}
 use Rattle.machine_spec.proofs.Keeps.{step-keeps}
-use Rattle.run_spec.specs.Turn.{turnOf}
+use Rattle.run_spec.specs.Turn.{turnOf, manyTurn}
 use Rattle.run_spec.specs.declared.Ran.{Ran}
 use Rattle.run_record.specs.Judged.{turnJudged, JudgedInRange}
 use Rattle.run.proofs.Turns as turns
@@ -29,10 +32,15 @@ use denote.Ref.{now}
 use Rattle.item_spec.specs.Record.{frameOf}
 use Rattle.item_spec.specs.declared.Framed.the-variants.{Whole}
 use Rattle.clock.specs.declared.Clock.{Clock}
-use Rattle.machine_spec.specs.Machine.{withVia, withDisk, withClock, strobeLevels}
-use Rattle.machine_act.specs.Parts.{wholeMachine, machineChange, senseChange, ChangeInRange}
+use Rattle.clock_parts.specs.Parts.{wholeClock}
+use Rattle.machine_pins.specs.Board.{onBoard}
+use Rattle.machine_act.specs.Parts.{wholeMachine, boardVia, boardDisk, boardChange, senseChange, ChangeInRange}
+use Rattle.run.proofs.Turns.{strobeOf}
 use Rattle.run.proofs.Loop as loop
 use Rattle.run.proofs.Loop.{Head, at-rest}
+use Rattle.item_spec.specs.Many.{ManyInRange}
+use Rattle.machine_many.proofs.Laws.{parts-accepted}
+use Rattle.run.proofs.Many.{recordAt, valuesAt, twelve, values-are, some-values, many-levels, many-did}
 use Rattle.run.proofs.run_accepted.Statement.{statement}
 use Rattle.run.proofs.run_accepted.Tie as tie
 use Rattle.run.proofs.run_accepted.Reads as reads
@@ -41,6 +49,7 @@ use Rattle.disk_drives.proofs.after.Reads as after-reads
 use Rattle.disk_drives.proofs.wait.Reads as wait-reads
 use Rattle.item_plain.proofs.refusal.Reads as refusal-reads
 use Rattle.machine_act.proofs.act.Reads as act-reads
+use Rattle.machine_pins.proofs.board_of.Reads as board-of-reads
 use Rattle.clock_parts.proofs.cells_of.Reads as cells-of-reads
 use Rattle.clock_parts.proofs.core_of.Reads as core-of-reads
 use Rattle.machine_pins.proofs.watched.Reads as watched-reads
@@ -56,27 +65,46 @@ use Rattle.via.proofs.Via.reset.Reads as reset-reads
 use Rattle.via.proofs.Via.wait.Reads as Via-wait-reads
 use Rattle.via.proofs.Via.write.Reads as write-reads
 use Rattle.via.proofs.fresh.Reads as fresh-reads
+use Rattle.disk_drives.proofs.busy.Reads as busy-reads
+use Rattle.via.proofs.Via.count.Reads as count-reads
+use Rattle.via.proofs.Via.only_counts.Reads as only-counts-reads
 
 abbrev Inv-loop : tie.InvT-loop
-Inv-loop list answers₀ m₀ core₀ cells₀ drives₀ sense₀ stop₀ at₀ out₀ answers m core cells drives sense stop at out = Head list answers₀ m₀ answers (wholeMachine m core cells drives sense) at out × (stop ≡ 0)
+Inv-loop engine list answers₀ board₀ core₀ cells₀ drives₀ sense₀ stop₀ at₀ out₀ answers board core cells drives sense stop at out = Head list answers₀ (wholeMachine board₀ core₀ cells₀ drives₀ sense₀) answers (wholeMachine board core cells drives sense) at out × (stop ≡ 0)
 
 abbrev μ-loop : tie.MeasureT-loop
-μ-loop list answers₀ m₀ core₀ cells₀ drives₀ sense₀ stop₀ at₀ out₀ answers m core cells drives sense stop at out = length list - at
+μ-loop engine list answers₀ board₀ core₀ cells₀ drives₀ sense₀ stop₀ at₀ out₀ answers board core cells drives sense stop at out = length list - at
 
--- where a wholeMachine record was found
-found : (c : tie.After-known-told Inv-loop μ-loop) → frameOf (drop (c .before .before .before .before .before .before .before .loop .at) (now (c .before .before .before .before .before .before .before .before .before .before .before .before .before .before .before .args .list))) ≡ Whole (c .before .n .given .0 .0)
-found c = loop.frame-rest (now (c .before .before .before .before .before .before .before .before .before .before .before .before .before .before .before .args .list)) (c .before .before .before .before .before .before .before .loop .at) (c .before .before .before .frame .ensures) (c .before .n .given .1)
+-- the machine that the parts make before the first record
+abbrev begun : tie.After-cells-of Inv-loop μ-loop → Machine
+begun c =
+    let m = c .before .before .before .before .before .before .args .m in
+    wholeMachine (c .before .before .board-of .result) (c .before .core-of .result) (c .cells-of .result) (m .drives) (m .sense)
 
-fits : (c : tie.After-known-told Inv-loop μ-loop) → (4 ≤ c .before .n .given .0 .0) × (c .before .n .given .0 .0 ≤ length (now (c .before .before .before .before .before .before .before .before .before .before .before .before .before .before .before .args .list)) - c .before .before .before .before .before .before .before .loop .at)
-fits c = loop.fit (now (c .before .before .before .before .before .before .before .before .before .before .before .before .before .before .before .args .list)) (c .before .before .before .before .before .before .before .loop .at) (c .before .n .given .0 .0) (found c)
+begun-is : (c : tie.After-cells-of Inv-loop μ-loop) → begun c ≡ c .before .before .before .before .before .before .args .m
+begun-is c =
+    let m = c .before .before .before .before .before .before .args .m in
+    let b = c .before .before .board-of in
+    ap (λ (l : List ℕ). wholeMachine (b .result) (c .before .core-of .result) l (m .drives) (m .sense)) (c .cells-of .ensures)
+    ∙ ap (λ (x : Clock). onBoard (b .result) x (m .sense) (m .drives)) (c .before .core-of .ensures) ∙ b .ensures
+
+begun-ok : (c : tie.After-cells-of Inv-loop μ-loop) → acceptedOf (begun c) ≡ true
+begun-ok c = ap acceptedOf (begun-is c) ∙ c .before .before .before .before .before .before .pre
+
+-- where a whole record was found
+found : (c : tie.After-known-told Inv-loop μ-loop) → frameOf (drop (c .before .before .before .before .before .before .before .loop .at) (now (c .before .before .before .before .before .before .before .before .before .before .before .before .before .before .before .before .args .list))) ≡ Whole (c .before .n .given .0 .0)
+found c = loop.frame-rest (now (c .before .before .before .before .before .before .before .before .before .before .before .before .before .before .before .before .args .list)) (c .before .before .before .before .before .before .before .loop .at) (c .before .before .before .frame .ensures) (c .before .n .given .1)
+
+fits : (c : tie.After-known-told Inv-loop μ-loop) → (4 ≤ c .before .n .given .0 .0) × (c .before .n .given .0 .0 ≤ length (now (c .before .before .before .before .before .before .before .before .before .before .before .before .before .before .before .before .args .list)) - c .before .before .before .before .before .before .before .loop .at)
+fits c = loop.fit (now (c .before .before .before .before .before .before .before .before .before .before .before .before .before .before .before .before .args .list)) (c .before .before .before .before .before .before .before .loop .at) (c .before .n .given .0 .0) (found c)
 
 -- where the ways of the VIA's wait meet
-counted : (c : tie.Joined2 Inv-loop μ-loop) → c .if2 .m ≡ withVia (c .before .before .before .before .before .before .before .before .before .before .before .before .before .before .before .before .before .before .before .loop .m) (ticks (itemWait (c .before .before .before .before .before .before .d .given .0 .0)) (c .before .before .before .before .before .before .before .before .before .before .before .before .before .before .before .before .before .before .before .loop .m .via))
+counted : (c : tie.Joined2 Inv-loop μ-loop) → c .if2 .board ≡ boardVia (c .before .before .before .before .before .before .before .before .before .before .before .before .before .before .before .before .before .before .before .loop .board) (ticks (itemWait (c .before .before .before .before .before .before .d .given .0 .0)) (c .before .before .before .before .before .before .before .before .before .before .before .before .before .before .before .before .before .before .before .loop .board .via))
 counted c =
     let l = c .before .before .before .before .before .before .before .before .before .before .before .before .before .before .before .before .before .before .before .loop in
     let n = c .before .before .before .wait-of .ensures in
-    ⊎-elim (λ w. w .3 ∙ ap (withVia (l .m)) (w .2 .ensures ∙ ap (λ (n : ℕ). ticks n (l .m .via)) n))
-    (λ w. w .3 ∙ ap (withVia (l .m)) (w .2 .ensures ∙ ap (λ (n : ℕ). ticks n (l .m .via)) n)) (c .if2 .came)
+    ⊎-elim (λ w. w .3 ∙ ap (boardVia (l .board)) (w .2 .ensures ∙ ap (λ (n : ℕ). ticks n (l .board .via)) n))
+    (λ w. w .3 ∙ ap (boardVia (l .board)) (w .2 .ensures ∙ ap (λ (n : ℕ). ticks n (l .board .via)) n)) (c .if2 .came)
 
 -- and those of the drives'
 passed : (c : tie.Joined3 Inv-loop μ-loop) → c .if3 .drives ≡ drivesTicks (itemWait (c .before .before .before .before .before .before .before .before .d .given .0 .0)) (c .before .before .before .before .before .before .before .before .before .before .before .before .before .before .before .before .before .before .before .before .before .loop .drives)
@@ -87,72 +115,96 @@ passed c =
 
 -- where the ways of the change meet
 stored : (c : tie.At-match3-came Inv-loop μ-loop)
-    → (c .match3 .m ≡ machineChange (c .before .before .before .before .act .result .change) (withDisk (c .before .before .before .before .before .before .before .before .before .if2 .m) (c .before .before .before .before .act .result .disk)))
+    → (c .match3 .board ≡ boardChange (c .before .before .before .before .act .result .change) (boardDisk (c .before .before .before .before .before .before .before .before .before .if2 .board) (c .before .before .before .before .act .result .disk)))
     × (c .match3 .sense ≡ senseChange (c .before .before .before .before .act .result .change) (c .before .before .before .before .before .before .before .before .before .before .before .before .before .before .before .before .before .before .before .before .before .before .before .before .before .before .before .before .loop .sense))
-unfolding machineChange senseChange
+unfolding boardChange senseChange
 stored c =
     ⊎-elim (λ w. (simp (w .2, w .1 .given .1), simp (w .3, w .1 .given .1)))
-    (⊎-elim (λ w. (simp (w .4, w .1 .given .1), simp (w .5, w .1 .given .1)))
     (⊎-elim (λ w. (simp (w .4, w .1 .given .1), simp (w .5, w .1 .given .1)))
     (⊎-elim (λ w. (simp (w .4, w .1 .given .1), simp (w .5, w .1 .given .1)))
     (⊎-elim (λ w. (simp (w .5, w .1 .given .1, w .4 .ensures), simp (w .6, w .1 .given .1)))
     (⊎-elim (λ w. (simp (w .3, w .1 .given .1), simp (w .4, w .1 .given .1)))
     (⊎-elim (λ w. (simp (w .3, w .1 .given .1), simp (w .4, w .1 .given .1)))
     (⊎-elim (λ w. (simp (w .4, w .1 .given .1, w .3 .ensures), simp (w .5, w .1 .given .1)))
-    (λ w. (simp (w .3, w .1 .given .1, w .2 .ensures), simp (w .4, w .1 .given .1))))))))))
+    (⊎-elim (λ w. (simp (w .3, w .1 .given .1, w .2 .ensures), simp (w .4, w .1 .given .1)))
+    (λ w. (simp (w .6, w .1 .given .1), simp (w .7, w .1 .given .1))))))))))
     (c .match3 .came)
 
 -- where the ways of the strobe meet
 struck : (c : tie.Joined4 Inv-loop μ-loop)
-    → c .if4 .drives ≡ drivesAfter (strobeLevels (c .before .before .before .before .before .before .before .before .before .before .before .before .before .before .before .before .before .before .before .before .before .before .before .before .before .before .before .before .before .before .before .before .loop .m)) (strobeLevels (c .before .before .before .before .match3 .m)) (c .before .before .before .before .before .before .before .before .act .result .drives)
+    → c .if4 .drives ≡ drivesAfter (strobeOf (c .before .before .before .before .before .before .before .before .before .before .before .before .before .before .before .before .before .before .before .before .before .before .before .before .before .before .before .before .before .before .before .before .loop .board)) (strobeOf (c .before .before .before .before .match3 .board)) (c .before .before .before .before .before .before .before .before .act .result .drives)
 struck c =
-    let before = c .before .before .before .before .before .before .before .before .before .before .before .before .before .before .before .before .before .watched .ensures in
-    let after = c .before .before .before .watched2 .ensures in
+    let l = c .before .before .before .before .before .before .before .before .before .before .before .before .before .before .before .before .before .before .before .before .before .before .before .before .before .before .before .before .before .before .before .before .loop in
+    let k = wholeClock (l .core) (l .cells) in
+    let before = c .before .before .before .before .before .before .before .before .before .before .before .before .before .before .before .before .before .watched .ensures k (l .sense) (l .drives) in
+    let after = c .before .before .before .watched2 .ensures k (l .sense) (l .drives) in
     ⊎-elim (λ w. w .2 ∙ w .1 .ensures ∙ ap₂ (λ (x y : Watched). drivesAfter x y (c .before .before .before .before .before .before .before .before .act .result .drives)) before after)
-    (λ w. w .1 ∙ turns.dark (c .before .before .before .before .before .before .before .before .before .before .before .before .before .before .before .before .before .before .before .before .before .before .before .before .before .before .before .before .before .before .before .before .loop .m) (c .before .before .before .before .before .before .before .before .before .before .before .before .before .before .before .before .before .before .before .before .before .before .before .before .before .before .before .before .before .before .before .before .loop .core) (c .before .before .before .before .before .before .before .before .before .before .before .before .before .before .before .before .before .before .before .before .before .before .before .before .before .before .before .before .before .before .before .before .loop .cells) (c .before .before .before .before .before .before .before .before .before .before .before .before .before .before .before .before .before .before .before .before .before .before .before .before .before .before .before .before .before .before .before .before .loop .drives) (c .before .before .before .before .before .before .before .before .before .before .before .before .before .before .before .before .before .before .before .before .before .before .before .before .before .before .before .before .before .before .before .before .loop .sense) (c .before .before .before .before .before .before .before .before .before .before .before .before .before .before .before .before .before .before .before .d .given .0 .0) (c .before .before .before .before .before .before .before .before .before .before .before .before .before .if2 .m) (counted (c .before .before .before .before .before .before .before .before .before .before .before .before .before)) (c .before .before .before .before .before .before .before .before .before .before .before .if3 .drives) (passed (c .before .before .before .before .before .before .before .before .before .before .before)) (c .before .before .before .before .before .before .before .before .act .result) (c .before .before .before .before .before .before .before .before .act .last .1 .1 .1 .1 .1 .0) (c .before .before .before .before .before .before .before .before .act .ensures .0) (c .before .before .before .before .match3 .m) (c .before .before .before .before .before .before .before .before .before .before .before .before .before .before .before .before .before .before .before .before .before .before .before .before .before .before .before .before .before .before .before .before .loop .inv .0 .ok)
+    (λ w. w .1 ∙ turns.dark (c .before .before .before .before .before .before .before .before .before .before .before .before .before .before .before .before .before .before .before .before .before .before .before .before .before .before .before .before .before .before .before .before .loop .board) (c .before .before .before .before .before .before .before .before .before .before .before .before .before .before .before .before .before .before .before .before .before .before .before .before .before .before .before .before .before .before .before .before .loop .core) (c .before .before .before .before .before .before .before .before .before .before .before .before .before .before .before .before .before .before .before .before .before .before .before .before .before .before .before .before .before .before .before .before .loop .cells) (c .before .before .before .before .before .before .before .before .before .before .before .before .before .before .before .before .before .before .before .before .before .before .before .before .before .before .before .before .before .before .before .before .loop .drives) (c .before .before .before .before .before .before .before .before .before .before .before .before .before .before .before .before .before .before .before .before .before .before .before .before .before .before .before .before .before .before .before .before .loop .sense) (c .before .before .before .before .before .before .before .before .before .before .before .before .before .before .before .before .before .before .before .d .given .0 .0) (c .before .before .before .before .before .before .before .before .before .before .before .before .before .if2 .board) (counted (c .before .before .before .before .before .before .before .before .before .before .before .before .before)) (c .before .before .before .before .before .before .before .before .before .before .before .if3 .drives) (passed (c .before .before .before .before .before .before .before .before .before .before .before)) (c .before .before .before .before .before .before .before .before .act .result) (c .before .before .before .before .before .before .before .before .act .last .1 .1 .1 .1 .1 .1 .0) (c .before .before .before .before .before .before .before .before .act .ensures .0) (c .before .before .before .before .match3 .board) (c .before .before .before .before .before .before .before .before .before .before .before .before .before .before .before .before .before .before .before .before .before .before .before .before .before .before .before .before .before .before .before .before .loop .inv .0 .ok)
     (sym (ap₂ (λ (x y : Watched). x .lstrb || y .lstrb) before after) ∙ w .0 .left)) (c .if4 .came)
 
 -- the item carried out
 stepped : (c : tie.Joined4 Inv-loop μ-loop)
-    → record { machine = wholeMachine (c .before .before .before .before .match3 .m) (c .before .before .before .before .before .before .before .before .act .result .core) (c .before .before .before .before .before .before .before .before .act .last .1 .1 .1 .1 .1 .0) (c .if4 .drives) (c .before .before .before .before .match3 .sense); value = c .before .before .before .before .before .before .before .before .act .result .value }
-    ≡ stepOf (wholeMachine (c .before .before .before .before .before .before .before .before .before .before .before .before .before .before .before .before .before .before .before .before .before .before .before .before .before .before .before .before .before .before .before .before .loop .m) (c .before .before .before .before .before .before .before .before .before .before .before .before .before .before .before .before .before .before .before .before .before .before .before .before .before .before .before .before .before .before .before .before .loop .core) (c .before .before .before .before .before .before .before .before .before .before .before .before .before .before .before .before .before .before .before .before .before .before .before .before .before .before .before .before .before .before .before .before .loop .cells) (c .before .before .before .before .before .before .before .before .before .before .before .before .before .before .before .before .before .before .before .before .before .before .before .before .before .before .before .before .before .before .before .before .loop .drives) (c .before .before .before .before .before .before .before .before .before .before .before .before .before .before .before .before .before .before .before .before .before .before .before .before .before .before .before .before .before .before .before .before .loop .sense)) (c .before .before .before .before .before .before .before .before .before .before .before .before .before .before .before .before .before .before .before .d .given .0 .0)
+    → record { machine = wholeMachine (c .before .before .before .before .match3 .board) (c .before .before .before .before .before .before .before .before .act .result .core) (c .before .before .before .before .before .before .before .before .act .last .1 .1 .1 .1 .1 .1 .0) (c .if4 .drives) (c .before .before .before .before .match3 .sense); value = c .before .before .before .before .before .before .before .before .act .result .value }
+    ≡ stepOf (wholeMachine (c .before .before .before .before .before .before .before .before .before .before .before .before .before .before .before .before .before .before .before .before .before .before .before .before .before .before .before .before .before .before .before .before .loop .board) (c .before .before .before .before .before .before .before .before .before .before .before .before .before .before .before .before .before .before .before .before .before .before .before .before .before .before .before .before .before .before .before .before .loop .core) (c .before .before .before .before .before .before .before .before .before .before .before .before .before .before .before .before .before .before .before .before .before .before .before .before .before .before .before .before .before .before .before .before .loop .cells) (c .before .before .before .before .before .before .before .before .before .before .before .before .before .before .before .before .before .before .before .before .before .before .before .before .before .before .before .before .before .before .before .before .loop .drives) (c .before .before .before .before .before .before .before .before .before .before .before .before .before .before .before .before .before .before .before .before .before .before .before .before .before .before .before .before .before .before .before .before .loop .sense)) (c .before .before .before .before .before .before .before .before .before .before .before .before .before .before .before .before .before .before .before .d .given .0 .0)
 stepped c =
-    turns.stepped (c .before .before .before .before .before .before .before .before .before .before .before .before .before .before .before .before .before .before .before .before .before .before .before .before .before .before .before .before .before .before .before .before .loop .m) (c .before .before .before .before .before .before .before .before .before .before .before .before .before .before .before .before .before .before .before .before .before .before .before .before .before .before .before .before .before .before .before .before .loop .core) (c .before .before .before .before .before .before .before .before .before .before .before .before .before .before .before .before .before .before .before .before .before .before .before .before .before .before .before .before .before .before .before .before .loop .cells) (c .before .before .before .before .before .before .before .before .before .before .before .before .before .before .before .before .before .before .before .before .before .before .before .before .before .before .before .before .before .before .before .before .loop .drives) (c .before .before .before .before .before .before .before .before .before .before .before .before .before .before .before .before .before .before .before .before .before .before .before .before .before .before .before .before .before .before .before .before .loop .sense) (c .before .before .before .before .before .before .before .before .before .before .before .before .before .before .before .before .before .before .before .d .given .0 .0) (c .before .before .before .before .before .before .before .before .before .before .before .before .before .if2 .m) (counted (c .before .before .before .before .before .before .before .before .before .before .before .before .before)) (c .before .before .before .before .before .before .before .before .before .before .before .if3 .drives) (passed (c .before .before .before .before .before .before .before .before .before .before .before)) (c .before .before .before .before .before .before .before .before .act .result) (c .before .before .before .before .before .before .before .before .act .last .1 .1 .1 .1 .1 .0) (c .before .before .before .before .before .before .before .before .act .ensures .0) (c .before .before .before .before .before .before .before .before .act .ensures .1 .0) (c .before .before .before .before .match3 .m) (c .before .before .before .before .match3 .sense) (stored (c .before .before .before .before) .0) (stored (c .before .before .before .before) .1) (c .if4 .drives) (struck c)
+    turns.stepped (c .before .before .before .before .before .before .before .before .before .before .before .before .before .before .before .before .before .before .before .before .before .before .before .before .before .before .before .before .before .before .before .before .loop .board) (c .before .before .before .before .before .before .before .before .before .before .before .before .before .before .before .before .before .before .before .before .before .before .before .before .before .before .before .before .before .before .before .before .loop .core) (c .before .before .before .before .before .before .before .before .before .before .before .before .before .before .before .before .before .before .before .before .before .before .before .before .before .before .before .before .before .before .before .before .loop .cells) (c .before .before .before .before .before .before .before .before .before .before .before .before .before .before .before .before .before .before .before .before .before .before .before .before .before .before .before .before .before .before .before .before .loop .drives) (c .before .before .before .before .before .before .before .before .before .before .before .before .before .before .before .before .before .before .before .before .before .before .before .before .before .before .before .before .before .before .before .before .loop .sense) (c .before .before .before .before .before .before .before .before .before .before .before .before .before .before .before .before .before .before .before .d .given .0 .0) (c .before .before .before .before .before .before .before .before .before .before .before .before .before .if2 .board) (counted (c .before .before .before .before .before .before .before .before .before .before .before .before .before)) (c .before .before .before .before .before .before .before .before .before .before .before .if3 .drives) (passed (c .before .before .before .before .before .before .before .before .before .before .before)) (c .before .before .before .before .before .before .before .before .act .result) (c .before .before .before .before .before .before .before .before .act .last .1 .1 .1 .1 .1 .1 .0) (c .before .before .before .before .before .before .before .before .act .ensures .0) (c .before .before .before .before .before .before .before .before .act .ensures .1 .0) (c .before .before .before .before .match3 .board) (c .before .before .before .before .match3 .sense) (stored (c .before .before .before .before) .0) (stored (c .before .before .before .before) .1) (c .if4 .drives) (struck c)
 
 range : (c : tie.After-known-told2 Inv-loop μ-loop) → ItemInRange (c .before .d .given .0 .0)
-range c = subst JudgedInRange (c .before .d .given .1) (c .before .before .before .before .before .judge .ensures .1)
+range c = subst (JudgedInRange _) (c .before .d .given .1) (c .before .before .before .before .before .judge .ensures .1)
 
 -- its record
 did : (c : tie.After-answer Inv-loop μ-loop)
-    → record { machine = wholeMachine (c .before .before .before .before .before .match3 .m) (c .before .before .before .before .before .before .before .before .before .act .result .core) (c .before .before .before .before .before .before .before .before .before .act .last .1 .1 .1 .1 .1 .0) (c .before .if4 .drives) (c .before .before .before .before .before .match3 .sense); answer = c .answer .result }
-    ≡ turnOf (wholeMachine (c .before .before .before .before .before .before .before .before .before .before .before .before .before .before .before .before .before .before .before .before .before .before .before .before .before .before .before .before .before .before .before .before .before .loop .m) (c .before .before .before .before .before .before .before .before .before .before .before .before .before .before .before .before .before .before .before .before .before .before .before .before .before .before .before .before .before .before .before .before .before .loop .core) (c .before .before .before .before .before .before .before .before .before .before .before .before .before .before .before .before .before .before .before .before .before .before .before .before .before .before .before .before .before .before .before .before .before .loop .cells) (c .before .before .before .before .before .before .before .before .before .before .before .before .before .before .before .before .before .before .before .before .before .before .before .before .before .before .before .before .before .before .before .before .before .loop .drives) (c .before .before .before .before .before .before .before .before .before .before .before .before .before .before .before .before .before .before .before .before .before .before .before .before .before .before .before .before .before .before .before .before .before .loop .sense)) (take (c .before .before .before .before .before .before .before .before .before .before .before .before .before .before .before .before .before .before .before .before .before .before .before .before .before .before .before .n .given .0 .0 - 2) (drop 2 (take (length (now (c .before .before .before .before .before .before .before .before .before .before .before .before .before .before .before .before .before .before .before .before .before .before .before .before .before .before .before .before .before .before .before .before .before .before .before .before .before .before .before .before .before .args .list)) - c .before .before .before .before .before .before .before .before .before .before .before .before .before .before .before .before .before .before .before .before .before .before .before .before .before .before .before .before .before .before .before .before .before .loop .at) (drop (c .before .before .before .before .before .before .before .before .before .before .before .before .before .before .before .before .before .before .before .before .before .before .before .before .before .before .before .before .before .before .before .before .before .loop .at) (now (c .before .before .before .before .before .before .before .before .before .before .before .before .before .before .before .before .before .before .before .before .before .before .before .before .before .before .before .before .before .before .before .before .before .before .before .before .before .before .before .before .before .args .list))))))
+    → record { machine = wholeMachine (c .before .before .before .before .before .match3 .board) (c .before .before .before .before .before .before .before .before .before .act .result .core) (c .before .before .before .before .before .before .before .before .before .act .last .1 .1 .1 .1 .1 .1 .0) (c .before .if4 .drives) (c .before .before .before .before .before .match3 .sense); answer = c .answer .result }
+    ≡ turnOf (wholeMachine (c .before .before .before .before .before .before .before .before .before .before .before .before .before .before .before .before .before .before .before .before .before .before .before .before .before .before .before .before .before .before .before .before .before .loop .board) (c .before .before .before .before .before .before .before .before .before .before .before .before .before .before .before .before .before .before .before .before .before .before .before .before .before .before .before .before .before .before .before .before .before .loop .core) (c .before .before .before .before .before .before .before .before .before .before .before .before .before .before .before .before .before .before .before .before .before .before .before .before .before .before .before .before .before .before .before .before .before .loop .cells) (c .before .before .before .before .before .before .before .before .before .before .before .before .before .before .before .before .before .before .before .before .before .before .before .before .before .before .before .before .before .before .before .before .before .loop .drives) (c .before .before .before .before .before .before .before .before .before .before .before .before .before .before .before .before .before .before .before .before .before .before .before .before .before .before .before .before .before .before .before .before .before .loop .sense)) (take (c .before .before .before .before .before .before .before .before .before .before .before .before .before .before .before .before .before .before .before .before .before .before .before .before .before .before .before .n .given .0 .0 - 2) (drop 2 (take (length (now (c .before .before .before .before .before .before .before .before .before .before .before .before .before .before .before .before .before .before .before .before .before .before .before .before .before .before .before .before .before .before .before .before .before .before .before .before .before .before .before .before .before .before .args .list)) - c .before .before .before .before .before .before .before .before .before .before .before .before .before .before .before .before .before .before .before .before .before .before .before .before .before .before .before .before .before .before .before .before .before .loop .at) (drop (c .before .before .before .before .before .before .before .before .before .before .before .before .before .before .before .before .before .before .before .before .before .before .before .before .before .before .before .before .before .before .before .before .before .loop .at) (now (c .before .before .before .before .before .before .before .before .before .before .before .before .before .before .before .before .before .before .before .before .before .before .before .before .before .before .before .before .before .before .before .before .before .before .before .before .before .before .before .before .before .before .args .list))))))
 unfolding turnJudged
 did c =
-    turns.done (c .before .before .before .before .before .before .before .before .before .before .before .before .before .before .before .before .before .before .before .before .before .before .before .before .before .before .before .before .before .before .before .before .before .loop .m) (c .before .before .before .before .before .before .before .before .before .before .before .before .before .before .before .before .before .before .before .before .before .before .before .before .before .before .before .before .before .before .before .before .before .loop .core) (c .before .before .before .before .before .before .before .before .before .before .before .before .before .before .before .before .before .before .before .before .before .before .before .before .before .before .before .before .before .before .before .before .before .loop .cells) (c .before .before .before .before .before .before .before .before .before .before .before .before .before .before .before .before .before .before .before .before .before .before .before .before .before .before .before .before .before .before .before .before .before .loop .drives) (c .before .before .before .before .before .before .before .before .before .before .before .before .before .before .before .before .before .before .before .before .before .before .before .before .before .before .before .before .before .before .before .before .before .loop .sense) (c .before .before .before .before .before .before .before .before .before .before .before .before .before .before .before .before .before .before .before .before .d .given .0 .0) (c .before .before .before .before .before .before .before .before .before .before .before .before .before .before .if2 .m) (counted (c .before .before .before .before .before .before .before .before .before .before .before .before .before .before)) (c .before .before .before .before .before .before .before .before .before .before .before .before .if3 .drives) (passed (c .before .before .before .before .before .before .before .before .before .before .before .before)) (c .before .before .before .before .before .before .before .before .before .act .result) (c .before .before .before .before .before .before .before .before .before .act .last .1 .1 .1 .1 .1 .0) (c .before .before .before .before .before .before .before .before .before .act .ensures .0) (c .before .before .before .before .before .before .before .before .before .act .ensures .1 .0) (c .before .before .before .before .before .match3 .m) (c .before .before .before .before .before .match3 .sense) (stored (c .before .before .before .before .before) .0) (stored (c .before .before .before .before .before) .1) (c .before .if4 .drives) (struck (c .before)) _
-    (c .before .before .before .before .before .before .before .before .before .before .before .before .before .before .before .before .before .before .before .before .before .before .before .before .judge .ensures .0 (wholeMachine (c .before .before .before .before .before .before .before .before .before .before .before .before .before .before .before .before .before .before .before .before .before .before .before .before .before .before .before .before .before .before .before .before .before .loop .m) (c .before .before .before .before .before .before .before .before .before .before .before .before .before .before .before .before .before .before .before .before .before .before .before .before .before .before .before .before .before .before .before .before .before .loop .core) (c .before .before .before .before .before .before .before .before .before .before .before .before .before .before .before .before .before .before .before .before .before .before .before .before .before .before .before .before .before .before .before .before .before .loop .cells) (c .before .before .before .before .before .before .before .before .before .before .before .before .before .before .before .before .before .before .before .before .before .before .before .before .before .before .before .before .before .before .before .before .before .loop .drives) (c .before .before .before .before .before .before .before .before .before .before .before .before .before .before .before .before .before .before .before .before .before .before .before .before .before .before .before .before .before .before .before .before .before .loop .sense)) refl ∙ ap (turnJudged (wholeMachine (c .before .before .before .before .before .before .before .before .before .before .before .before .before .before .before .before .before .before .before .before .before .before .before .before .before .before .before .before .before .before .before .before .before .loop .m) (c .before .before .before .before .before .before .before .before .before .before .before .before .before .before .before .before .before .before .before .before .before .before .before .before .before .before .before .before .before .before .before .before .before .loop .core) (c .before .before .before .before .before .before .before .before .before .before .before .before .before .before .before .before .before .before .before .before .before .before .before .before .before .before .before .before .before .before .before .before .before .loop .cells) (c .before .before .before .before .before .before .before .before .before .before .before .before .before .before .before .before .before .before .before .before .before .before .before .before .before .before .before .before .before .before .before .before .before .loop .drives) (c .before .before .before .before .before .before .before .before .before .before .before .before .before .before .before .before .before .before .before .before .before .before .before .before .before .before .before .before .before .before .before .before .before .loop .sense))) (c .before .before .before .before .before .before .before .before .before .before .before .before .before .before .before .before .before .before .before .before .d .given .1)) _ (c .answer .ensures)
+    turns.done (c .before .before .before .before .before .before .before .before .before .before .before .before .before .before .before .before .before .before .before .before .before .before .before .before .before .before .before .before .before .before .before .before .before .loop .board) (c .before .before .before .before .before .before .before .before .before .before .before .before .before .before .before .before .before .before .before .before .before .before .before .before .before .before .before .before .before .before .before .before .before .loop .core) (c .before .before .before .before .before .before .before .before .before .before .before .before .before .before .before .before .before .before .before .before .before .before .before .before .before .before .before .before .before .before .before .before .before .loop .cells) (c .before .before .before .before .before .before .before .before .before .before .before .before .before .before .before .before .before .before .before .before .before .before .before .before .before .before .before .before .before .before .before .before .before .loop .drives) (c .before .before .before .before .before .before .before .before .before .before .before .before .before .before .before .before .before .before .before .before .before .before .before .before .before .before .before .before .before .before .before .before .before .loop .sense) (c .before .before .before .before .before .before .before .before .before .before .before .before .before .before .before .before .before .before .before .before .d .given .0 .0) (c .before .before .before .before .before .before .before .before .before .before .before .before .before .before .if2 .board) (counted (c .before .before .before .before .before .before .before .before .before .before .before .before .before .before)) (c .before .before .before .before .before .before .before .before .before .before .before .before .if3 .drives) (passed (c .before .before .before .before .before .before .before .before .before .before .before .before)) (c .before .before .before .before .before .before .before .before .before .act .result) (c .before .before .before .before .before .before .before .before .before .act .last .1 .1 .1 .1 .1 .1 .0) (c .before .before .before .before .before .before .before .before .before .act .ensures .0) (c .before .before .before .before .before .before .before .before .before .act .ensures .1 .0) (c .before .before .before .before .before .match3 .board) (c .before .before .before .before .before .match3 .sense) (stored (c .before .before .before .before .before) .0) (stored (c .before .before .before .before .before) .1) (c .before .if4 .drives) (struck (c .before)) _
+    (c .before .before .before .before .before .before .before .before .before .before .before .before .before .before .before .before .before .before .before .before .before .before .before .before .judge .ensures .0 (wholeMachine (c .before .before .before .before .before .before .before .before .before .before .before .before .before .before .before .before .before .before .before .before .before .before .before .before .before .before .before .before .before .before .before .before .before .loop .board) (c .before .before .before .before .before .before .before .before .before .before .before .before .before .before .before .before .before .before .before .before .before .before .before .before .before .before .before .before .before .before .before .before .before .loop .core) (c .before .before .before .before .before .before .before .before .before .before .before .before .before .before .before .before .before .before .before .before .before .before .before .before .before .before .before .before .before .before .before .before .before .loop .cells) (c .before .before .before .before .before .before .before .before .before .before .before .before .before .before .before .before .before .before .before .before .before .before .before .before .before .before .before .before .before .before .before .before .before .loop .drives) (c .before .before .before .before .before .before .before .before .before .before .before .before .before .before .before .before .before .before .before .before .before .before .before .before .before .before .before .before .before .before .before .before .before .loop .sense)) refl ∙ ap (turnJudged (wholeMachine (c .before .before .before .before .before .before .before .before .before .before .before .before .before .before .before .before .before .before .before .before .before .before .before .before .before .before .before .before .before .before .before .before .before .loop .board) (c .before .before .before .before .before .before .before .before .before .before .before .before .before .before .before .before .before .before .before .before .before .before .before .before .before .before .before .before .before .before .before .before .before .loop .core) (c .before .before .before .before .before .before .before .before .before .before .before .before .before .before .before .before .before .before .before .before .before .before .before .before .before .before .before .before .before .before .before .before .before .loop .cells) (c .before .before .before .before .before .before .before .before .before .before .before .before .before .before .before .before .before .before .before .before .before .before .before .before .before .before .before .before .before .before .before .before .before .loop .drives) (c .before .before .before .before .before .before .before .before .before .before .before .before .before .before .before .before .before .before .before .before .before .before .before .before .before .before .before .before .before .before .before .before .before .loop .sense)) _) (c .before .before .before .before .before .before .before .before .before .before .before .before .before .before .before .before .before .before .before .before .d .given .1)) _ (c .answer .ensures _ _ _)
+
+-- where the record is an MW: what is known of it
+many : (c : tie.After-known-told9 Inv-loop μ-loop) → ManyInRange (recordAt (now (c .before .before .before .before .before .before .before .before .before .before .before .before .before .before .before .before .before .before .before .before .before .before .before .args .list)) (c .before .before .before .before .before .before .before .before .before .before .before .before .before .before .loop .at) (c .before .before .before .before .before .before .before .before .n .given .0 .0)) (c .before .d2 .given .0 .0)
+many c = subst (JudgedInRange _) (c .before .d2 .given .1) (c .before .before .before .before .before .judge .ensures .1)
+
+long : (c : tie.After-known-told9 Inv-loop μ-loop) → 12 ≤ c .before .before .before .before .before .before .before .before .n .given .0 .0
+long c = twelve (now (c .before .before .before .before .before .before .before .before .before .before .before .before .before .before .before .before .before .before .before .before .before .before .before .args .list)) (c .before .before .before .before .before .before .before .before .before .before .before .before .before .before .loop .at) (c .before .before .before .before .before .before .before .before .n .given .0 .0) (found (c .before .before .before .before .before .before .before)) (many c .least)
+
+judged : (c : tie.After-known-told9 Inv-loop μ-loop) → turnOf (wholeMachine (c .before .before .before .before .before .before .before .before .before .before .before .before .before .before .loop .board) (c .before .before .before .before .before .before .before .before .before .before .before .before .before .before .loop .core) (c .before .before .before .before .before .before .before .before .before .before .before .before .before .before .loop .cells) (c .before .before .before .before .before .before .before .before .before .before .before .before .before .before .loop .drives) (c .before .before .before .before .before .before .before .before .before .before .before .before .before .before .loop .sense)) (recordAt (now (c .before .before .before .before .before .before .before .before .before .before .before .before .before .before .before .before .before .before .before .before .before .before .before .args .list)) (c .before .before .before .before .before .before .before .before .before .before .before .before .before .before .loop .at) (c .before .before .before .before .before .before .before .before .n .given .0 .0)) ≡ manyTurn (wholeMachine (c .before .before .before .before .before .before .before .before .before .before .before .before .before .before .loop .board) (c .before .before .before .before .before .before .before .before .before .before .before .before .before .before .loop .core) (c .before .before .before .before .before .before .before .before .before .before .before .before .before .before .loop .cells) (c .before .before .before .before .before .before .before .before .before .before .before .before .before .before .loop .drives) (c .before .before .before .before .before .before .before .before .before .before .before .before .before .before .loop .sense)) (c .before .d2 .given .0 .0) (recordAt (now (c .before .before .before .before .before .before .before .before .before .before .before .before .before .before .before .before .before .before .before .before .before .before .before .args .list)) (c .before .before .before .before .before .before .before .before .before .before .before .before .before .before .loop .at) (c .before .before .before .before .before .before .before .before .n .given .0 .0))
+unfolding turnJudged
+judged c = c .before .before .before .before .before .judge .ensures .0 (wholeMachine (c .before .before .before .before .before .before .before .before .before .before .before .before .before .before .loop .board) (c .before .before .before .before .before .before .before .before .before .before .before .before .before .before .loop .core) (c .before .before .before .before .before .before .before .before .before .before .before .before .before .before .loop .cells) (c .before .before .before .before .before .before .before .before .before .before .before .before .before .before .loop .drives) (c .before .before .before .before .before .before .before .before .before .before .before .before .before .before .loop .sense)) refl ∙ ap (turnJudged (wholeMachine (c .before .before .before .before .before .before .before .before .before .before .before .before .before .before .loop .board) (c .before .before .before .before .before .before .before .before .before .before .before .before .before .before .loop .core) (c .before .before .before .before .before .before .before .before .before .before .before .before .before .before .loop .cells) (c .before .before .before .before .before .before .before .before .before .before .before .before .before .before .loop .drives) (c .before .before .before .before .before .before .before .before .before .before .before .before .before .before .loop .sense)) _) (c .before .d2 .given .1)
+
+-- and its turn
+wrote : (c : tie.After-answer2 Inv-loop μ-loop)
+    → record { machine = wholeMachine (c .before .before .before .before .write2 .result .board) (c .before .before .before .before .write2 .result .core) (c .before .before .before .before .write2 .last .1 .1 .1 .1 .1 .1 .0) (c .before .before .before .before .write2 .result .drives) (c .before .before .before .before .before .before .before .before .before .before .before .before .before .before .before .before .before .before .before .before .before .loop .sense); answer = c .answer2 .result }
+    ≡ turnOf (wholeMachine (c .before .before .before .before .before .before .before .before .before .before .before .before .before .before .before .before .before .before .before .before .before .loop .board) (c .before .before .before .before .before .before .before .before .before .before .before .before .before .before .before .before .before .before .before .before .before .loop .core) (c .before .before .before .before .before .before .before .before .before .before .before .before .before .before .before .before .before .before .before .before .before .loop .cells) (c .before .before .before .before .before .before .before .before .before .before .before .before .before .before .before .before .before .before .before .before .before .loop .drives) (c .before .before .before .before .before .before .before .before .before .before .before .before .before .before .before .before .before .before .before .before .before .loop .sense)) (recordAt (now (c .before .before .before .before .before .before .before .before .before .before .before .before .before .before .before .before .before .before .before .before .before .before .before .before .before .before .before .before .before .before .args .list)) (c .before .before .before .before .before .before .before .before .before .before .before .before .before .before .before .before .before .before .before .before .before .loop .at) (c .before .before .before .before .before .before .before .before .before .before .before .before .before .before .before .n .given .0 .0))
+wrote c =
+    many-did (wholeMachine (c .before .before .before .before .before .before .before .before .before .before .before .before .before .before .before .before .before .before .before .before .before .loop .board) (c .before .before .before .before .before .before .before .before .before .before .before .before .before .before .before .before .before .before .before .before .before .loop .core) (c .before .before .before .before .before .before .before .before .before .before .before .before .before .before .before .before .before .before .before .before .before .loop .cells) (c .before .before .before .before .before .before .before .before .before .before .before .before .before .before .before .before .before .before .before .before .before .loop .drives) (c .before .before .before .before .before .before .before .before .before .before .before .before .before .before .before .before .before .before .before .before .before .loop .sense)) (recordAt (now (c .before .before .before .before .before .before .before .before .before .before .before .before .before .before .before .before .before .before .before .before .before .before .before .before .before .before .before .before .before .before .args .list)) (c .before .before .before .before .before .before .before .before .before .before .before .before .before .before .before .before .before .before .before .before .before .loop .at) (c .before .before .before .before .before .before .before .before .before .before .before .before .before .before .before .n .given .0 .0)) (c .before .before .before .before .before .before .before .before .d2 .given .0 .0) (judged (c .before .before .before .before .before .before .before)) (valuesAt (now (c .before .before .before .before .before .before .before .before .before .before .before .before .before .before .before .before .before .before .before .before .before .before .before .before .before .before .before .before .before .before .args .list)) (c .before .before .before .before .before .before .before .before .before .before .before .before .before .before .before .before .before .before .before .before .before .loop .at) (c .before .before .before .before .before .before .before .before .before .before .before .before .before .before .before .n .given .0 .0)) (values-are (now (c .before .before .before .before .before .before .before .before .before .before .before .before .before .before .before .before .before .before .before .before .before .before .before .before .before .before .before .before .before .before .args .list)) (c .before .before .before .before .before .before .before .before .before .before .before .before .before .before .before .before .before .before .before .before .before .loop .at) (c .before .before .before .before .before .before .before .before .before .before .before .before .before .before .before .n .given .0 .0) (long (c .before .before .before .before .before .before .before))) _ (c .before .before .before .before .write2 .ensures (c .before .before .before .before .before .before .before .before .before .before .before .before .before .before .before .before .before .before .before .before .before .loop .sense)) (c .answer2 .result) (c .answer2 .ensures _ _ _)
 
 -- where the ways of the record meet: the parts together are the turn's machine
-met : (c : tie.At-match2-came Inv-loop μ-loop) → record { machine = wholeMachine (c .match2 .m) (c .match2 .core) (c .match2 .cells) (c .match2 .drives) (c .match2 .sense); answer = c .match2 .answer } ≡ turnOf (wholeMachine (c .before .before .before .before .before .before .before .before .before .before .before .before .loop .m) (c .before .before .before .before .before .before .before .before .before .before .before .before .loop .core) (c .before .before .before .before .before .before .before .before .before .before .before .before .loop .cells) (c .before .before .before .before .before .before .before .before .before .before .before .before .loop .drives) (c .before .before .before .before .before .before .before .before .before .before .before .before .loop .sense)) (take (c .before .before .before .before .before .before .n .given .0 .0 - 2) (drop 2 (take (length (now (c .before .before .before .before .before .before .before .before .before .before .before .before .before .before .before .before .before .before .before .before .args .list)) - c .before .before .before .before .before .before .before .before .before .before .before .before .loop .at) (drop (c .before .before .before .before .before .before .before .before .before .before .before .before .loop .at) (now (c .before .before .before .before .before .before .before .before .before .before .before .before .before .before .before .before .before .before .before .before .args .list))))))
+met : (c : tie.At-match2-came Inv-loop μ-loop) → record { machine = wholeMachine (c .match2 .board) (c .match2 .core) (c .match2 .cells) (c .match2 .drives) (c .match2 .sense); answer = c .match2 .answer } ≡ turnOf (wholeMachine (c .before .before .before .before .before .before .before .before .before .before .before .before .loop .board) (c .before .before .before .before .before .before .before .before .before .before .before .before .loop .core) (c .before .before .before .before .before .before .before .before .before .before .before .before .loop .cells) (c .before .before .before .before .before .before .before .before .before .before .before .before .loop .drives) (c .before .before .before .before .before .before .before .before .before .before .before .before .loop .sense)) (take (c .before .before .before .before .before .before .n .given .0 .0 - 2) (drop 2 (take (length (now (c .before .before .before .before .before .before .before .before .before .before .before .before .before .before .before .before .before .before .before .before .before .args .list)) - c .before .before .before .before .before .before .before .before .before .before .before .before .loop .at) (drop (c .before .before .before .before .before .before .before .before .before .before .before .before .loop .at) (now (c .before .before .before .before .before .before .before .before .before .before .before .before .before .before .before .before .before .before .before .before .before .args .list))))))
 unfolding turnJudged
 met c =
     ⊎-elim (λ w. simp (w .22, w .23, w .24, w .25, w .26, w .27) (did (record { before = record { before = record { before = record { before = record { before = record { before = record { before = record { before = record { before = record { before = record { before = record { before = record { before = record { before = record { before = record { before = record { before = record { before = record { before = record { before = record { before = record { before = c .before; match2 = w .0 }; d = w .1 }; known-told2 = w .2 }; watched = w .3 }; wait-of = w .4 }; only-counts-arg = w .5 }; only-counts = w .6 }; if2 = w .7 }; busy = w .8 }; if3 = w .9 }; sense2 = w .10 }; cells = w .11 }; act = w .12 }; disk = w .13 }; core = w .14 }; drives2 = w .15 }; match3 = w .16 }; watched2 = w .17 }; struct-known = w .18 }; struct-known2 = w .19 }; if4 = w .20 }; answer = w .21 })))
-    (λ w. simp (w .2, w .3, w .4, w .5, w .6, w .7) (sym (c .before .before .before .judge .ensures .0 (wholeMachine (c .before .before .before .before .before .before .before .before .before .before .before .before .loop .m) (c .before .before .before .before .before .before .before .before .before .before .before .before .loop .core) (c .before .before .before .before .before .before .before .before .before .before .before .before .loop .cells) (c .before .before .before .before .before .before .before .before .before .before .before .before .loop .drives) (c .before .before .before .before .before .before .before .before .before .before .before .before .loop .sense)) refl ∙ ap (turnJudged (wholeMachine (c .before .before .before .before .before .before .before .before .before .before .before .before .loop .m) (c .before .before .before .before .before .before .before .before .before .before .before .before .loop .core) (c .before .before .before .before .before .before .before .before .before .before .before .before .loop .cells) (c .before .before .before .before .before .before .before .before .before .before .before .before .loop .drives) (c .before .before .before .before .before .before .before .before .before .before .before .before .loop .sense))) (w .1 .given .1)
-    ∙ ap (λ (y : Answer). record { machine = (wholeMachine (c .before .before .before .before .before .before .before .before .before .before .before .before .loop .m) (c .before .before .before .before .before .before .before .before .before .before .before .before .loop .core) (c .before .before .before .before .before .before .before .before .before .before .before .before .loop .cells) (c .before .before .before .before .before .before .before .before .before .before .before .before .loop .drives) (c .before .before .before .before .before .before .before .before .before .before .before .before .loop .sense)); answer = y }) (sym (c .before .no2 .ensures ∙ ap noOf (c .before .before .refusal .ensures ∙ simp (w .1 .given .1))))))) (c .match2 .came)
+    (⊎-elim (λ w. simp (w .10, w .11, w .12, w .13, w .14, w .15) (wrote (record { before = record { before = record { before = record { before = record { before = record { before = record { before = record { before = record { before = record { before = c .before; match2 = w .0 }; d2 = w .1 }; known-told9 = w .2 }; write-arg2 = w .3 }; cells2 = w .4 }; write2 = w .5 }; b = w .6 }; core2 = w .7 }; drives3 = w .8 }; answer2 = w .9 })))
+    (λ w. simp (w .2, w .3, w .4, w .5, w .6, w .7) (sym (c .before .before .before .judge .ensures .0 (wholeMachine (c .before .before .before .before .before .before .before .before .before .before .before .before .loop .board) (c .before .before .before .before .before .before .before .before .before .before .before .before .loop .core) (c .before .before .before .before .before .before .before .before .before .before .before .before .loop .cells) (c .before .before .before .before .before .before .before .before .before .before .before .before .loop .drives) (c .before .before .before .before .before .before .before .before .before .before .before .before .loop .sense)) refl ∙ ap (turnJudged (wholeMachine (c .before .before .before .before .before .before .before .before .before .before .before .before .loop .board) (c .before .before .before .before .before .before .before .before .before .before .before .before .loop .core) (c .before .before .before .before .before .before .before .before .before .before .before .before .loop .cells) (c .before .before .before .before .before .before .before .before .before .before .before .before .loop .drives) (c .before .before .before .before .before .before .before .before .before .before .before .before .loop .sense)) _) (w .1 .given .1)
+    ∙ ap (λ (y : Answer). record { machine = (wholeMachine (c .before .before .before .before .before .before .before .before .before .before .before .before .loop .board) (c .before .before .before .before .before .before .before .before .before .before .before .before .loop .core) (c .before .before .before .before .before .before .before .before .before .before .before .before .loop .cells) (c .before .before .before .before .before .before .before .before .before .before .before .before .loop .drives) (c .before .before .before .before .before .before .before .before .before .before .before .before .loop .sense)); answer = y }) (sym (c .before .no2 .ensures ∙ ap noOf (c .before .before .refusal .ensures ∙ simp (w .1 .given .1)))))))) (c .match2 .came)
 
 -- the buffer keeps its length
-lengths : (c : tie.Left-loop Inv-loop μ-loop) → length (c .loop-test .answers) ≡ length (now (c .before .before .before .before .before .before .before .before .before .args .answers))
+lengths : (c : tie.Left-loop Inv-loop μ-loop) → length (c .loop-test .answers) ≡ length (now (c .before .before .before .before .before .before .before .before .before .before .args .answers))
 lengths c =
     let h = c .before .loop .inv .0 .long in
     ⊎-elim (λ w. ap length (w .1) ∙ h) (⊎-elim (λ w. ap length (w .2) ∙ h) (λ w. ap length (w .12) ∙ w .9 .kept .0 ∙ h)) (c .loop-test .came)
 
 -- where the ways out of the loop meet
-left : (c : tie.Left-loop Inv-loop μ-loop) → loop.Ret (now (c .before .before .before .before .before .before .before .before .before .args .list)) (now (c .before .before .before .before .before .before .before .before .before .args .answers)) (c .before .before .before .before .before .before .before .before .before .args .t1) (record { machine = (wholeMachine (c .before .loop .m) (c .before .loop .core) (c .before .loop .cells) (c .before .loop .drives) (c .before .loop .sense)); stop = c .loop-test .stop; consumed = c .before .loop .at; written = c .loop-test .out }) (c .loop-test .answers)
+left : (c : tie.Left-loop Inv-loop μ-loop) → loop.Ret (now (c .before .before .before .before .before .before .before .before .before .before .args .list)) (now (c .before .before .before .before .before .before .before .before .before .before .args .answers)) (begun (c .before .before .before .before)) (record { machine = (wholeMachine (c .before .loop .board) (c .before .loop .core) (c .before .loop .cells) (c .before .loop .drives) (c .before .loop .sense)); stop = c .loop-test .stop; consumed = c .before .loop .at; written = c .loop-test .out }) (c .loop-test .answers)
 left c =
-    let l = now (c .before .before .before .before .before .before .before .before .before .args .list) in let a = now (c .before .before .before .before .before .before .before .before .before .args .answers) in let m = c .before .before .before .before .before .before .before .before .before .args .t1 in let h = c .before .loop in
-    ⊎-elim (λ w. simp (w .1, w .2, w .3) (loop.ended l a m (c .before .before .before .before .before .before .before .before .before .pre) (h .answers) (wholeMachine (c .before .loop .m) (c .before .loop .core) (c .before .loop .cells) (c .before .loop .drives) (c .before .loop .sense)) (h .at) (h .out) (h .inv .0) (h .stop) (h .inv .1) (w .0 .left)))
-    (⊎-elim (λ w. simp (w .2, w .3, w .4) (loop.full l a m (c .before .before .before .before .before .before .before .before .before .pre) (h .answers) (wholeMachine (c .before .loop .m) (c .before .loop .core) (c .before .loop .cells) (c .before .loop .drives) (c .before .loop .sense)) (h .at) (h .out) (h .inv .0) (w .0 .taken) (w .1 .taken)))
-    (λ w. simp (w .12, w .13, w .14) (loop.cutoff l a m (c .before .before .before .before .before .before .before .before .before .pre) (h .answers) (wholeMachine (c .before .loop .m) (c .before .loop .core) (c .before .loop .cells) (c .before .loop .drives) (c .before .loop .sense)) (h .at) (h .out) (h .inv .0) (w .0 .taken) (w .1 .left)
+    let l = now (c .before .before .before .before .before .before .before .before .before .before .args .list) in let a = now (c .before .before .before .before .before .before .before .before .before .before .args .answers) in let m = begun (c .before .before .before .before) in let h = c .before .loop in
+    ⊎-elim (λ w. simp (w .1, w .2, w .3) (loop.ended l a m (begun-ok (c .before .before .before .before)) (h .answers) (wholeMachine (c .before .loop .board) (c .before .loop .core) (c .before .loop .cells) (c .before .loop .drives) (c .before .loop .sense)) (h .at) (h .out) (h .inv .0) (h .stop) (h .inv .1) (w .0 .left)))
+    (⊎-elim (λ w. simp (w .2, w .3, w .4) (loop.full l a m (begun-ok (c .before .before .before .before)) (h .answers) (wholeMachine (c .before .loop .board) (c .before .loop .core) (c .before .loop .cells) (c .before .loop .drives) (c .before .loop .sense)) (h .at) (h .out) (h .inv .0) (w .0 .taken) (w .1 .taken)))
+    (λ w. simp (w .12, w .13, w .14) (loop.cutoff l a m (begun-ok (c .before .before .before .before)) (h .answers) (wholeMachine (c .before .loop .board) (c .before .loop .core) (c .before .loop .cells) (c .before .loop .drives) (c .before .loop .sense)) (h .at) (h .out) (h .inv .0) (w .0 .taken) (w .1 .left)
     (loop.frame-rest l (h .at) (w .3 .ensures) (w .5 .given .1)) (w .9 .last .0) (w .9 .ensures ∙ ap (putAt (h .answers) (h .out)) (w .8 .ensures ∙ ap answerBytes (w .7 .ensures)))))) (c .loop-test .came)
+
+board-of-requires : tie.Need-board-of-requires Inv-loop μ-loop
+board-of-requires c κs = search needs
 
 core-of-requires : tie.Need-core-of-requires Inv-loop μ-loop
 core-of-requires c κs = search needs
@@ -161,7 +213,7 @@ cells-of-requires : tie.Need-cells-of-requires Inv-loop μ-loop
 cells-of-requires c κs = search needs
 
 loop-holds : tie.Need-loop-holds Inv-loop μ-loop
-loop-holds c = (simp (c .before .before .cells-of .ensures) (subst (λ (x : Clock). Head (now (c .before .before .before .before .before .before .before .args .list)) (now (c .before .before .before .before .before .before .before .args .answers)) (c .before .before .before .before .before .before .before .args .t1) (now (c .before .before .before .before .before .before .before .args .answers)) (withClock (c .before .before .before .before .before .before .before .args .t1) x) 0 0) (sym (c .before .before .before .core-of .ensures)) (loop.head-first (now (c .before .before .before .before .before .before .before .args .list)) (now (c .before .before .before .before .before .before .before .args .answers)) (c .before .before .before .before .before .before .before .args .t1) (c .before .before .before .before .before .before .before .pre))), refl)
+loop-holds c = (loop.head-first (now (c .before .before .before .before .before .before .before .before .args .list)) (now (c .before .before .before .before .before .before .before .before .args .answers)) (begun (c .before .before)) (begun-ok (c .before .before)), refl)
 
 sub-if1 : tie.Need-sub-if1 Inv-loop μ-loop
 sub-if1 c = search needs
@@ -194,7 +246,7 @@ put-requires : tie.Need-put-requires Inv-loop μ-loop
 put-requires c κs = search needs
 
 add-out : tie.Need-add-out Inv-loop μ-loop
-add-out c = omega (arith, c .before .before .before .before .before .before .before .before .before .before .if1 .left, c .before .before .before .before .before .before .before .before .before .before .before .before .loop .inv .0, c .before .before .before .before .before .before .before .before .before .before .before .before .before .before .before .before .before .before .before .before .good)
+add-out c = omega (arith, c .before .before .before .before .before .before .before .before .before .before .if1 .left, c .before .before .before .before .before .before .before .before .before .before .before .before .loop .inv .0, c .before .before .before .before .before .before .before .before .before .before .before .before .before .before .before .before .before .before .before .before .before .good)
 
 sub-judge : tie.Need-sub-judge Inv-loop μ-loop
 sub-judge c = omega (arith, fits c)
@@ -206,7 +258,7 @@ part-judge-end : tie.Need-part-judge-end Inv-loop μ-loop
 part-judge-end c = simp at-rest (simp length-drop (omega (arith, fits c)))
 
 judge-requires : tie.Need-judge-requires Inv-loop μ-loop
-judge-requires c κs = loop.body-long (now (c .before .before .before .before .before .before .before .before .before .before .before .before .before .before .before .before .args .list)) (c .before .before .before .before .before .before .before .before .loop .at) (c .before .before .n .given .0 .0) (found (c .before))
+judge-requires c κs = loop.body-long (now (c .before .before .before .before .before .before .before .before .before .before .before .before .before .before .before .before .before .args .list)) (c .before .before .before .before .before .before .before .before .loop .at) (c .before .before .n .given .0 .0) (found (c .before))
 
 refusal-requires : tie.Need-refusal-requires Inv-loop μ-loop
 refusal-requires c κs = search needs
@@ -239,7 +291,7 @@ wait-requires-2 : tie.Need-wait-requires-2 Inv-loop μ-loop
 wait-requires-2 c κs = search needs
 
 act-requires : tie.Need-act-requires Inv-loop μ-loop
-act-requires c κs = (range (c .before .before .before .before .before .before .before .before .before), turns.ready (c .before .before .before .before .before .before .before .before .before .before .before .before .before .before .before .before .before .before .before .before .before .before .before .loop .m) (c .before .before .before .before .before .before .before .before .before .before .before .before .before .before .before .before .before .before .before .before .before .before .before .loop .core) (c .before .before .before .before .before .before .before .before .before .before .before .before .before .before .before .before .before .before .before .before .before .before .before .loop .cells) (c .before .before .before .before .before .before .before .before .before .before .before .before .before .before .before .before .before .before .before .before .before .before .before .loop .drives) (c .before .before .before .before .before .before .before .before .before .before .before .before .before .before .before .before .before .before .before .before .before .before .before .loop .sense) (c .before .before .before .before .before .before .before .before .before .before .d .given .0 .0) (c .before .before .before .before .if2 .m) (counted (c .before .before .before .before)) (c .before .before .if3 .drives) (c .before .before .before .before .before .before .before .before .before .before .before .before .before .before .before .before .before .before .before .before .before .before .before .loop .inv .0 .ok))
+act-requires c κs = (range (c .before .before .before .before .before .before .before .before .before), turns.ready (c .before .before .before .before .before .before .before .before .before .before .before .before .before .before .before .before .before .before .before .before .before .before .before .loop .board) (c .before .before .before .before .before .before .before .before .before .before .before .before .before .before .before .before .before .before .before .before .before .before .before .loop .core) (c .before .before .before .before .before .before .before .before .before .before .before .before .before .before .before .before .before .before .before .before .before .before .before .loop .cells) (c .before .before .before .before .before .before .before .before .before .before .before .before .before .before .before .before .before .before .before .before .before .before .before .loop .drives) (c .before .before .before .before .before .before .before .before .before .before .before .before .before .before .before .before .before .before .before .before .before .before .before .loop .sense) (c .before .before .before .before .before .before .before .before .before .before .d .given .0 .0) (c .before .before .before .before .if2 .board) (counted (c .before .before .before .before)) (c .before .before .if3 .drives) (c .before .before .before .before .before .before .before .before .before .before .before .before .before .before .before .before .before .before .before .before .before .before .before .loop .inv .0 .ok))
 
 enum-told-2 : tie.Need-enum-told-2 Inv-loop μ-loop
 enum-told-2 c = search needs
@@ -251,25 +303,22 @@ enum-known-change-2 : tie.Need-enum-known-change-2 Inv-loop μ-loop
 enum-known-change-2 c = search needs
 
 write-requires : tie.Need-write-requires Inv-loop μ-loop
-write-requires c κs = subst ChangeInRange (c .before .before .change4 .given .1) (c .before .before .before .before .before .before .before .act .ensures .1 .1)
+write-requires c κs = subst ChangeInRange (c .before .before .change3 .given .1) (c .before .before .before .before .before .before .before .act .ensures .1 .1)
 
 enum-known-change-3 : tie.Need-enum-known-change-3 Inv-loop μ-loop
 enum-known-change-3 c = search needs
 
-element-write-m : tie.Need-element-write-m Inv-loop μ-loop
-element-write-m c = subst ChangeInRange (c .before .change5 .given .1) (c .before .before .before .before .before .before .act .ensures .1 .1)
+element-write-board : tie.Need-element-write-board Inv-loop μ-loop
+element-write-board c = subst ChangeInRange (c .before .change4 .given .1) (c .before .before .before .before .before .before .act .ensures .1 .1)
 
 enum-known-change-4 : tie.Need-enum-known-change-4 Inv-loop μ-loop
 enum-known-change-4 c = search needs
 
 array-write-sense : tie.Need-array-write-sense Inv-loop μ-loop
-array-write-sense c = subst ChangeInRange (c .before .change6 .given .1) (c .before .before .before .before .before .before .act .ensures .1 .1)
+array-write-sense c = subst ChangeInRange (c .before .change5 .given .1) (c .before .before .before .before .before .before .act .ensures .1 .1)
 
 enum-known-change-5 : tie.Need-enum-known-change-5 Inv-loop μ-loop
 enum-known-change-5 c = search needs
-
-enum-known-change-6 : tie.Need-enum-known-change-6 Inv-loop μ-loop
-enum-known-change-6 c = search needs
 
 enum-told-3 : tie.Need-enum-told-3 Inv-loop μ-loop
 enum-told-3 c = search needs
@@ -283,6 +332,9 @@ enum-told-4 c = search needs
 fresh-requires : tie.Need-fresh-requires Inv-loop μ-loop
 fresh-requires c κs = search needs
 
+enum-known-change-6 : tie.Need-enum-known-change-6 Inv-loop μ-loop
+enum-known-change-6 c = c .match3 .keys9
+
 watched-requires-2 : tie.Need-watched-requires-2 Inv-loop μ-loop
 watched-requires-2 c κs = search needs
 
@@ -290,7 +342,25 @@ after-requires : tie.Need-after-requires Inv-loop μ-loop
 after-requires c κs = search needs
 
 answer-requires : tie.Need-answer-requires Inv-loop μ-loop
-answer-requires c κs = ap (λ (y : Did). allLevels (y .machine .inputs)) (stepped c) ∙ parts _ (step-keeps (wholeMachine (c .before .before .before .before .before .before .before .before .before .before .before .before .before .before .before .before .before .before .before .before .before .before .before .before .before .before .before .before .before .before .before .before .loop .m) (c .before .before .before .before .before .before .before .before .before .before .before .before .before .before .before .before .before .before .before .before .before .before .before .before .before .before .before .before .before .before .before .before .loop .core) (c .before .before .before .before .before .before .before .before .before .before .before .before .before .before .before .before .before .before .before .before .before .before .before .before .before .before .before .before .before .before .before .before .loop .cells) (c .before .before .before .before .before .before .before .before .before .before .before .before .before .before .before .before .before .before .before .before .before .before .before .before .before .before .before .before .before .before .before .before .loop .drives) (c .before .before .before .before .before .before .before .before .before .before .before .before .before .before .before .before .before .before .before .before .before .before .before .before .before .before .before .before .before .before .before .before .loop .sense)) (c .before .before .before .before .before .before .before .before .before .before .before .before .before .before .before .before .before .before .before .d .given .0 .0) (range (c .before .before .before .before .before .before .before .before .before .before .before .before .before .before .before .before .before .before)) (c .before .before .before .before .before .before .before .before .before .before .before .before .before .before .before .before .before .before .before .before .before .before .before .before .before .before .before .before .before .before .before .before .loop .inv .0 .ok)) .levels .0
+answer-requires c κs = ap (λ (y : Did). allLevels (y .machine .inputs)) (stepped c) ∙ parts _ (step-keeps (wholeMachine (c .before .before .before .before .before .before .before .before .before .before .before .before .before .before .before .before .before .before .before .before .before .before .before .before .before .before .before .before .before .before .before .before .loop .board) (c .before .before .before .before .before .before .before .before .before .before .before .before .before .before .before .before .before .before .before .before .before .before .before .before .before .before .before .before .before .before .before .before .loop .core) (c .before .before .before .before .before .before .before .before .before .before .before .before .before .before .before .before .before .before .before .before .before .before .before .before .before .before .before .before .before .before .before .before .loop .cells) (c .before .before .before .before .before .before .before .before .before .before .before .before .before .before .before .before .before .before .before .before .before .before .before .before .before .before .before .before .before .before .before .before .loop .drives) (c .before .before .before .before .before .before .before .before .before .before .before .before .before .before .before .before .before .before .before .before .before .before .before .before .before .before .before .before .before .before .before .before .loop .sense)) (c .before .before .before .before .before .before .before .before .before .before .before .before .before .before .before .before .before .before .before .d .given .0 .0) (range (c .before .before .before .before .before .before .before .before .before .before .before .before .before .before .before .before .before .before)) (c .before .before .before .before .before .before .before .before .before .before .before .before .before .before .before .before .before .before .before .before .before .before .before .before .before .before .before .before .before .before .before .before .loop .inv .0 .ok)) .levels .0
+
+enum-known-d-2 : tie.Need-enum-known-d-2 Inv-loop μ-loop
+enum-known-d-2 c = search needs
+
+sub-write : tie.Need-sub-write Inv-loop μ-loop
+sub-write c = omega (arith, long c)
+
+part-write-start : tie.Need-part-write-start Inv-loop μ-loop
+part-write-start c = omega (arith, long c)
+
+part-write-end : tie.Need-part-write-end Inv-loop μ-loop
+part-write-end c = simp at-rest (simp length-drop (omega (arith, fits (c .before .before .before .before .before .before .before))))
+
+write-requires-2 : tie.Need-write-requires-2 Inv-loop μ-loop
+write-requires-2 c κs = (many (c .before .before) .number, (some-values (now (c .before .before .before .before .before .before .before .before .before .before .before .before .before .before .before .before .before .before .before .before .before .before .before .before .before .args .list)) (c .before .before .before .before .before .before .before .before .before .before .before .before .before .before .before .before .loop .at) (c .before .before .before .before .before .before .before .before .before .before .n .given .0 .0) (long (c .before .before)) (many (c .before .before) .least), parts-accepted (c .before .before .before .before .before .before .before .before .before .before .before .before .before .before .before .before .loop .board) (c .before .before .before .before .before .before .before .before .before .before .before .before .before .before .before .before .loop .core) (c .before .before .before .before .before .before .before .before .before .before .before .before .before .before .before .before .loop .cells) (c .before .before .before .before .before .before .before .before .before .before .before .before .before .before .before .before .loop .drives) (c .before .before .before .before .before .before .before .before .before .before .before .before .before .before .before .before .loop .sense) (c .before .before .before .before .before .before .before .before .before .before .before .before .before .before .before .before .loop .inv .0 .ok)))
+
+answer-requires-2 : tie.Need-answer-requires-2 Inv-loop μ-loop
+answer-requires-2 c κs = many-levels (wholeMachine (c .before .before .before .before .before .before .before .before .before .before .before .before .before .before .before .before .before .before .before .before .loop .board) (c .before .before .before .before .before .before .before .before .before .before .before .before .before .before .before .before .before .before .before .before .loop .core) (c .before .before .before .before .before .before .before .before .before .before .before .before .before .before .before .before .before .before .before .before .loop .cells) (c .before .before .before .before .before .before .before .before .before .before .before .before .before .before .before .before .before .before .before .before .loop .drives) (c .before .before .before .before .before .before .before .before .before .before .before .before .before .before .before .before .before .before .before .before .loop .sense)) (recordAt (now (c .before .before .before .before .before .before .before .before .before .before .before .before .before .before .before .before .before .before .before .before .before .before .before .before .before .before .before .before .before .args .list)) (c .before .before .before .before .before .before .before .before .before .before .before .before .before .before .before .before .before .before .before .before .loop .at) (c .before .before .before .before .before .before .before .before .before .before .before .before .before .before .n .given .0 .0)) (c .before .before .before .before .before .before .before .d2 .given .0 .0) (judged (c .before .before .before .before .before .before)) (valuesAt (now (c .before .before .before .before .before .before .before .before .before .before .before .before .before .before .before .before .before .before .before .before .before .before .before .before .before .before .before .before .before .args .list)) (c .before .before .before .before .before .before .before .before .before .before .before .before .before .before .before .before .before .before .before .before .loop .at) (c .before .before .before .before .before .before .before .before .before .before .before .before .before .before .n .given .0 .0)) (values-are (now (c .before .before .before .before .before .before .before .before .before .before .before .before .before .before .before .before .before .before .before .before .before .before .before .before .before .before .before .before .before .args .list)) (c .before .before .before .before .before .before .before .before .before .before .before .before .before .before .before .before .before .before .before .before .loop .at) (c .before .before .before .before .before .before .before .before .before .before .before .before .before .before .n .given .0 .0) (long (c .before .before .before .before .before .before))) _ (c .before .before .before .write2 .ensures (c .before .before .before .before .before .before .before .before .before .before .before .before .before .before .before .before .before .before .before .before .loop .sense)) (c .before .before .before .before .before .before .before .before .before .before .before .before .before .before .before .before .before .before .before .before .loop .inv .0 .ok)
 
 enum-told-5 : tie.Need-enum-told-5 Inv-loop μ-loop
 enum-told-5 c = search needs
@@ -302,16 +372,16 @@ put-requires-2 : tie.Need-put-requires-2 Inv-loop μ-loop
 put-requires-2 c κs = search needs
 
 add-at : tie.Need-add-at Inv-loop μ-loop
-add-at c = omega (arith, fits (c .before .before .before .before .before .before .before .before .before .before), c .before .before .before .before .before .before .before .before .before .before .before .before .before .before .before .before .before .loop .inv .0, c .before .before .before .before .before .before .before .before .before .before .before .before .before .before .before .before .before .before .before .before .before .before .before .before .before .good)
+add-at c = omega (arith, fits (c .before .before .before .before .before .before .before .before .before .before), c .before .before .before .before .before .before .before .before .before .before .before .before .before .before .before .before .before .loop .inv .0, c .before .before .before .before .before .before .before .before .before .before .before .before .before .before .before .before .before .before .before .before .before .before .before .before .before .before .good)
 
 add-out-2 : tie.Need-add-out-2 Inv-loop μ-loop
-add-out-2 c = omega (arith, c .before .before .before .before .before .before .before .before .before .before .before .before .before .before .before .if1 .left, c .before .before .before .before .before .before .before .before .before .before .before .before .before .before .before .before .before .loop .inv .0, c .before .before .before .before .before .before .before .before .before .before .before .before .before .before .before .before .before .before .before .before .before .before .before .before .before .good)
+add-out-2 c = omega (arith, c .before .before .before .before .before .before .before .before .before .before .before .before .before .before .before .if1 .left, c .before .before .before .before .before .before .before .before .before .before .before .before .before .before .before .before .before .loop .inv .0, c .before .before .before .before .before .before .before .before .before .before .before .before .before .before .before .before .before .before .before .before .before .before .before .before .before .before .good)
 
 loop-less : tie.Need-loop-less Inv-loop μ-loop
 loop-less c = omega (arith, fits (c .before .before .before .before .before .before .before .before .before .before), c .before .before .before .before .before .before .before .before .before .before .before .before .before .before .before .before .loop-test .taken)
 
 loop-again : tie.Need-loop-again Inv-loop μ-loop
-loop-again c = (loop.again (now (c .before .before .before .before .before .before .before .before .before .before .before .before .before .before .before .before .before .before .before .before .before .before .before .before .before .args .list)) (now (c .before .before .before .before .before .before .before .before .before .before .before .before .before .before .before .before .before .before .before .before .before .before .before .before .before .args .answers)) (c .before .before .before .before .before .before .before .before .before .before .before .before .before .before .before .before .before .before .before .before .before .before .before .before .before .args .t1) (c .before .before .before .before .before .before .before .before .before .before .before .before .before .before .before .before .before .before .before .before .before .before .before .before .before .pre) (c .before .before .before .before .before .before .before .before .before .before .before .before .before .before .before .before .before .loop .answers) (wholeMachine (c .before .before .before .before .before .before .before .before .before .before .before .before .before .before .before .before .before .loop .m) (c .before .before .before .before .before .before .before .before .before .before .before .before .before .before .before .before .before .loop .core) (c .before .before .before .before .before .before .before .before .before .before .before .before .before .before .before .before .before .loop .cells) (c .before .before .before .before .before .before .before .before .before .before .before .before .before .before .before .before .before .loop .drives) (c .before .before .before .before .before .before .before .before .before .before .before .before .before .before .before .before .before .loop .sense)) (c .before .before .before .before .before .before .before .before .before .before .before .before .before .before .before .before .before .loop .at) (c .before .before .before .before .before .before .before .before .before .before .before .before .before .before .before .before .before .loop .out) (c .before .before .before .before .before .before .before .before .before .before .before .before .before .before .before .before .before .loop .inv .0) (c .before .before .before .before .before .before .before .before .before .before .before .before .before .before .before .before .loop-test .taken) (c .before .before .before .before .before .before .before .before .before .before .before .before .before .before .before .if1 .left) (c .before .before .before .before .before .before .before .before .before .before .before .n .given .0 .0) (found (c .before .before .before .before .before .before .before .before .before .before)) _ (met (c .before .before .before .before .before)) (c .before .before .before .answer-bytes2 .result) (c .before .before .before .answer-bytes2 .ensures) (c .before .before .put2 .last .0) (c .before .before .put2 .ensures), c .before .before .before .before .before .before .before .before .before .before .before .before .before .before .before .before .before .loop .inv .1)
+loop-again c = (loop.again (now (c .before .before .before .before .before .before .before .before .before .before .before .before .before .before .before .before .before .before .before .before .before .before .before .before .before .before .args .list)) (now (c .before .before .before .before .before .before .before .before .before .before .before .before .before .before .before .before .before .before .before .before .before .before .before .before .before .before .args .answers)) (begun (c .before .before .before .before .before .before .before .before .before .before .before .before .before .before .before .before .before .before .before .before)) (begun-ok (c .before .before .before .before .before .before .before .before .before .before .before .before .before .before .before .before .before .before .before .before)) (c .before .before .before .before .before .before .before .before .before .before .before .before .before .before .before .before .before .loop .answers) (wholeMachine (c .before .before .before .before .before .before .before .before .before .before .before .before .before .before .before .before .before .loop .board) (c .before .before .before .before .before .before .before .before .before .before .before .before .before .before .before .before .before .loop .core) (c .before .before .before .before .before .before .before .before .before .before .before .before .before .before .before .before .before .loop .cells) (c .before .before .before .before .before .before .before .before .before .before .before .before .before .before .before .before .before .loop .drives) (c .before .before .before .before .before .before .before .before .before .before .before .before .before .before .before .before .before .loop .sense)) (c .before .before .before .before .before .before .before .before .before .before .before .before .before .before .before .before .before .loop .at) (c .before .before .before .before .before .before .before .before .before .before .before .before .before .before .before .before .before .loop .out) (c .before .before .before .before .before .before .before .before .before .before .before .before .before .before .before .before .before .loop .inv .0) (c .before .before .before .before .before .before .before .before .before .before .before .before .before .before .before .before .loop-test .taken) (c .before .before .before .before .before .before .before .before .before .before .before .before .before .before .before .if1 .left) (c .before .before .before .before .before .before .before .before .before .before .before .n .given .0 .0) (found (c .before .before .before .before .before .before .before .before .before .before)) _ (met (c .before .before .before .before .before)) (c .before .before .before .answer-bytes2 .result) (c .before .before .before .answer-bytes2 .ensures) (c .before .before .put2 .last .0) (c .before .before .put2 .ensures), c .before .before .before .before .before .before .before .before .before .before .before .before .before .before .before .before .before .loop .inv .1)
 
 whole-machine-requires : tie.Need-whole-machine-requires Inv-loop μ-loop
 whole-machine-requires c κs = search needs
@@ -320,7 +390,12 @@ same-length : tie.Need-same-length Inv-loop μ-loop
 same-length c = lengths (c .before)
 
 returns : tie.Need-returns Inv-loop μ-loop
-returns c = simp (c .whole-machine .ensures) (loop.ret (now (c .before .before .before .before .before .before .before .before .before .before .args .list)) (now (c .before .before .before .before .before .before .before .before .before .before .args .answers)) (c .before .before .before .before .before .before .before .before .before .before .args .t1) (left (c .before)))
+returns c =
+    let a = c .before .before .before .before .before .before .before .before .before .before .before .args in
+    let h = c .before .before .loop in
+    let r : Ran = record { machine = wholeMachine (h .board) (h .core) (h .cells) (h .drives) (h .sense); stop = c .before .loop-test .stop; consumed = h .at; written = c .before .loop-test .out } in
+    simp (c .whole-machine .ensures)
+    (loop.ret (now (a .list)) (now (a .answers)) (a .m) (subst (λ (m : Machine). loop.Ret (now (a .list)) (now (a .answers)) m r (c .before .loop-test .answers)) (begun-is (c .before .before .before .before .before)) (left (c .before))))
 
 pub run-accepted-spec : {M : Type 1} → statement M
 run-accepted-spec =
@@ -328,6 +403,7 @@ run-accepted-spec =
     (tie.spec
     Inv-loop
     μ-loop
+    board-of-requires
     core-of-requires
     cells-of-requires
     loop-holds
@@ -361,19 +437,25 @@ run-accepted-spec =
     enum-known-change
     enum-known-change-2
     enum-known-change-3
-    enum-known-change-4
     write-requires
+    enum-known-change-4
+    element-write-board
     enum-known-change-5
-    element-write-m
-    enum-known-change-6
     array-write-sense
     enum-told-3
     reset-requires
     enum-told-4
     fresh-requires
+    enum-known-change-6
     watched-requires-2
     after-requires
     answer-requires
+    enum-known-d-2
+    sub-write
+    part-write-start
+    part-write-end
+    write-requires-2
+    answer-requires-2
     enum-told-5
     answer-bytes-requires-2
     put-requires-2

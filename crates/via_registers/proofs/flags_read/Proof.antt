@@ -14,17 +14,26 @@ pick-requires c κs = search needs
 pick-requires-2 : tie.Need-pick-requires-2
 pick-requires-2 c κs = search needs
 
-port-a-flags-requires : tie.Need-port-a-flags-requires
-port-a-flags-requires c κs = search needs
-
 pick-requires-3 : tie.Need-pick-requires-3
 pick-requires-3 c κs = search needs
 
+port-a-flags-requires : tie.Need-port-a-flags-requires
+port-a-flags-requires c κs = search needs
+
+pick-requires-4 : tie.Need-pick-requires-4
+pick-requires-4 c κs = search needs
+
 returns : tie.Need-returns
 unfolding flagsRead
-returns c = simp (← c .before .before .before .pick .ensures, ← c .before .before .pick2 .ensures, ← c .before .port-a-flags .ensures, ← c .pick3 .ensures)
+returns c = simp (← c .before .before .before .before .pick .ensures, ← c .before .before .before .pick2 .ensures, ← c .before .before .pick3 .ensures, ← c .before .port-a-flags .ensures, ← c .pick4 .ensures)
 
 pub flags-read-spec : {M : Type 1} → statement M
 flags-read-spec =
     tie.close
-    (tie.spec pick-requires pick-requires-2 port-a-flags-requires pick-requires-3 returns)
+    (tie.spec
+    pick-requires
+    pick-requires-2
+    pick-requires-3
+    port-a-flags-requires
+    pick-requires-4
+    returns)

@@ -2,7 +2,7 @@
 
 use super::words::{Word, Words};
 use super::LineError;
-use crate::{InLine, Item, Micros, Seconds, SenseRegister, ViaTicks};
+use crate::{InLine, Item, Micros, Seconds, SenseRegister, Values, ViaTicks};
 
 /// A wait given in microseconds, and the VIA ticks that it came to, rounded up.
 #[derive(Clone, Copy, Debug, PartialEq, Eq)]
@@ -32,7 +32,7 @@ pub fn assemble_line(line: &str, out: &mut Vec<u8>) -> Result<Option<Converted>,
         return Ok(None);
     }
     let (wait, converted) = first.wait()?;
-    let kind = words.need("a kind (RD, WR, VB, SE, IN, SN, DI, RS or PW)")?;
+    let kind = words.need("a kind (RD, WR, MW, VB, SE, IN, SN, DI, KC, RS or PW)")?;
     let item = item_of(&kind, &mut words)?;
     if let Some(extra) = words.take() {
         return extra.wrong(format!("`{}` is too much here", extra.shown()));
@@ -48,6 +48,7 @@ fn item_of(kind: &Word<'_>, words: &mut Words<'_>) -> Result<Item, LineError> {
             let address = words.need("an address")?.address()?;
             Item::Write(address, words.need("a value")?.number("a value", 255)?)
         }
+        "MW" => many(words)?,
         "VB" => Item::Blank,
         "SE" => Item::Second,
         "IN" => input(words)?,
@@ -58,15 +59,30 @@ fn item_of(kind: &Word<'_>, words: &mut Words<'_>) -> Result<Item, LineError> {
             locked: words.need("locked 0 or 1")?.level()?,
             double_sided: words.need("double-sided 0 or 1")?.level()?,
         },
+        "KC" => Item::Pulse(words.need("a level")?.level()?),
         "RS" => Item::Reset,
         "PW" => Item::Power(Seconds(words.need("the time off in seconds, as 5s,")?.time_off()?)),
         _ => {
             return kind.wrong(format!(
-                "unknown kind `{}`; RD, WR, VB, SE, IN, SN, DI, RS, PW, or a line of RAW bytes",
-                kind.shown()
-            ))
+            "unknown kind `{}`; RD, WR, MW, VB, SE, IN, SN, DI, KC, RS, PW, or a line of RAW bytes",
+            kind.shown()
+        ))
         }
     })
+}
+
+fn many(words: &mut Words<'_>) -> Result<Item, LineError> {
+    let address = words.need("an address")?.address()?;
+    let mut values = vec![words.need("a value")?.number("a value", 255)?];
+    while let Some(word) = words.take() {
+        if values.len() == Values::MAX {
+            let most = Values::MAX;
+            let shown = word.shown();
+            return word.wrong(format!("`{shown}` is too much here: MW has {most} values at most"));
+        }
+        values.push(word.number("a value", 255)?);
+    }
+    Ok(Item::WriteMany(address, Values::new(&values).expect("in range")))
 }
 
 fn input(words: &mut Words<'_>) -> Result<Item, LineError> {

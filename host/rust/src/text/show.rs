@@ -12,6 +12,10 @@ pub fn item(wait: ViaTicks, item: &Item) -> String {
     match *item {
         Item::Read(address) => format!("{head} {}", address.name()),
         Item::Write(address, value) => format!("{head} {} ${value:02X}", address.name()),
+        Item::WriteMany(address, values) => {
+            let values: Vec<String> = values.iter().map(|value| format!("${value:02X}")).collect();
+            format!("{head} {} {}", address.name(), values.join(" "))
+        }
         Item::Blank | Item::Second | Item::Reset => head,
         Item::In(line, level) => format!("{head} {} {}", line.number(), u8::from(level)),
         Item::Sense(drive, register, level) => {
@@ -21,6 +25,7 @@ pub fn item(wait: ViaTicks, item: &Item) -> String {
             let [insert, locked, sides] = [insert, locked, double_sided].map(u8::from);
             format!("{head} {} {insert} {locked} {sides}", drive.name())
         }
+        Item::Pulse(level) => format!("{head} {}", u8::from(level)),
         Item::Power(seconds) => format!("{head} {}s", seconds.0),
     }
 }

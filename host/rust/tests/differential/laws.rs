@@ -20,7 +20,7 @@ pub fn some_state(random: &mut Random, chip: model::Chip) -> Vec<u8> {
     };
     if random.one_in(3) {
         // Test bit 7 stops the seconds.
-        image[28] ^= 0x80;
+        image[29] ^= 0x80;
     }
     assert_eq!(run(&image, &[]).stop, 0, "an accepted state");
     image
@@ -119,7 +119,7 @@ fn power_cuts_add() {
         assert_eq!((&twice.image, twice.stop), (&once.image, 0), "{s} {t} on {image:02X?}");
         assert_eq!(twice.answers, once.answers.repeat(2));
         wrapped += u64::from(s.checked_add(t).is_none());
-        stopped += u64::from(once.image[29..33] == image[29..33] && s.wrapping_add(t) != 0);
+        stopped += u64::from(once.image[30..34] == image[30..34] && s.wrapping_add(t) != 0);
     });
     assert!(wrapped > CASES / 10 && stopped > CASES / 50, "{wrapped} {stopped}");
 }

@@ -2,7 +2,7 @@
 
 use super::laws::{each, some_state};
 use super::{some_list, Maker, Random};
-use swarmtempo::{Machine, Register, Seconds, Touch, Touched, Touches};
+use swarmtempo::{Address, Machine, Register, Seconds, Touch, Touched, Touches};
 use swarmtempo_model as model;
 
 /// The touches of a list, and the image that it leaves.
@@ -28,27 +28,59 @@ fn by_model(image: &[u8], list: &[u8]) -> (Vec<Touched>, Vec<u8>) {
         }
         machine.step(wait, &item);
         via_ticks += u64::from(wait);
-        let touch = match item {
-            model::Item::WriteVia { register: 0, value } => Touch::Write(Register::ORB, value),
-            model::Item::WriteVia { register: 2, value } => Touch::Write(Register::DDRB, value),
-            model::Item::Second => Touch::Second,
-            model::Item::Reset => Touch::Reset,
-            model::Item::Power { seconds } => Touch::Power(Seconds(seconds)),
-            _ => continue,
-        };
-        all.push(Touched { offset, via_ticks, touch });
+        let mut push = |touch| all.push(Touched { offset, via_ticks, touch });
+        match item {
+            model::Item::WriteVia { register: 0, value } => {
+                push(Touch::Write(Register::ORB, value));
+            }
+            model::Item::WriteVia { register: 2, value } => {
+                push(Touch::Write(Register::DDRB, value));
+            }
+            model::Item::Many { place: model::Place::Via(0), values } => {
+                values.iter().for_each(|&value| push(Touch::Write(Register::ORB, value)));
+            }
+            model::Item::Many { place: model::Place::Via(2), values } => {
+                values.iter().for_each(|&value| push(Touch::Write(Register::DDRB, value)));
+            }
+            model::Item::Second => push(Touch::Second),
+            model::Item::Reset => push(Touch::Reset),
+            model::Item::Power { seconds } => push(Touch::Power(Seconds(seconds))),
+            _ => {}
+        }
     }
     (all, machine.image())
 }
 
-/// Another list that touches the clock in the same way: other waits, other items between.
+/// The values of the writes to one register that begin these touches, at most so many.
+fn writes(touches: &[Touched], most: usize) -> Option<(Register, Vec<u8>)> {
+    let write = |touched: &Touched| match touched.touch {
+        Touch::Write(register, value) => Some((register, value)),
+        _ => None,
+    };
+    let (first, _) = write(touches.first()?)?;
+    let same = touches.iter().map_while(write).take_while(|(register, _)| *register == first);
+    Some((first, same.map(|(_, value)| value).take(most).collect()))
+}
+
+/// Another list that touches the clock in the same way: other waits, other items between, writes put
+/// together in an MW and those of an MW taken apart.
 fn other(random: &mut Random, chip: model::Chip, touches: &[Touched]) -> Vec<u8> {
     let mut maker = Maker { random, chip, parts: Vec::new() };
-    for touched in touches {
+    let mut at = 0;
+    while let Some(touched) = touches.get(at) {
         for _ in 0..maker.random.below(3) {
             between(&mut maker);
         }
         let wait = maker.wait();
+        let most = 1 + maker.random.below(64);
+        if let Some((register, values)) = writes(&touches[at..], most) {
+            if maker.random.one_in(2) {
+                maker.mw(wait, Address::Via(register), &values);
+                at += values.len();
+                continue;
+            }
+        }
+        at += 1;
         match touched.touch {
             Touch::Write(register, value) => maker.wr(wait, register, value),
             Touch::Second => maker.record(b"SE", wait, &[]),
@@ -64,7 +96,14 @@ fn other(random: &mut Random, chip: model::Chip, touches: &[Touched]) -> Vec<u8>
 fn between(maker: &mut Maker<'_>) {
     let wait = maker.wait();
     let any = maker.random.byte();
-    match maker.random.below(6) {
+    match maker.random.below(8) {
+        6 => maker.record(b"KC", wait, &[any & 1]),
+        7 => {
+            let address = Address::all().nth(usize::from(any) % 32).expect("32 of them");
+            if ![Register::ORB, Register::DDRB].map(Address::Via).contains(&address) {
+                maker.mw(wait, address, &[any, !any, 0x0C]);
+            }
+        }
         0 => maker.record(b"VB", wait, &[]),
         1 => maker.record(b"IN", wait, &[any % 7, any >> 7]),
         2 => maker.place(wait, 1),
@@ -85,7 +124,7 @@ fn between(maker: &mut Maker<'_>) {
 
 /// The bytes of an image that hold phase, protect, test, seconds and cells, and a second command byte.
 fn clock(image: &[u8]) -> (&[u8], &[u8]) {
-    (&image[23..53], &image[123..])
+    (&image[24..54], &image[124..])
 }
 
 fn sequence(touches: &[Touched]) -> Vec<Touch> {

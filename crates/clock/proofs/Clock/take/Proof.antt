@@ -18,12 +18,12 @@ returns : tie.Need-returns
 unfolding afterEdge next acts
 returns c = c .hear .ensures ∙ simp (eq-eqb _ _ (c .before .if1 .taken), c .before .before .pushed .ensures)
 
-add-t9 : tie.Need-add-t9
-add-t9 c = omega (arith, few-count (c .before .before .before .args .n) (c .before .before .before .args .v) (c .before .before .before .pre))
+add-t10 : tie.Need-add-t10
+add-t10 c = omega (arith, few-count (c .before .before .before .args .n) (c .before .before .before .args .v) (c .before .before .before .pre))
 
 returns-2 : tie.Need-returns-2
 unfolding afterEdge next acts act
 returns-2 c = simp (ne-eqb _ _ (c .before .if1 .left), c .before .before .pushed .ensures)
 
 pub take-spec : {M : Type 1} → statement M
-take-spec = tie.close (tie.spec pushed-requires hear-requires returns add-t9 returns-2)
+take-spec = tie.close (tie.spec pushed-requires hear-requires returns add-t10 returns-2)

@@ -65,7 +65,7 @@ returns-10 c = simp (c .before .before .before .before .match .keys10, ← c .be
 
 returns-11 : tie.Need-returns-11
 unfolding viaWritten
-returns-11 c = simp (c .match .keys11)
+returns-11 c = simp (c .before .match .keys11)
 
 returns-12 : tie.Need-returns-12
 unfolding viaWritten

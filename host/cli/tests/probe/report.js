@@ -1,0 +1,22 @@
+// Uses the page as a person does, and writes down what it shows.
+var said = [], view = function () { return document.body.dataset.view; };
+var click = function (what) { document.querySelector(what).dispatchEvent(new MouseEvent("click", { bubbles: true })); };
+said.push("hash " + document.body.dataset.here + " " + view());
+click("[data-act=all]"); said.push("all " + view());
+click("[data-act=in]"); said.push("in " + view());
+click("[data-act=right]"); said.push("right " + view());
+click("[data-act=out]"); said.push("out " + view());
+click("#t13"); said.push("row " + document.body.dataset.here + " " + view());
+click("[data-act=after]"); said.push("next " + document.body.dataset.here);
+click("[data-act=after]"); said.push("box " + document.querySelectorAll("#wave .box.bad.here").length);
+var wave = document.getElementById("wave"), box = wave.getBoundingClientRect();
+wave.dispatchEvent(new MouseEvent("mousemove", { clientX: box.left + box.width / 2, clientY: box.top + 40, bubbles: true }));
+said.push("hover " + document.getElementById("seen").textContent.replace("\n", " | "));
+click("#wave [data-t='14']"); said.push("clicked " + document.body.dataset.here);
+click("button[data-mode=time]"); said.push("time " + document.body.dataset.mode + " " + view());
+var find = document.getElementById("find");
+find.value = "half sent"; find.dispatchEvent(new Event("input"));
+said.push("found " + document.querySelectorAll("tr.t:not([hidden])").length);
+click("#t15"); said.push("paths " + document.querySelectorAll("#wave path.w").length + " refused " + document.querySelectorAll("#wave .no").length);
+said.push("wide " + (document.documentElement.scrollWidth <= window.innerWidth));
+var pre = document.createElement("pre"); pre.id = "said"; pre.textContent = said.join("\n"); document.body.appendChild(pre);
