@@ -91,7 +91,8 @@ impl Transaction {
             Fate::Before => "settled before the list".into(),
         };
         if let Fate::Read { date: Some(seen), .. } = self.fate {
-            words.push_str(&format!("; the date read: {}", date(seen.seconds)));
+            let of = numbers(seen.numbers);
+            words.push_str(&format!("; the date read: {} ({of})", date(seen.seconds)));
             if seen.clock != seen.seconds {
                 words.push_str(&format!(", while the clock had {}", date(seen.clock)));
             }
@@ -142,6 +143,14 @@ impl Transaction {
             None if bits == 0 => "half sent (no bit)".into(),
             None => format!("half sent ({bits} bit{more})"),
         }
+    }
+}
+
+/// As `no. 8 to 11`, or each where others are between.
+fn numbers(all: [u64; 4]) -> String {
+    match all {
+        [a, _, _, d] if d.wrapping_sub(a) == 3 => format!("no. {a} to {d}"),
+        [a, b, c, d] => format!("no. {a}, {b}, {c}, {d}"),
     }
 }
 
