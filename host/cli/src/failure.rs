@@ -60,7 +60,12 @@ impl fmt::Display for Failure {
             }
             Failure::File(name, error) => write!(f, "{name}: {}", reason(error)),
             Failure::Cut(name, offset) => {
-                write!(f, "{name}: a record is cut at byte {offset}; no file is written")
+                write!(
+                    f,
+                    "{name}: a record is cut at byte {offset}; no file is written ({} cut --good \
+                     keeps the records before it)",
+                    called()
+                )
             }
             Failure::State(name, why) => {
                 write!(f, "{name}: not the image of an accepted state: {why}")

@@ -130,7 +130,7 @@ fn half_sent_at_every_bit() {
             let (whole, reads) = (if two { 24 } else { 16 }, bytes[0] & 0x80 != 0);
             let known = if two { 16 } else { 8 };
             let wanted = match bits {
-                0 => "half sent (no bit)".into(),
+                0 => "nothing sent".into(),
                 1 => "half sent (1 bit)".into(),
                 2..8 => format!("half sent ({bits} bits)"),
                 _ if bits < known && reads => format!("half sent ({bits} of 16 bits)"),
@@ -316,10 +316,7 @@ fn open_at_both_ends() {
     let open = folder.put("open", list.as_bytes());
     assert_eq!(status(&program(&["run", &open, "--quiet", "--save", &save], b"")), 0);
     let shown = ends(&decoded(&[], list.as_bytes()));
-    assert_eq!(
-        shown,
-        ["$41 write cell 0 %101----- half sent (11 of 16 bits); enable is still 0 at the end"]
-    );
+    assert_eq!(shown, ["$41 write cell 0 %101----- not ended: 11 of 16 bits so far"]);
     let mut list = List::new();
     for bit in [0u8, 0, 1, 0, 1] {
         for value in [bit, bit | 2] {
@@ -571,6 +568,8 @@ fn summaries() {
         ("refused_3_first_item", "null"),
         ("cells_changed", "[3,200]"),
         ("transactions_half", "1"),
+        ("transactions_nothing", "0"),
+        ("transactions_open", "0"),
         ("clock_seconds_after", "2882400019"),
         ("protect_after", "false"),
     ] {

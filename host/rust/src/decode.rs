@@ -141,7 +141,7 @@ pub enum Fate {
         /// The byte sent.
         byte: u8,
     },
-    /// Enable went up too early: nothing was done.
+    /// Enable went up too early, or the list ended: nothing was done.
     Half {
         /// The bits that the command needs, where so much of it is known.
         of: Option<u8>,
