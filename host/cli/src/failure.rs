@@ -51,9 +51,11 @@ impl fmt::Display for Failure {
     fn fmt(&self, f: &mut fmt::Formatter<'_>) -> fmt::Result {
         match self {
             Failure::Usage(what) => f.write_str(what),
-            Failure::Text(name, 1) => write!(f, "{name}: 1 error in the text; no file is written"),
+            Failure::Text(name, 1) => {
+                write!(f, "{name}: 1 error in the text; nothing is run or written")
+            }
             Failure::Text(name, count) => {
-                write!(f, "{name}: {count} errors in the text; no file is written")
+                write!(f, "{name}: {count} errors in the text; nothing is run or written")
             }
             Failure::Content(name, what) | Failure::Clock(name, what, _) => {
                 write!(f, "{name}: {what}")

@@ -129,7 +129,21 @@ fn open(input: &Input) -> Result<Reader, Failure> {
         let what = "neither a Value Change Dump nor comma-separated values in UTF-8";
         return Err(Failure::Content(input.to_string(), what.to_string()));
     }
+    if looks == Looks::Text && is_capture(file.get_ref().0.get_ref()) {
+        let what =
+            "a capture in the text form, not a file of an analyser: decode and run take it with \
+                    --text";
+        return Err(Failure::Content(input.to_string(), what.to_string()));
+    }
     Ok(Reader::new(file))
+}
+
+/// Whether the first line that is no comment is an item.
+fn is_capture(sample: &[u8]) -> bool {
+    let lines =
+        sample.split(|&byte| byte == b'\n').filter_map(|line| std::str::from_utf8(line).ok());
+    let first = lines.map(str::trim).find(|line| !line.is_empty() && !line.starts_with(';'));
+    first.is_some_and(|line| swarmtempo::text::assemble(line).is_ok_and(|list| !list.is_empty()))
 }
 
 /// Reads a dump, or comma-separated values.

@@ -66,9 +66,7 @@ impl Fates {
         let colon = if parts.is_empty() { "" } else { ": " };
         let mut words = format!("{}{colon}{}", counted(all, "transaction"), parts.join(", "));
         if self.elsewhere > 0 {
-            let count = self.elsewhere;
-            words.push_str(&format!("; {count} illegal of two bytes on a chip with 256 cells"));
-            words.push_str(": is --cells 256 missing?");
+            words.push_str(&format!("; {}", elsewhere(self.elsewhere)));
         }
         words
     }
@@ -80,6 +78,11 @@ impl Fates {
         fields.put("transactions_open", self.open).put("transactions_illegal", self.illegal);
         fields.put("transactions_read", self.read).put("transactions_before", self.before);
     }
+}
+
+/// So many transactions of two bytes on a chip with 20 cells, in words.
+pub fn elsewhere(count: u64) -> String {
+    format!("{count} illegal of two bytes on a chip with 256 cells: is --cells 256 missing?")
 }
 
 /// Shows the summary, and gives the exit status.

@@ -136,7 +136,7 @@ fn half_sent_at_every_bit() {
                 _ if bits < known && reads => format!("half sent ({bits} of 16 bits)"),
                 _ if bits < known => format!("half sent ({bits} of 24 bits)"),
                 _ if !legal => "illegal: ignored".into(),
-                _ if reads => "read by nobody: of $00 the chip put out".into(),
+                _ if reads => "not looked at in this list: of $00 the chip put out".into(),
                 _ if bits < whole => format!("half sent ({bits} of {whole} bits)"),
                 16 => "written (was $00)".into(),
                 _ => format!("written (was $00); {} bit", bits - 16),
@@ -162,7 +162,7 @@ fn what_the_program_saw() {
         "$41 write cell 0 $A5 written (was $00)",
         "$C1 read cell 0 $A5 read",
         "$C1 read cell 0 %101----- 3 of 8 bits read; the chip sent $A5",
-        "$C1 read cell 0 %-------- read by nobody: of $A5 the chip put out 0 of 8 bits",
+        "$C1 read cell 0 %-------- not looked at in this list: of $A5 the chip put out 0 of 8 bits",
         "$C1 read cell 0 $00 read, but the chip sent $A5",
     ];
     assert_eq!(shown, wanted);
@@ -304,6 +304,20 @@ fn a_date_is_of_one_reading() {
         }
     }
     assert!(!decoded(&[], list.as_bytes()).contains("the date read"));
+}
+
+/// Commands of two bytes on a chip with 20 cells: the summaries ask for --cells 256.
+#[test]
+fn commands_of_the_other_chip() {
+    let records = assemble(LAB).expect("in the form");
+    let hint = "2 illegal of two bytes on a chip with 256 cells: is --cells 256 missing?\n";
+    for cells in [&[][..], &LATER] {
+        let summary = program(&[&["summary", "-"][..], cells].concat(), &records);
+        let run = program(&[&["run", "-"][..], cells].concat(), &records);
+        for told in [stdout(&summary), stderr(&run)] {
+            assert_eq!(told.contains(hint), cells.is_empty(), "{told}");
+        }
+    }
 }
 
 /// A command that is half sent at the start is in the image; one at the end is open.

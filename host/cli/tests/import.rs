@@ -199,6 +199,36 @@ fn what_is_said() {
     assert!(stderr(&done).contains("an SE every 783,360 VIA ticks"));
 }
 
+/// A capture is no file of an analyser; a name that ends in .csv is of values; a cut record has its place.
+#[test]
+fn what_the_files_are() {
+    let folder = Folder::new("import-what");
+    for text in [CELL, FAR, "12t SE\n", "; a comment, one more\n\n5t VB\n"] {
+        let done = program(&["import", "-"], text.as_bytes());
+        let said = "a capture in the text form, not a file of an analyser: decode and run take it with --text";
+        assert!(status(&done) == 65 && stderr(&done).contains(said), "{}", stderr(&done));
+        assert_eq!(stdout(&done), "");
+    }
+    let list = folder.put("list.txt", CELL.as_bytes());
+    let export = |words: &[&str]| {
+        let done = program(&[&["export", &list, "--text"], words].concat(), b"");
+        assert_eq!(status(&done), 0, "{}", stderr(&done));
+    };
+    export(&["--csv", "-o", &folder.path("a")]);
+    export(&["-o", &folder.path("b.csv")]);
+    export(&["-o", &folder.path("c.CSV")]);
+    export(&["-o", &folder.path("d.vcd")]);
+    let values = folder.get("a");
+    assert!(folder.get("b.csv") == values && folder.get("c.CSV") == values);
+    assert!(folder.get("d.vcd") != values && folder.get("d.vcd").starts_with(b"$"));
+    let short = folder.put("short", &[4, 0, b'S', b'E', 1, 0, 9, 0, b'W']);
+    for command in ["export", "decode", "report"] {
+        let done = program(&[command, &short], b"");
+        assert_eq!(status(&done), 1);
+        assert!(stderr(&done).contains(", at byte 6; the rest is not run"), "{}", stderr(&done));
+    }
+}
+
 /// Values of an analyser: enable down, these bytes bit by bit (so many of them), some bits of a byte that
 /// the chip sends, and enable up.
 fn rows(out: &mut String, bytes: &[u8], bits: usize, sent: usize, ends: bool) {

@@ -192,7 +192,9 @@ fn read(sent: u8, falls: u8, seen: SeenBits) -> String {
     match (seen.byte(), seen.count()) {
         (Some(byte), _) if byte == sent => "read".into(),
         (Some(_), _) => format!("read, but the chip sent ${sent:02X}"),
-        (None, 0) => format!("read by nobody: of ${sent:02X} the chip put out {falls} of 8 bits"),
+        (None, 0) => {
+            format!("not looked at in this list: of ${sent:02X} the chip put out {falls} of 8 bits")
+        }
         (None, count) => format!("{count} of 8 bits read; the chip sent ${sent:02X}"),
     }
 }
