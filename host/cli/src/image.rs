@@ -349,7 +349,9 @@ mod tests {
             image[2..4].copy_from_slice(&chip.kind());
             let (length, cells) = (chip.image_len(), chip.cells());
             let said = format!(
-                "it is an image of an older layout, {old} bytes, {without}; it has to be {length} bytes"
+                "it is an image of an older layout, {old} bytes, {without}; it has to be {length} bytes. An \
+                 older version of the program saved it, and there is no conversion: run the capture again \
+                 from the start"
             );
             assert_eq!(wrong(&image), said);
             image[0] ^= 1;
