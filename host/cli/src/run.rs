@@ -132,7 +132,7 @@ struct Runner {
     beside: Option<SaveFile>,
     save: Option<Out>,
     summary: Summary,
-    /// On a chip with 20 cells: the transactions of two bytes that one with 256 would take.
+    /// For the summary, on a chip with 20 cells: the transactions of two bytes that one with 256 would take.
     decoder: Option<Decoder>,
     elsewhere: u64,
     /// Answer bytes left.
@@ -150,7 +150,8 @@ impl Runner {
         };
         Ok(Runner {
             summary: Summary::new(machine.state()),
-            decoder: (machine.chip() == Chip::First).then(|| Decoder::new(&machine.state())),
+            decoder: (machine.chip() == Chip::First && !options.quiet)
+                .then(|| Decoder::new(&machine.state())),
             elsewhere: 0,
             machine,
             plain: options.plain,
