@@ -12,7 +12,7 @@ use super::request::Form;
 use super::run::List;
 use super::words::Given;
 use swarmtempo::{
-    pieces, wire_save_file, wire_steps, Chunks, Machine, Refusal, Timed, ViaTicks, WireDump,
+    pieces, wire_save_file, wire_steps, Chunks, Machine, Refusal, Timed, WaitTicks, WireDump,
     WireForm, Wires, ANSWER_LEN,
 };
 
@@ -92,7 +92,7 @@ fn pour(
     input: &Input,
     mut machine: Machine,
     list: List,
-    mut take: impl FnMut(ViaTicks, Wires) -> Result<(), Failure>,
+    mut take: impl FnMut(WaitTicks, Wires) -> Result<(), Failure>,
 ) -> Result<Option<(Refusal, u64)>, Failure> {
     let mut offset = 0;
     let mut chunks = Chunks::new(list);

@@ -6,7 +6,7 @@ use common::{feed, program, shell, status, stderr, stdout, Folder, PROGRAM, SECO
 use std::process::Command;
 use std::time::{Duration, Instant};
 use swarmtempo::text::assemble;
-use swarmtempo::{Address, Answer, Chip, Item, List, Machine, Register, State, ViaTicks};
+use swarmtempo::{Address, Answer, Chip, Item, List, Machine, Register, State, WaitTicks};
 
 const LAB: &str = include_str!("../../captures/lab.txt");
 const LATER: [&str; 2] = ["--cells", "256"];
@@ -29,25 +29,25 @@ fn ends(shown: &str) -> Vec<String> {
 /// Enable falls after the ports are set, then some bits.
 fn begun(list: &mut List, bytes: &[u8], bits: usize) {
     let port = |value: u8| Item::Write(Address::Via(Register::ORB), value);
-    let now = ViaTicks(0);
+    let now = WaitTicks(0);
     list.push(now, port(4)).push(now, Item::Write(Address::Via(Register::DDRB), 7));
-    list.push(ViaTicks(3), port(0));
+    list.push(WaitTicks(3), port(0));
     let all = bytes.iter().flat_map(|byte| (0..8).rev().map(move |i| byte >> i & 1));
     for bit in all.take(bits) {
-        list.push(ViaTicks(1), port(bit)).push(ViaTicks(1), port(bit | 2));
+        list.push(WaitTicks(1), port(bit)).push(WaitTicks(1), port(bit | 2));
     }
 }
 
 fn sent(list: &mut List, bytes: &[u8], bits: usize) {
     begun(list, bytes, bits);
-    list.push(ViaTicks(1), Item::Write(Address::Via(Register::ORB), 4));
+    list.push(WaitTicks(1), Item::Write(Address::Via(Register::ORB), 4));
 }
 
 /// A read of which so many bits are read; data stays driven where the program forgets to turn it.
 fn read(list: &mut List, command: &[u8], bits: usize, turned: bool) {
     begun(list, command, 8 * command.len());
     let write = |register, value| Item::Write(Address::Via(register), value);
-    let now = ViaTicks(0);
+    let now = WaitTicks(0);
     if turned {
         list.push(now, write(Register::DDRB, 6));
     }
@@ -179,7 +179,7 @@ fn a_date_read_while_the_seconds_moved() {
         for k in 0..4 {
             read(list, &[0x81 | k << 2], 8, true);
             if tick_after == Some(k) {
-                list.push(ViaTicks(9), Item::Second);
+                list.push(WaitTicks(9), Item::Second);
             }
         }
     };
@@ -187,7 +187,7 @@ fn a_date_read_while_the_seconds_moved() {
     read_all(&mut list, Some(0));
     // A power cut between the bytes: no date.
     read(&mut list, &[0x81], 8, true);
-    list.push(ViaTicks(0), Item::Power(swarmtempo::Seconds(0)));
+    list.push(WaitTicks(0), Item::Power(swarmtempo::Seconds(0)));
     (1..4).for_each(|k| read(&mut list, &[0x81 | k << 2], 8, true));
     let shown = decoded(&[], list.as_bytes());
     let dates: Vec<&str> =
@@ -218,13 +218,13 @@ fn dates(readings: &[&str]) -> Vec<(u64, Vec<u64>)> {
                 b'k' => sent(&mut list, &[0x41, 0x77], 16),
                 b'p' => read(&mut list, &[0x85], 5, true),
                 b'r' => {
-                    list.push(ViaTicks(0), Item::Reset);
+                    list.push(WaitTicks(0), Item::Reset);
                 }
                 digit => read(&mut list, &[0x81 | (digit - b'0') << 2], 8, true),
             }
         }
         for _ in 0..60 {
-            list.push(ViaTicks(1), Item::Second);
+            list.push(WaitTicks(1), Item::Second);
         }
     }
     let json = decoded(&["--json"], list.as_bytes());
@@ -334,10 +334,10 @@ fn open_at_both_ends() {
     let mut list = List::new();
     for bit in [0u8, 0, 1, 0, 1] {
         for value in [bit, bit | 2] {
-            list.push(ViaTicks(0), Item::Write(Address::Via(Register::ORB), value));
+            list.push(WaitTicks(0), Item::Write(Address::Via(Register::ORB), value));
         }
     }
-    list.push(ViaTicks(0), Item::Write(Address::Via(Register::ORB), 4));
+    list.push(WaitTicks(0), Item::Write(Address::Via(Register::ORB), 4));
     let shown = decoded(&["--image", &save], list.as_bytes());
     assert_eq!(ends(&shown), ["$41 write cell 0 $A5 written (was $00); begun before the list"]);
 }

@@ -18,7 +18,7 @@
 //! # Ok::<(), swarmtempo::GapTooLong>(())
 //! ```
 
-use crate::{Address, Chip, Command, Item, Register, Timed, ViaTicks, Wires, TICKS_PER_SECOND};
+use crate::{Address, Chip, Command, Item, Register, Timed, WaitTicks, Wires, TICKS_PER_SECOND};
 use std::fmt;
 
 /// Femtoseconds in a second.
@@ -377,11 +377,11 @@ impl WireImport {
             let left = tick.saturating_sub(self.tick);
             let Ok(wait) = u16::try_from(left) else {
                 self.tick += u64::from(u16::MAX);
-                out(Timed { wait: ViaTicks(u16::MAX), item: self.still() }, None);
+                out(Timed { wait: WaitTicks(u16::MAX), item: self.still() }, None);
                 continue;
             };
             self.tick += u64::from(wait);
-            return out(Timed { wait: ViaTicks(wait), item }, event);
+            return out(Timed { wait: WaitTicks(wait), item }, event);
         }
     }
 
