@@ -8,7 +8,7 @@ use std::process::Command;
 use std::time::{Duration, Instant};
 use swarmtempo::{
     Address, Chip, DiskLine, Drive, InLine, Item, List, Machine, Register, Seconds, SenseRegister,
-    Timed, Values, ViaTicks, ANSWER_LEN,
+    Timed, Values, WaitTicks, ANSWER_LEN,
 };
 use swarmtempo_model::run_image;
 
@@ -90,7 +90,7 @@ fn stepped() -> Vec<Item> {
 fn list(records: usize, wait: u16, items: &[Item]) -> List {
     let mut list = List::new();
     items.iter().cycle().take(records).for_each(|&item| {
-        list.push(ViaTicks(wait), item);
+        list.push(WaitTicks(wait), item);
     });
     list
 }
@@ -108,7 +108,7 @@ fn pair(first: Item, records: usize, address: Address, values: &[u8]) -> [List; 
     let [mut single, mut many] = [(); 2].map(|()| list(records.min(1), 1, &[first]));
     let values: Vec<u8> = values.iter().copied().cycle().take(records.saturating_sub(1)).collect();
     for values in values.chunks(Values::MAX).filter_map(Values::new) {
-        let timed = Timed { wait: ViaTicks(1), item: Item::WriteMany(address, values) };
+        let timed = Timed { wait: WaitTicks(1), item: Item::WriteMany(address, values) };
         single.extend(timed.singles());
         many.extend([timed]);
     }

@@ -99,12 +99,12 @@ impl Wish {
             }
             Wish::Write(number, byte) => {
                 machine.write_cell(cell(number)?, byte)?;
-                format!("cell {number}: ${byte:02X}")
+                format!("cell {number}: ${byte:02X} written")
             }
             Wish::Seconds => dated(machine.seconds()?),
             Wish::SetSeconds(seconds) => {
                 machine.set_seconds(Seconds(seconds))?;
-                dated(Seconds(seconds))
+                format!("{} written", dated(Seconds(seconds)))
             }
             Wish::Protect(on) => {
                 machine.protect(on)?;

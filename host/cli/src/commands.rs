@@ -310,10 +310,18 @@ pub const COMMANDS: [Command; 27] = [
                 ended. It makes at most 400 parts of at most 268,435,456 bytes in all; all files are\n\
                 written, or none. An offset that is not between two records is refused.\n\
                 \n\
-                Exit status: 1 where a record of the capture is cut; then nothing is written.",
+                Of a capture that was not copied whole, --good keeps the whole records before the one that is\n\
+                cut, and says how many bytes it leaves out: alone in one part, or with --at or --every.\n\
+                \n\
+                Exit status: 1 where a record of the capture is cut (without --good); then nothing is written.",
         flags: &[
             Flag { name: "--at", value: "OFFSET", help: "cuts in two, so many bytes from the start" },
             Flag { name: "--every", value: "COUNT", help: "cuts after every so many records" },
+            Flag {
+                name: "--good",
+                value: "",
+                help: "keeps the whole records before one that is cut, and leaves out the rest",
+            },
             Flag { name: "--out", value: "PREFIX", help: "what the names of all files begin with" },
             CAPTURE_TEXT,
             CAPTURE_RECORDS,

@@ -1,6 +1,7 @@
 //! What a file seems to hold, by its first bytes.
 
 use super::failure::{failure, Failure};
+use super::image::older;
 use super::place::Input;
 use std::io::{self, Cursor, Read};
 use swarmtempo::Chip;
@@ -17,7 +18,7 @@ pub enum Looks {
     Text,
     /// A text in UTF-16, by its byte order mark.
     Utf16,
-    /// A state image.
+    /// A state image, of an older layout too.
     Image,
     /// Nothing, blanks alone, or other bytes.
     Bytes,
@@ -27,7 +28,8 @@ pub enum Looks {
 pub fn looks(sample: &[u8]) -> Looks {
     let control = |&byte: &u8| (byte < b' ' && !b"\t\n\r\x0C".contains(&byte)) || byte == 0x7F;
     let wide = |mark: [u8; 2]| sample.starts_with(&mark) && sample.len().is_multiple_of(2);
-    if Chip::of_image(sample).is_some_and(|chip| sample.len() == chip.image_len()) {
+    let image = Chip::of_image(sample).is_some_and(|chip| sample.len() == chip.image_len());
+    if image || older(sample).is_some() {
         Looks::Image
     } else if wide([0xFF, 0xFE]) || wide([0xFE, 0xFF]) {
         Looks::Utf16

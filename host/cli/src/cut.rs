@@ -30,7 +30,8 @@ pub fn cut(given: &Given) -> Result<u8, Failure> {
     let mut uses = Uses::of("cut");
     reads(&mut uses, given, std::slice::from_ref(&input)).check()?;
     let machine = start("cut", given)?;
-    let bytes = capture("cut", &input, Form::of("cut", given)?)?;
+    let mut bytes = capture("cut", &input, Form::of("cut", given)?)?;
+    let left_out = if given.flag("--good") { keep_whole(&mut bytes) } else { 0 };
     let parts = place.parts(&input, &bytes)?;
     let names: Vec<[Output; 2]> = (1..=parts.len()).map(|i| names(&prefix, i)).collect();
     for name in names.iter().flatten() {
@@ -40,6 +41,12 @@ pub fn cut(given: &Given) -> Result<u8, Failure> {
     write(machine, &parts, &names)?;
     let (all, whole) = (counted(parts.len() as u64, "part"), counted(bytes.len() as u64, "byte"));
     say(&format!("swarmtempo: {all} of {whole} together"));
+    if left_out > 0 {
+        let (rest, at) = (counted(left_out as u64, "byte"), bytes.len());
+        say(&format!(
+            "swarmtempo: {input}: a record is cut at byte {at}; {rest} from there left out"
+        ));
+    }
     Ok(0)
 }
 
@@ -124,6 +131,17 @@ fn boundaries(input: &Input, bytes: &[u8]) -> Result<Vec<usize>, Failure> {
     Ok(ends)
 }
 
+/// Keeps the whole records before one that is cut; how many bytes are left out.
+fn keep_whole(bytes: &mut Vec<u8>) -> usize {
+    let whole = pieces(bytes).map_while(|piece| match piece {
+        Piece::Record(record) => Some(record.len()),
+        Piece::Rest(_) => None,
+    });
+    let (end, all) = (whole.sum(), bytes.len());
+    bytes.truncate(end);
+    all - end
+}
+
 /// Where to cut.
 enum Place {
     /// So many bytes from the start.
@@ -139,6 +157,7 @@ impl Place {
             (Some(offset), None) => Ok(Place::At(offset)),
             (None, Some(0)) => wrong("--every needs a number of records above 0"),
             (None, Some(count)) => Ok(Place::Every(usize::try_from(count).unwrap_or(usize::MAX))),
+            (None, None) if given.flag("--good") => Ok(Place::Every(usize::MAX)),
             (None, None) => wrong("--at or --every is missing: where to cut"),
             (Some(_), Some(_)) => wrong("--at and --every: give one of them"),
         }

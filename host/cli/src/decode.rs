@@ -163,4 +163,5 @@ fn fate(fields: &mut Fields, it: &Transaction) {
     fields.put("date_seconds", seen.map(|seen| u64::from(seen.seconds)));
     fields.put("date", seen.map(|seen| date(seen.seconds)));
     fields.put("clock_seconds", seen.map(|seen| u64::from(seen.clock)));
+    fields.put("date_numbers", seen.map(|seen| Value::all(seen.numbers)));
 }

@@ -12,7 +12,7 @@ use super::request::Form;
 use super::run::List;
 use super::words::Given;
 use swarmtempo::{
-    pieces, wire_save_file, wire_steps, Chunks, Machine, Refusal, Timed, ViaTicks, WireDump,
+    pieces, wire_save_file, wire_steps, Chunks, Machine, Refusal, Timed, WaitTicks, WireDump,
     WireForm, Wires, ANSWER_LEN,
 };
 
@@ -22,7 +22,8 @@ pub const COMMAND: Command = Command {
     operand: "CAPTURE",
     brief: "the clock's wires alone, for a logic analyser's programs",
     about: "Runs a capture and writes enable, data-clock and data over time as a Value Change Dump that\n\
-            sigrok reads whole, in steps of 100 nanoseconds, or as comma-separated values (--csv). Beside a\n\
+            sigrok reads whole, in steps of 100 nanoseconds, or as comma-separated values (--csv, or a FILE\n\
+            whose name ends in .csv). Beside a\n\
             dump in a file x.vcd it writes x.gtkw, unless that is there already, by which GTKWave opens\n\
             with the tracks in place. import makes a list of it again, with the same transactions of the clock chip.\n\
             \n\
@@ -57,7 +58,10 @@ pub const COMMAND: Command = Command {
 pub fn export(given: &Given) -> Result<u8, Failure> {
     let input = Input::of(given.need()?);
     let output = given.value("-o").map_or(Output::standard(), Output::of);
-    let form = if given.flag("--csv") { WireForm::Csv } else { WireForm::Vcd };
+    let named = output
+        .path()
+        .is_some_and(|path| path.extension().is_some_and(|end| end.eq_ignore_ascii_case("csv")));
+    let form = if named || given.flag("--csv") { WireForm::Csv } else { WireForm::Vcd };
     let beside = if form == WireForm::Vcd { gtkw::beside(&output) } else { None };
     let mut uses = Uses::of("export");
     reads(&mut uses, given, std::slice::from_ref(&input)).writes("-o", &output);
@@ -76,28 +80,31 @@ pub fn export(given: &Given) -> Result<u8, Failure> {
     let save = save.map(|save| save.write(|dump, save| wire_save_file(dump, save, end)));
     let out = dump.finish().map_err(wrong)?;
     files::keep([Some(out), save.transpose()?].into_iter().flatten())?;
-    if let Some(refusal) = stop {
-        say(&format!("swarmtempo: {input}: {refusal}; the rest is not run"));
+    if let Some((refusal, offset)) = stop {
+        say(&format!("swarmtempo: {input}: {refusal}, at byte {offset}; the rest is not run"));
     }
-    Ok(stop.map_or(0, Refusal::number))
+    Ok(stop.map_or(0, |(refusal, _)| refusal.number()))
 }
 
 /// Runs a list item by item, and hands out the wait of each that was carried out, and the wires after
-/// it.
+/// it. Where a record is cut: the refusal, and its offset in bytes.
 fn pour(
     input: &Input,
     mut machine: Machine,
     list: List,
-    mut take: impl FnMut(ViaTicks, Wires) -> Result<(), Failure>,
-) -> Result<Option<Refusal>, Failure> {
+    mut take: impl FnMut(WaitTicks, Wires) -> Result<(), Failure>,
+) -> Result<Option<(Refusal, u64)>, Failure> {
+    let mut offset = 0;
     let mut chunks = Chunks::new(list);
     while let Some(chunk) = chunks.next().map_err(|error| list_failure(input, error))? {
         for piece in pieces(chunk) {
+            let at = offset;
+            offset += piece.as_ref().len() as u64;
             let Ok(timed) = Timed::try_from(piece) else {
                 // Refused, whatever the state; a cut record ends the list.
                 match machine.run_in(piece.as_ref(), &mut [0; ANSWER_LEN]).stop {
                     None => continue,
-                    stop => return Ok(stop),
+                    Some(stop) => return Ok(Some((stop, at))),
                 }
             };
             for Timed { wait, item } in wire_steps(timed) {

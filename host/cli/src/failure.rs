@@ -51,16 +51,23 @@ impl fmt::Display for Failure {
     fn fmt(&self, f: &mut fmt::Formatter<'_>) -> fmt::Result {
         match self {
             Failure::Usage(what) => f.write_str(what),
-            Failure::Text(name, 1) => write!(f, "{name}: 1 error in the text; no file is written"),
+            Failure::Text(name, 1) => {
+                write!(f, "{name}: 1 error in the text; nothing is run or written")
+            }
             Failure::Text(name, count) => {
-                write!(f, "{name}: {count} errors in the text; no file is written")
+                write!(f, "{name}: {count} errors in the text; nothing is run or written")
             }
             Failure::Content(name, what) | Failure::Clock(name, what, _) => {
                 write!(f, "{name}: {what}")
             }
             Failure::File(name, error) => write!(f, "{name}: {}", reason(error)),
             Failure::Cut(name, offset) => {
-                write!(f, "{name}: a record is cut at byte {offset}; no file is written")
+                write!(
+                    f,
+                    "{name}: a record is cut at byte {offset}; no file is written ({} cut --good \
+                     keeps the records before it)",
+                    called()
+                )
             }
             Failure::State(name, why) => {
                 write!(f, "{name}: not the image of an accepted state: {why}")

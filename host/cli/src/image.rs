@@ -28,17 +28,26 @@ pub fn read(input: &Input, file: Box<dyn Read>) -> Result<Machine, Failure> {
     })
 }
 
+/// The older layout that these bytes have.
+pub fn older(image: &[u8]) -> Option<&'static (Chip, usize, &'static str)> {
+    let kind = Chip::of_image(image);
+    let head = image.first_chunk::<2>().map(|&head| usize::from(u16::from_le_bytes(head)));
+    OLDER
+        .iter()
+        .find(|(chip, old, _)| kind == Some(*chip) && image.len() == *old && head == Some(old - 2))
+}
+
 /// Why an image is refused.
 fn wrong(image: &[u8]) -> String {
     let length = Chip::First.image_len();
     let kind = Chip::of_image(image);
-    let head = image.first_chunk::<2>().map(|&head| usize::from(u16::from_le_bytes(head)));
-    let older = OLDER
-        .iter()
-        .find(|(chip, old, _)| kind == Some(*chip) && image.len() == *old && head == Some(old - 2));
-    if let Some((chip, old, without)) = older {
+    if let Some((chip, old, without)) = older(image) {
         let length = chip.image_len();
-        format!("it is an image of an older layout, {old} bytes, {without}; it has to be {length} bytes")
+        format!(
+            "it is an image of an older layout, {old} bytes, {without}; it has to be {length} bytes. An \
+             older version of the program saved it, and there is no conversion: run the capture again \
+             from the start"
+        )
     } else if looks(image) == Looks::Text {
         "it is a text".to_string()
     } else if let Some(chip) = kind.filter(|chip| chip.image_len() != image.len()) {
@@ -340,7 +349,9 @@ mod tests {
             image[2..4].copy_from_slice(&chip.kind());
             let (length, cells) = (chip.image_len(), chip.cells());
             let said = format!(
-                "it is an image of an older layout, {old} bytes, {without}; it has to be {length} bytes"
+                "it is an image of an older layout, {old} bytes, {without}; it has to be {length} bytes. An \
+                 older version of the program saved it, and there is no conversion: run the capture again \
+                 from the start"
             );
             assert_eq!(wrong(&image), said);
             image[0] ^= 1;

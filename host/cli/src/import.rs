@@ -129,7 +129,21 @@ fn open(input: &Input) -> Result<Reader, Failure> {
         let what = "neither a Value Change Dump nor comma-separated values in UTF-8";
         return Err(Failure::Content(input.to_string(), what.to_string()));
     }
+    if looks == Looks::Text && is_capture(file.get_ref().0.get_ref()) {
+        let what =
+            "a capture in the text form, not a file of an analyser: decode and run take it with \
+                    --text";
+        return Err(Failure::Content(input.to_string(), what.to_string()));
+    }
     Ok(Reader::new(file))
+}
+
+/// Whether the first line that is no comment is an item.
+fn is_capture(sample: &[u8]) -> bool {
+    let lines =
+        sample.split(|&byte| byte == b'\n').filter_map(|line| std::str::from_utf8(line).ok());
+    let first = lines.map(str::trim).find(|line| !line.is_empty() && !line.starts_with(';'));
+    first.is_some_and(|line| swarmtempo::text::assemble(line).is_ok_and(|list| !list.is_empty()))
 }
 
 /// Reads a dump, or comma-separated values.
@@ -206,6 +220,19 @@ pub struct Told {
 /// A sample of the wires, or the end of them, at a time, from a line.
 pub type Take<'a> = dyn FnMut(Femtoseconds, Option<Wires>, u64) -> Result<(), WaveError> + 'a;
 
+/// How far the transaction under way is.
+#[derive(Clone, Copy, Debug, PartialEq, Eq)]
+enum Way {
+    /// None is under way, or one that began before the start.
+    Out,
+    /// No byte is whole yet.
+    Begun,
+    /// A byte is, and more is needed.
+    Byte,
+    /// It is counted by what it was.
+    Settled,
+}
+
 /// Turns samples into bytes, and counts.
 #[allow(clippy::struct_excessive_bools, reason = "each is a wish or a fact of its own")]
 struct Importer {
@@ -227,6 +254,11 @@ struct Importer {
     asked: u64,
     ignored: u64,
     half: u64,
+    /// Enable went up again before the first bit.
+    nothing: u64,
+    /// Begun before the start (--goes-on).
+    before: u64,
+    way: Way,
     told: Told,
 }
 
@@ -254,6 +286,9 @@ impl Importer {
             asked: 0,
             ignored: 0,
             half: 0,
+            nothing: 0,
+            before: 0,
+            way: Way::Out,
             told: Told::default(),
         })
     }
@@ -335,15 +370,55 @@ impl Importer {
         Ok(())
     }
 
+    /// Each transaction is counted once by what it was.
     fn count(&mut self, event: Option<WireEvent>) {
-        match event {
-            Some(WireEvent::Began) => self.began += 1,
-            Some(WireEvent::Written(..)) => self.written += 1,
-            Some(WireEvent::Asked(command)) if command.read => self.asked += 1,
-            Some(WireEvent::Ignored(..)) => self.ignored += 1,
-            Some(WireEvent::HalfSent(_)) => self.half += 1,
-            _ => {}
+        let Some(event) = event else {
+            return;
+        };
+        let (way, counted) = match (event, self.way) {
+            (WireEvent::Began, _) => (Way::Begun, &mut self.began),
+            (WireEvent::Written(..), _) => (Way::Settled, &mut self.written),
+            (WireEvent::Ignored(..), _) => (Way::Settled, &mut self.ignored),
+            (WireEvent::Asked(command), _) if command.read => (Way::Settled, &mut self.asked),
+            (WireEvent::HalfSent(0), Way::Begun) => (Way::Out, &mut self.nothing),
+            (WireEvent::HalfSent(_), _) => (Way::Out, &mut self.half),
+            (WireEvent::Ended, Way::Out) => (Way::Out, &mut self.before),
+            (WireEvent::Asked(_) | WireEvent::FirstOfTwo(_), _) => {
+                self.way = Way::Byte;
+                return;
+            }
+            (WireEvent::Sent(..) | WireEvent::SentInPart(..) | WireEvent::Ended, _) => {
+                self.way = Way::Settled;
+                return;
+            }
+        };
+        *counted += 1;
+        self.way = way;
+    }
+
+    /// The transactions, and what they were: the parts add up to the whole.
+    fn transactions(&self) -> String {
+        let low = self.import.under_way();
+        let before = self.before + u64::from(low && self.way == Way::Out);
+        let open = u64::from(low && matches!(self.way, Way::Begun | Way::Byte));
+        let mut line = format!(
+            "{}: {}, {}, {} ignored, {} half sent",
+            counted(self.began + before, "transaction"),
+            counted(self.written, "whole write"),
+            counted(self.asked, "read"),
+            self.ignored,
+            self.half
+        );
+        for (count, what) in [
+            (self.nothing, "with nothing sent"),
+            (open, "not ended"),
+            (before, "begun before the start"),
+        ] {
+            if count > 0 {
+                line.push_str(&format!(", {count} {what}"));
+            }
         }
+        line
     }
 
     /// What stands before the items of a text.
@@ -357,14 +432,7 @@ impl Importer {
     fn found(&self) -> Vec<String> {
         let mut lines =
             vec![format!("{} over {}", counted(self.items, "item"), ticks_and_seconds(self.tick))];
-        lines.push(format!(
-            "{}: {}, {}, {} ignored, {} half sent",
-            counted(self.began, "transaction"),
-            counted(self.written, "whole write"),
-            counted(self.asked, "read"),
-            self.ignored,
-            self.half
-        ));
+        lines.push(self.transactions());
         if self.began == 0 {
             lines.push("enable never goes low: are the signals named right?".to_string());
         }

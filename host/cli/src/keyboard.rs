@@ -17,7 +17,7 @@ use super::source;
 use super::words::Given;
 use std::io::Read;
 use swarmtempo::text::LineError;
-use swarmtempo::{Keyboard, KeyboardFull, TickCount};
+use swarmtempo::{Keyboard, KeyboardFull, ViaTicks};
 
 /// Source document 000: bit 0 is 1, and the model number in bits 1 to 3 is 1.
 const USUAL_MODEL: u8 = 0x03;
@@ -30,7 +30,7 @@ const HEAD: &str = "line VIA ticks event            answer\n";
 /// What a line says.
 struct Event {
     line: usize,
-    wait: TickCount,
+    wait: ViaTicks,
     act: Option<Act>,
 }
 
@@ -169,7 +169,7 @@ fn row(line: usize, via_ticks: u64, event: &str, said: &str) -> String {
 }
 
 /// A line's wait and what happens after it; none for an empty line or a comment.
-fn parse(line: &str) -> Result<Option<(TickCount, Option<Act>)>, LineError> {
+fn parse(line: &str) -> Result<Option<(ViaTicks, Option<Act>)>, LineError> {
     let line = line.split(';').next().unwrap_or("").trim_end();
     let mut words = words(line);
     let Some((at, first)) = words.next() else { return Ok(None) };
@@ -180,7 +180,7 @@ fn parse(line: &str) -> Result<Option<(TickCount, Option<Act>)>, LineError> {
     let Some(ticks) = number(ticks).and_then(|ticks| u32::try_from(ticks).ok()) else {
         return Err(wrong(at, &format!("a wait is 0 to {} VIA ticks", u32::MAX)));
     };
-    let Some((at, kind)) = words.next() else { return Ok(Some((TickCount(ticks), None))) };
+    let Some((at, kind)) = words.next() else { return Ok(Some((ViaTicks(ticks), None))) };
     let no_byte = |at| wrong(at, "a byte is 0 to 255, or $00 to $FF");
     let act = match kind.to_ascii_uppercase().as_str() {
         "COMMAND" => {
@@ -196,7 +196,7 @@ fn parse(line: &str) -> Result<Option<(TickCount, Option<Act>)>, LineError> {
         _ => return Err(wrong(at, "COMMAND or KEY comes here")),
     };
     match words.next() {
-        None => Ok(Some((TickCount(ticks), Some(act)))),
+        None => Ok(Some((ViaTicks(ticks), Some(act)))),
         Some((at, _)) => Err(wrong(at, "nothing more belongs here")),
     }
 }

@@ -176,7 +176,8 @@ impl Gathered {
 /// True where a transaction did not do what it asked, or a program did not see what the chip sent.
 fn troubled(it: &Transaction) -> bool {
     match it.fate {
-        Fate::Protected { .. } | Fate::Half { .. } | Fate::Illegal => true,
+        Fate::Half { .. } => !it.nothing_sent(),
+        Fate::Protected { .. } | Fate::Illegal => true,
         Fate::Read { sent, seen, date, .. } => {
             seen.byte() != Some(sent) || date.is_some_and(|date| date.seconds != date.clock)
         }
@@ -428,6 +429,8 @@ fn drawn(it: &Transaction, last: &Place, out: &mut String) {
         Fate::Written { byte, .. } => format!("{} = ${byte:02X}", it.asked),
         Fate::Read { .. } => format!("{} = {}", it.asked, it.byte()),
         Fate::Protected { .. } => format!("{}: kept out", it.asked),
+        Fate::Half { .. } if it.not_ended() => format!("{}: not ended", it.asked),
+        Fate::Half { .. } if it.nothing_sent() => "nothing sent".to_string(),
         Fate::Half { .. } => format!("{}: half sent", it.asked),
         Fate::Illegal | Fate::Before => it.asked.to_string(),
     };
@@ -472,7 +475,7 @@ fn guide(refusal: Refusal) -> (&'static str, &'static str) {
         Refusal::Cut => (
             "The capture ends in the middle of a record, or a length is below 2. The run stopped there.",
             "Look whether the capture was copied whole. What comes before the place is good: \
-             <code>swarmtempo cut --at</code> keeps it.",
+             <code>swarmtempo cut CAPTURE --good --out PREFIX</code> keeps it.",
         ),
         Refusal::Kind => (
             "The two letters of the record are no kind of item.",
@@ -539,6 +542,7 @@ const GLOSSARY: &str = "\
 start of the capture; the clock chip's own seconds are counted from 1 January 1904. <b>Transaction</b>: all from a fall of
 enable to its next rise. <b>Written</b>: the whole command and its byte came, and the chip took it. <b>Kept out by
 protect</b>: they came, and write-protect was set. <b>Half sent</b>: enable went up before the last bit; nothing was
-done. <b>Illegal</b>: the bits are no command; nothing was done. <b>Read</b>: the chip sent a byte; the byte in the table
+done. <b>Nothing sent</b>: enable went up before the first bit. <b>Not ended</b>: the capture ends before enable went up
+and before all bits came. <b>Illegal</b>: the bits are no command; nothing was done. <b>Read</b>: the chip sent a byte; the byte in the table
 is what the program saw in port B. A dash in a row of bits is a bit that did not come, or was not read.</p>
 ";

@@ -11,6 +11,7 @@ use super::place::{Input, Output};
 use super::progress::Progress;
 use super::request::{Form, Options};
 use super::style::Style;
+use super::summarize::elsewhere;
 use super::summary::{End, Summary};
 use super::{image, source};
 use std::io::{self, Read};
@@ -18,7 +19,8 @@ use swarmtempo::decode::waited;
 use swarmtempo::table::{self, HEAD, HEAD_OF_TEXT};
 use swarmtempo::vcd::{save_file, Vcd};
 use swarmtempo::{
-    pieces, Answer, Chunks, DiskLine, Item, Machine, Piece, Place, Refusal, Timed, ANSWER_LEN,
+    pieces, Answer, Chip, Chunks, Decoder, DiskLine, Item, Machine, Piece, Place, Refusal, Timed,
+    Transaction, ANSWER_LEN,
 };
 
 /// What to do with records that come as a text.
@@ -130,6 +132,9 @@ struct Runner {
     beside: Option<SaveFile>,
     save: Option<Out>,
     summary: Summary,
+    /// For the summary, on a chip with 20 cells: the transactions of two bytes that one with 256 would take.
+    decoder: Option<Decoder>,
+    elsewhere: u64,
     /// Answer bytes left.
     room: u64,
     stop: Option<Refusal>,
@@ -145,6 +150,9 @@ impl Runner {
         };
         Ok(Runner {
             summary: Summary::new(machine.state()),
+            decoder: (machine.chip() == Chip::First && !options.quiet)
+                .then(|| Decoder::new(&machine.state())),
+            elsewhere: 0,
             machine,
             plain: options.plain,
             answers: outs.answers,
@@ -262,6 +270,12 @@ impl Runner {
         let mut rows = String::new();
         for (piece, answer) in pieces(part).zip(answers.as_chunks::<ANSWER_LEN>().0) {
             self.summary.note(piece, *answer, offset);
+            if let Some(decoder) = &mut self.decoder {
+                let count = &mut self.elsewhere;
+                decoder.record(self.at, piece, answer, &mut |it: Transaction| {
+                    *count += u64::from(it.of_two_elsewhere());
+                });
+            }
             let begins = offset;
             offset += piece.as_ref().len() as u64;
             let Some(table) = &mut self.table else {
@@ -317,7 +331,11 @@ impl Runner {
         if !options.quiet || number != 0 || refusal != 0 {
             let (consumed, written) = (self.consumed, self.written);
             let end = End { stop: self.stop, consumed, written, state: &self.machine.state() };
-            say(self.summary.text(&end, Style::of_errors(options.colour)).trim_end());
+            let mut text = self.summary.text(&end, Style::of_errors(options.colour));
+            if self.elsewhere > 0 {
+                text.push_str(&format!("  clock chip    {}\n", elsewhere(self.elsewhere)));
+            }
+            say(text.trim_end());
         }
         Ok(if number == 0 && options.strict { refusal } else { number })
     }

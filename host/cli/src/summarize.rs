@@ -21,7 +21,11 @@ pub struct Fates {
     pub written: u64,
     pub protected: u64,
     pub half: u64,
+    pub nothing: u64,
+    pub open: u64,
     pub illegal: u64,
+    /// Of the illegal ones those of two bytes on a chip with 256 cells.
+    pub elsewhere: u64,
     pub read: u64,
     pub before: u64,
 }
@@ -30,9 +34,12 @@ impl Fates {
     /// One more.
     pub fn count(&mut self, it: &Transaction) {
         self.all += 1;
+        self.elsewhere += u64::from(it.of_two_elsewhere());
         *match it.fate {
             Fate::Written { .. } => &mut self.written,
             Fate::Protected { .. } => &mut self.protected,
+            Fate::Half { .. } if it.not_ended() => &mut self.open,
+            Fate::Half { .. } if it.nothing_sent() => &mut self.nothing,
             Fate::Half { .. } => &mut self.half,
             Fate::Illegal => &mut self.illegal,
             Fate::Read { .. } => &mut self.read,
@@ -42,11 +49,14 @@ impl Fates {
 
     /// In words.
     pub fn words(&self) -> String {
-        let Fates { all, written, protected, half, illegal, read, before } = *self;
+        let Fates { all, written, protected, half, nothing, open, illegal, read, before, .. } =
+            *self;
         let kinds = [
             (written, "written"),
             (protected, "kept out by protect"),
             (half, "half sent"),
+            (nothing, "nothing sent"),
+            (open, "not ended"),
             (illegal, "illegal"),
             (read, "read"),
             (before, "settled before the list"),
@@ -54,15 +64,25 @@ impl Fates {
         let some = kinds.iter().filter(|(count, _)| *count > 0);
         let parts: Vec<String> = some.map(|(count, kind)| format!("{count} {kind}")).collect();
         let colon = if parts.is_empty() { "" } else { ": " };
-        format!("{}{colon}{}", counted(all, "transaction"), parts.join(", "))
+        let mut words = format!("{}{colon}{}", counted(all, "transaction"), parts.join(", "));
+        if self.elsewhere > 0 {
+            words.push_str(&format!("; {}", elsewhere(self.elsewhere)));
+        }
+        words
     }
 
     fn fields(&self, fields: &mut Fields) {
         fields.put("transactions", self.all).put("transactions_written", self.written);
         fields.put("transactions_protected", self.protected);
-        fields.put("transactions_half", self.half).put("transactions_illegal", self.illegal);
+        fields.put("transactions_half", self.half).put("transactions_nothing", self.nothing);
+        fields.put("transactions_open", self.open).put("transactions_illegal", self.illegal);
         fields.put("transactions_read", self.read).put("transactions_before", self.before);
     }
+}
+
+/// So many transactions of two bytes on a chip with 20 cells, in words.
+pub fn elsewhere(count: u64) -> String {
+    format!("{count} illegal of two bytes on a chip with 256 cells: is --cells 256 missing?")
 }
 
 /// Shows the summary, and gives the exit status.

@@ -104,7 +104,7 @@ impl<'a> Tour<'a> {
         let first = self.items + 1;
         self.items += items.len();
         let (number, record) = match items[..] {
-            [(wait, item)] => (first.to_string(), text::item(swarmtempo::ViaTicks(wait), &item)),
+            [(wait, item)] => (first.to_string(), text::item(swarmtempo::WaitTicks(wait), &item)),
             _ => (format!("{first} to {}", self.items), format!("{} items", items.len())),
         };
         let (value, words) = shown(&values, self.words);

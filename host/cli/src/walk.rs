@@ -121,8 +121,9 @@ impl Walk {
     /// Says so where the capture is cut; the number that its run stops with.
     pub fn stopped(&self) -> u8 {
         if let Some(refusal) = self.stop {
+            let offset = self.at.offset;
             super::files::say(&format!(
-                "swarmtempo: {}: {refusal}; the rest is not run",
+                "swarmtempo: {}: {refusal}, at byte {offset}; the rest is not run",
                 self.input
             ));
         }

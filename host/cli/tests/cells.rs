@@ -4,14 +4,14 @@ mod common;
 
 use common::*;
 use swarmtempo::text::disassemble;
-use swarmtempo::{Address, Chip, Item, List, Machine, Register, ViaTicks};
+use swarmtempo::{Address, Chip, Item, List, Machine, Register, WaitTicks};
 
 const FAR: &str = include_str!("../../captures/far.txt");
 
 /// Enable down, some bytes sent, enable up.
 fn sent(list: &mut List, bytes: &[u8]) {
     let port = |value: u8| Item::Write(Address::Via(Register::ORB), value);
-    let now = ViaTicks(0);
+    let now = WaitTicks(0);
     list.push(now, port(4)).push(now, Item::Write(Address::Via(Register::DDRB), 7));
     list.push(now, port(0));
     for bit in bytes.iter().flat_map(|byte| (0..8).rev().map(move |i| byte >> i & 1)) {

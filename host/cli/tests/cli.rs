@@ -8,7 +8,7 @@ use std::io::Write;
 use std::process::{Command, Stdio};
 use swarmtempo::{
     answers, pieces, Address, Answer, Chip, Item, List, Machine, Piece, Refusal, Register, State,
-    ViaTicks,
+    WaitTicks,
 };
 
 fn port_b(value: u8) -> Item {
@@ -23,15 +23,15 @@ fn transaction() -> List {
 /// A write command of the clock chip, and its byte.
 fn clock_write(command: u8, byte: u8) -> List {
     let mut list = List::new();
-    list.push(ViaTicks(0), port_b(4));
-    list.push(ViaTicks(0), Item::Write(Address::Via(Register::DDRB), 7));
-    list.push(ViaTicks(1), port_b(0));
+    list.push(WaitTicks(0), port_b(4));
+    list.push(WaitTicks(0), Item::Write(Address::Via(Register::DDRB), 7));
+    list.push(WaitTicks(1), port_b(0));
     for i in (0..16).rev() {
         let bit = (u16::from_be_bytes([command, byte]) >> i & 1) as u8;
-        list.push(ViaTicks(1), port_b(bit));
-        list.push(ViaTicks(1), port_b(bit | 2));
+        list.push(WaitTicks(1), port_b(bit));
+        list.push(WaitTicks(1), port_b(bit | 2));
     }
-    list.push(ViaTicks(1), port_b(4));
+    list.push(WaitTicks(1), port_b(4));
     list
 }
 
@@ -114,11 +114,11 @@ fn long_lists_equal_one_run() {
     let mut list = List::new();
     for i in 0..60_000u32 {
         match i % 5 {
-            0 => list.push(ViaTicks(i as u16), Item::Second),
-            1 => list.push(ViaTicks(3), port_b(i as u8)),
-            2 => list.push(ViaTicks(0), Item::Read(Address::Via(Register::T1CL))),
+            0 => list.push(WaitTicks(i as u16), Item::Second),
+            1 => list.push(WaitTicks(3), port_b(i as u8)),
+            2 => list.push(WaitTicks(0), Item::Read(Address::Via(Register::T1CL))),
             3 => list.push_raw(&[5, 0, b'S', b'E', 0, 0, 0]),
-            _ => list.push(ViaTicks(9), Item::Write(Address::Via(Register::DDRB), i as u8)),
+            _ => list.push(WaitTicks(9), Item::Write(Address::Via(Register::DDRB), i as u8)),
         };
         if i % 10_000 == 7 {
             list.push_raw(&[0xFF, 0xFF]).push_raw(&[b'x'; 65_535]);
@@ -244,7 +244,7 @@ fn drives_lines_and_test_in_words() {
     // Test bit 7 or 6 stops the seconds, and no other bit.
     for test in [0x00, 0x3F, 0x40, 0x80, 0xC1] {
         let mut list = clock_write(0x31, test);
-        list.push(ViaTicks(0), Item::Second);
+        list.push(WaitTicks(0), Item::Second);
         let words = words_after("test", list.as_bytes(), false);
         let (stopped, seconds) = if test < 64 { ("", 1) } else { (" (seconds stopped)", 0) };
         assert!(words.contains(&format!("test      ${test:02X}{stopped}\n")), "{words}");
@@ -412,11 +412,11 @@ fn drives_in_the_dump() {
 #[test]
 fn stopped_seconds_in_the_dump() {
     let mut list = List::new();
-    list.push(ViaTicks(0), Item::Second);
+    list.push(WaitTicks(0), Item::Second);
     list.push_raw(clock_write(0x31, 0x40).as_bytes());
-    list.push(ViaTicks(0), Item::Second);
+    list.push(WaitTicks(0), Item::Second);
     list.push_raw(clock_write(0x31, 0x3F).as_bytes());
-    list.push(ViaTicks(0), Item::Second);
+    list.push(WaitTicks(0), Item::Second);
     let output = program(&["run", "-", "--vcd", "-", "--quiet"], list.as_bytes());
     assert_eq!(status(&output), 0, "{}", stderr(&output));
     let dump = Dump::of(&stdout(&output));

@@ -270,7 +270,7 @@ fn all_errors_of_a_text() {
         for (line, start) in lines.iter().zip(told(name)) {
             assert!(line.starts_with(&start), "{said}");
         }
-        let end = format!("swarmtempo: {name}: 4 errors in the text; no file is written");
+        let end = format!("swarmtempo: {name}: 4 errors in the text; nothing is run or written");
         assert_eq!(lines[4], end);
         assert!(output.stdout.is_empty());
     }
@@ -375,12 +375,28 @@ fn a_bad_image_has_a_field() {
                     at offset 101, is 80 ($50); accepted is 0 to 79 (refusal 7)\n";
         assert!(stderr(&output).contains(said), "{}", stderr(&output));
     }
-    let output = program(&["image", &old], b"");
-    assert!(
-        stderr(&output).contains("an image of an older layout, 98 bytes"),
-        "{}",
-        stderr(&output)
-    );
+    assert_eq!(folder.get("old.st").len(), 98);
+    for (length, kind) in [(98u16, *b"ST"), (121, *b"ST"), (123, *b"ST"), (360, *b"SX")] {
+        let mut image = vec![0; usize::from(length)];
+        image[..2].copy_from_slice(&(length - 2).to_le_bytes());
+        image[2..4].copy_from_slice(&kind);
+        std::fs::write(&old, &image).expect("written");
+        for words in [
+            &["image", &old][..],
+            &["run", &list, "--image", &old],
+            &["clock", &old, "seconds"],
+            &["diff", &old, &old],
+        ] {
+            let output = program(words, b"");
+            let told = stderr(&output);
+            assert_eq!(status(&output), 7, "{words:?}: {told}");
+            let layout = format!("an image of an older layout, {length} bytes");
+            let advice =
+                "An older version of the program saved it, and there is no conversion: run the \
+                          capture again from the start (refusal 7)";
+            assert!(told.contains(&layout) && told.contains(advice), "{words:?}: {told}");
+        }
+    }
     let output = program(&["image", "-"], &image);
     assert!(stderr(&output).starts_with("swarmtempo: standard input: not "), "{}", stderr(&output));
 }

@@ -25,9 +25,9 @@ fn written_and_read_back() {
         };
         assert_eq!(
             told(&format!("state write {cell} '$AA'")),
-            format!("swarmtempo: cell {cell}: $AA\n")
+            format!("swarmtempo: cell {cell}: $AA written\n")
         );
-        assert_eq!(told("state write 3 18"), "swarmtempo: cell 3: $12\n");
+        assert_eq!(told("state write 3 18"), "swarmtempo: cell 3: $12 written\n");
         let before = folder.get("state");
         assert_eq!(told(&format!("state read {cell}")), format!("cell {cell}: $AA\n"));
         assert_eq!(told("state read 0x03"), "cell 3: $12\n");
@@ -36,7 +36,7 @@ fn written_and_read_back() {
         assert_eq!(folder.get("state"), before);
         assert_eq!(
             told("state set-seconds 2000000000s"),
-            "swarmtempo: seconds: 2000000000 (1967-05-18 03:33:20)\n"
+            "swarmtempo: seconds: 2000000000 (1967-05-18 03:33:20) written\n"
         );
         assert_eq!(told("state seconds"), "seconds: 2000000000 (1967-05-18 03:33:20)\n");
         assert_eq!(told("state protect on"), "swarmtempo: write-protect: on\n");

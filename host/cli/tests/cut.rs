@@ -150,6 +150,47 @@ fn nothing_is_written_where_something_is_wrong() {
     assert_eq!(folder.names(), names);
 }
 
+/// Of a capture that ends within a record, the whole records before it are kept.
+#[test]
+fn what_is_good_is_kept() {
+    let folder = Folder::new("cut_good");
+    let whole = capture();
+    folder.put("whole", &whole);
+    folder.put("short", &[&whole[..], &[9, 0, b'W']].concat());
+    // A length below 2, and what looks like records after it.
+    folder.put("low", &[&whole[..], &[1, 0], &SECOND[..]].concat());
+    folder.put("nothing", &[4]);
+    for (name, words, parts, said) in [
+        (
+            "short",
+            &["--good"][..],
+            1,
+            "short: a record is cut at byte 49; 3 bytes from there left out\n",
+        ),
+        ("low", &["--good"], 1, "low: a record is cut at byte 49; 8 bytes from there left out\n"),
+        ("short", &["--good", "--at", "17"], 2, "3 bytes from there left out\n"),
+        ("short", &["--at", "49", "--good"], 2, "3 bytes from there left out\n"),
+        ("short", &["--every", "3", "--good"], 3, "3 bytes from there left out\n"),
+        ("whole", &["--good"], 1, "49 bytes together\n"),
+    ] {
+        let (status, told) = cut(&folder, &[&[name], words, &["--out", "p"]].concat());
+        assert!(status == 0 && told.ends_with(said), "{name} {words:?}: {told}");
+        let kept: Vec<u8> =
+            (1..=parts).flat_map(|part| folder.get(&format!("p-{part:04}.bin"))).collect();
+        assert_eq!(kept, whole, "{name} {words:?}");
+        run_parts(&folder, parts);
+    }
+    let (status, told) = cut(&folder, &["nothing", "--good", "--out", "n"]);
+    assert!(status == 0 && told.contains("1 byte from there left out"), "{told}");
+    assert_eq!(folder.get("n-0001.bin"), b"");
+    // Without it the message names it, and so does the report's advice.
+    let (status, told) = cut(&folder, &["short", "--at", "6", "--out", "q"]);
+    assert!(status == 1 && told.contains("swarmtempo cut --good keeps the records before it"));
+    let page = shell(&folder, "exec \"$0\" report short", &[], b"");
+    assert!(String::from_utf8_lossy(&page.stdout).contains("cut CAPTURE --good --out PREFIX"));
+    assert!(stderr(&page).contains("at byte 49; the rest is not run"), "{}", stderr(&page));
+}
+
 #[test]
 fn joined_captures_are_whole() {
     let folder = Folder::new("join");

@@ -6,7 +6,7 @@ use common::{feed, program, shell, status, stderr, stdout, Folder, PROGRAM, SECO
 use std::process::Command;
 use std::time::{Duration, Instant};
 use swarmtempo::text::assemble;
-use swarmtempo::{Address, Answer, Chip, Item, List, Machine, Register, State, ViaTicks};
+use swarmtempo::{Address, Answer, Chip, Item, List, Machine, Register, State, WaitTicks};
 
 const LAB: &str = include_str!("../../captures/lab.txt");
 const LATER: [&str; 2] = ["--cells", "256"];
@@ -29,25 +29,25 @@ fn ends(shown: &str) -> Vec<String> {
 /// Enable falls after the ports are set, then some bits.
 fn begun(list: &mut List, bytes: &[u8], bits: usize) {
     let port = |value: u8| Item::Write(Address::Via(Register::ORB), value);
-    let now = ViaTicks(0);
+    let now = WaitTicks(0);
     list.push(now, port(4)).push(now, Item::Write(Address::Via(Register::DDRB), 7));
-    list.push(ViaTicks(3), port(0));
+    list.push(WaitTicks(3), port(0));
     let all = bytes.iter().flat_map(|byte| (0..8).rev().map(move |i| byte >> i & 1));
     for bit in all.take(bits) {
-        list.push(ViaTicks(1), port(bit)).push(ViaTicks(1), port(bit | 2));
+        list.push(WaitTicks(1), port(bit)).push(WaitTicks(1), port(bit | 2));
     }
 }
 
 fn sent(list: &mut List, bytes: &[u8], bits: usize) {
     begun(list, bytes, bits);
-    list.push(ViaTicks(1), Item::Write(Address::Via(Register::ORB), 4));
+    list.push(WaitTicks(1), Item::Write(Address::Via(Register::ORB), 4));
 }
 
 /// A read of which so many bits are read; data stays driven where the program forgets to turn it.
 fn read(list: &mut List, command: &[u8], bits: usize, turned: bool) {
     begun(list, command, 8 * command.len());
     let write = |register, value| Item::Write(Address::Via(register), value);
-    let now = ViaTicks(0);
+    let now = WaitTicks(0);
     if turned {
         list.push(now, write(Register::DDRB, 6));
     }
@@ -78,7 +78,7 @@ fn the_lab_capture() {
         "$81 read seconds byte 0 $13 read",
         "$85 read seconds byte 1 $EF read",
         "$89 read seconds byte 2 $CD read",
-        "$8D read seconds byte 3 $AB read; the date read: 1995-05-04 02:40:19",
+        "$8D read seconds byte 3 $AB read; the date read: 1995-05-04 02:40:19 (no. 8 to 11)",
         "$35 write protect $80 written: protect is set",
         "$4D write cell 3 $99 kept out by protect",
         "$35 write protect $00 written: protect is clear",
@@ -130,13 +130,13 @@ fn half_sent_at_every_bit() {
             let (whole, reads) = (if two { 24 } else { 16 }, bytes[0] & 0x80 != 0);
             let known = if two { 16 } else { 8 };
             let wanted = match bits {
-                0 => "half sent (no bit)".into(),
+                0 => "nothing sent".into(),
                 1 => "half sent (1 bit)".into(),
                 2..8 => format!("half sent ({bits} bits)"),
                 _ if bits < known && reads => format!("half sent ({bits} of 16 bits)"),
                 _ if bits < known => format!("half sent ({bits} of 24 bits)"),
                 _ if !legal => "illegal: ignored".into(),
-                _ if reads => "read by nobody: of $00 the chip put out".into(),
+                _ if reads => "not looked at in this list: of $00 the chip put out".into(),
                 _ if bits < whole => format!("half sent ({bits} of {whole} bits)"),
                 16 => "written (was $00)".into(),
                 _ => format!("written (was $00); {} bit", bits - 16),
@@ -162,7 +162,7 @@ fn what_the_program_saw() {
         "$41 write cell 0 $A5 written (was $00)",
         "$C1 read cell 0 $A5 read",
         "$C1 read cell 0 %101----- 3 of 8 bits read; the chip sent $A5",
-        "$C1 read cell 0 %-------- read by nobody: of $A5 the chip put out 0 of 8 bits",
+        "$C1 read cell 0 %-------- not looked at in this list: of $A5 the chip put out 0 of 8 bits",
         "$C1 read cell 0 $00 read, but the chip sent $A5",
     ];
     assert_eq!(shown, wanted);
@@ -179,7 +179,7 @@ fn a_date_read_while_the_seconds_moved() {
         for k in 0..4 {
             read(list, &[0x81 | k << 2], 8, true);
             if tick_after == Some(k) {
-                list.push(ViaTicks(9), Item::Second);
+                list.push(WaitTicks(9), Item::Second);
             }
         }
     };
@@ -187,15 +187,137 @@ fn a_date_read_while_the_seconds_moved() {
     read_all(&mut list, Some(0));
     // A power cut between the bytes: no date.
     read(&mut list, &[0x81], 8, true);
-    list.push(ViaTicks(0), Item::Power(swarmtempo::Seconds(0)));
+    list.push(WaitTicks(0), Item::Power(swarmtempo::Seconds(0)));
     (1..4).for_each(|k| read(&mut list, &[0x81 | k << 2], 8, true));
     let shown = decoded(&[], list.as_bytes());
     let dates: Vec<&str> =
         shown.lines().filter_map(|row| row.split_once("the date read: ").map(|it| it.1)).collect();
     assert_eq!(
         dates,
-        ["1904-01-01 00:04:15", "1904-01-01 00:08:31, while the clock had 1904-01-01 00:04:16"]
+        [
+            "1904-01-01 00:04:15 (no. 5 to 8)",
+            "1904-01-01 00:08:31 (no. 9 to 12), while the clock had 1904-01-01 00:04:16"
+        ]
     );
+}
+
+/// The dates of these readings, with an SE sixty times after each: what was read, by which transactions.
+/// The clock begins at $04030201 seconds; W writes byte 0 as it is, w half a byte, c reads a cell, k
+/// writes one, p reads byte 1 in part, r is a reset.
+fn dates(readings: &[&str]) -> Vec<(u64, Vec<u64>)> {
+    let mut list = List::new();
+    for k in 0..4 {
+        sent(&mut list, &[0x01 | k << 2, k + 1], 16);
+    }
+    for reading in readings {
+        for of in reading.bytes() {
+            match of {
+                b'W' => sent(&mut list, &[0x01, 0x01], 16),
+                b'w' => sent(&mut list, &[0x01, 0x01], 15),
+                b'c' => read(&mut list, &[0xC1], 8, true),
+                b'k' => sent(&mut list, &[0x41, 0x77], 16),
+                b'p' => read(&mut list, &[0x85], 5, true),
+                b'r' => {
+                    list.push(WaitTicks(0), Item::Reset);
+                }
+                digit => read(&mut list, &[0x81 | (digit - b'0') << 2], 8, true),
+            }
+        }
+        for _ in 0..60 {
+            list.push(WaitTicks(1), Item::Second);
+        }
+    }
+    let json = decoded(&["--json"], list.as_bytes());
+    let all = |row: &str, name: &str| -> Option<Vec<u64>> {
+        let (_, value) = row.split_once(&format!("\"{name}\":")).expect(name);
+        let value = value.trim_start_matches('[').split([']', '"', '}']).next().unwrap_or("");
+        (!value.starts_with("null")).then(|| {
+            let numbers = value.split(',').filter(|word| !word.is_empty());
+            numbers.map(|word| word.parse().expect("a number")).collect()
+        })
+    };
+    let mut dates = Vec::new();
+    for row in json.lines() {
+        let Some(date) = all(row, "date_seconds") else {
+            continue;
+        };
+        let clock = all(row, "clock_seconds").expect("there");
+        assert_eq!(date, clock, "of one reading, and compared with the clock at it: {row}");
+        let numbers = all(row, "date_numbers").expect("there");
+        assert_eq!(all(row, "number"), Some(vec![numbers[3]]), "with the last: {row}");
+        dates.push((date[0], numbers));
+    }
+    dates
+}
+
+/// A date is of four bytes of one reading: what is stray or cut off shifts nothing.
+#[test]
+fn a_date_is_of_one_reading() {
+    const START: u64 = 0x0403_0201;
+    // Each whole reading: the minutes gone by, and its first transaction after the four writes.
+    for (readings, wanted) in [
+        (&["0123", "0123"][..], &[(0, 1), (1, 5)][..]),
+        (&["3210", "3210", "3210"], &[(0, 1), (1, 5), (2, 9)]),
+        (&["01230123", "32103210"], &[(0, 1), (0, 5), (1, 9), (1, 13)]),
+        // A stray byte first.
+        (&["0", "3210", "3210", "3210"], &[(1, 2), (2, 6), (3, 10)]),
+        (&["3", "0123", "0123"], &[(1, 2), (2, 6)]),
+        (&["1", "0123", "3210"], &[(1, 2), (2, 6)]),
+        (&["0", "0123"], &[(1, 2)]),
+        (&["3", "3210"], &[(1, 2)]),
+        // Begun in the middle, or cut off.
+        (&["23", "0123", "0123"], &[(1, 3), (2, 7)]),
+        (&["10", "3210", "3210"], &[(1, 3), (2, 7)]),
+        (&["123", "0123"], &[(1, 4)]),
+        (&["012", "0123", "01", "0123", "0"], &[(1, 4), (3, 10)]),
+        (&["32", "3210", "321", "3210"], &[(1, 3), (3, 10)]),
+        (&["01", "3210", "23", "0123"], &[(1, 3), (3, 9)]),
+        // Bytes that may be of two readings.
+        (&["23", "01"], &[]),
+        (&["0", "321"], &[]),
+        (&["0213"], &[]),
+        (&["0123", "123"], &[(0, 1)]),
+        // A write of seconds, a reset, another read, a byte of which some bits were read.
+        (&["01W23", "0123"], &[(1, 6)]),
+        (&["01r23", "0123"], &[(1, 5)]),
+        (&["01c23", "0123"], &[(1, 6)]),
+        (&["0p123", "0123"], &[(1, 6)]),
+        (&["01p23", "3210"], &[(1, 6)]),
+    ] {
+        // The write of byte 0 comes in the first minute and changes nothing.
+        let wanted: Vec<(u64, Vec<u64>)> = wanted
+            .iter()
+            .map(|&(minutes, first)| (START + 60 * minutes, (4 + first..8 + first).collect()))
+            .collect();
+        assert_eq!(dates(readings), wanted, "{readings:?}");
+    }
+    // What does not touch the seconds may stand between.
+    assert_eq!(dates(&["01w23"]), [(START, vec![5, 6, 8, 9])]);
+    assert_eq!(dates(&["01k23"]), [(START, vec![5, 6, 8, 9])]);
+    // A write that protect keeps out ends the reading, too.
+    let mut list = List::new();
+    sent(&mut list, &[0x35, 0x80], 16);
+    for k in 0..4 {
+        read(&mut list, &[0x81 | k << 2], 8, true);
+        if k == 1 {
+            sent(&mut list, &[0x01, 0x01], 16);
+        }
+    }
+    assert!(!decoded(&[], list.as_bytes()).contains("the date read"));
+}
+
+/// Commands of two bytes on a chip with 20 cells: the summaries ask for --cells 256.
+#[test]
+fn commands_of_the_other_chip() {
+    let records = assemble(LAB).expect("in the form");
+    let hint = "2 illegal of two bytes on a chip with 256 cells: is --cells 256 missing?\n";
+    for cells in [&[][..], &LATER] {
+        let summary = program(&[&["summary", "-"][..], cells].concat(), &records);
+        let run = program(&[&["run", "-"][..], cells].concat(), &records);
+        for told in [stdout(&summary), stderr(&run)] {
+            assert_eq!(told.contains(hint), cells.is_empty(), "{told}");
+        }
+    }
 }
 
 /// A command that is half sent at the start is in the image; one at the end is open.
@@ -208,17 +330,14 @@ fn open_at_both_ends() {
     let open = folder.put("open", list.as_bytes());
     assert_eq!(status(&program(&["run", &open, "--quiet", "--save", &save], b"")), 0);
     let shown = ends(&decoded(&[], list.as_bytes()));
-    assert_eq!(
-        shown,
-        ["$41 write cell 0 %101----- half sent (11 of 16 bits); enable is still 0 at the end"]
-    );
+    assert_eq!(shown, ["$41 write cell 0 %101----- not ended: 11 of 16 bits so far"]);
     let mut list = List::new();
     for bit in [0u8, 0, 1, 0, 1] {
         for value in [bit, bit | 2] {
-            list.push(ViaTicks(0), Item::Write(Address::Via(Register::ORB), value));
+            list.push(WaitTicks(0), Item::Write(Address::Via(Register::ORB), value));
         }
     }
-    list.push(ViaTicks(0), Item::Write(Address::Via(Register::ORB), 4));
+    list.push(WaitTicks(0), Item::Write(Address::Via(Register::ORB), 4));
     let shown = decoded(&["--image", &save], list.as_bytes());
     assert_eq!(ends(&shown), ["$41 write cell 0 $A5 written (was $00); begun before the list"]);
 }
@@ -463,6 +582,8 @@ fn summaries() {
         ("refused_3_first_item", "null"),
         ("cells_changed", "[3,200]"),
         ("transactions_half", "1"),
+        ("transactions_nothing", "0"),
+        ("transactions_open", "0"),
         ("clock_seconds_after", "2882400019"),
         ("protect_after", "false"),
     ] {

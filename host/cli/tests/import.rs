@@ -199,6 +199,103 @@ fn what_is_said() {
     assert!(stderr(&done).contains("an SE every 783,360 VIA ticks"));
 }
 
+/// A capture is no file of an analyser; a name that ends in .csv is of values; a cut record has its place.
+#[test]
+fn what_the_files_are() {
+    let folder = Folder::new("import-what");
+    for text in [CELL, FAR, "12t SE\n", "; a comment, one more\n\n5t VB\n"] {
+        let done = program(&["import", "-"], text.as_bytes());
+        let said = "a capture in the text form, not a file of an analyser: decode and run take it with --text";
+        assert!(status(&done) == 65 && stderr(&done).contains(said), "{}", stderr(&done));
+        assert_eq!(stdout(&done), "");
+    }
+    let list = folder.put("list.txt", CELL.as_bytes());
+    let export = |words: &[&str]| {
+        let done = program(&[&["export", &list, "--text"], words].concat(), b"");
+        assert_eq!(status(&done), 0, "{}", stderr(&done));
+    };
+    export(&["--csv", "-o", &folder.path("a")]);
+    export(&["-o", &folder.path("b.csv")]);
+    export(&["-o", &folder.path("c.CSV")]);
+    export(&["-o", &folder.path("d.vcd")]);
+    let values = folder.get("a");
+    assert!(folder.get("b.csv") == values && folder.get("c.CSV") == values);
+    assert!(folder.get("d.vcd") != values && folder.get("d.vcd").starts_with(b"$"));
+    let short = folder.put("short", &[4, 0, b'S', b'E', 1, 0, 9, 0, b'W']);
+    for command in ["export", "decode", "report"] {
+        let done = program(&[command, &short], b"");
+        assert_eq!(status(&done), 1);
+        assert!(stderr(&done).contains(", at byte 6; the rest is not run"), "{}", stderr(&done));
+    }
+}
+
+/// Values of an analyser: enable down, these bytes bit by bit (so many of them), some bits of a byte that
+/// the chip sends, and enable up.
+fn rows(out: &mut String, bytes: &[u8], bits: usize, sent: usize, ends: bool) {
+    let mut row = |levels: &str| {
+        let time = out.lines().count() * 10;
+        out.push_str(&format!("{time},{levels}\n"));
+    };
+    row("1,1,1");
+    row("0,1,1");
+    let all = bytes.iter().flat_map(|byte| (0..8).rev().map(move |i| byte >> i & 1));
+    for bit in all.take(bits) {
+        row(&format!("0,0,{bit}"));
+        row(&format!("0,1,{bit}"));
+    }
+    for i in 0..sent {
+        row(&format!("0,0,{}", i % 2));
+        row(&format!("0,1,{}", i % 2));
+    }
+    if ends {
+        row("1,1,1");
+    }
+}
+
+/// Each transaction is counted once, and as decode counts it.
+#[test]
+fn the_parts_add_up() {
+    let folder = Folder::new("import-parts");
+    let mut seen = "microseconds,enable,data_clock,data\n".to_string();
+    rows(&mut seen, &[0x41, 0xA5], 16, 0, true);
+    rows(&mut seen, &[0xC1], 8, 8, true);
+    rows(&mut seen, &[0xC1], 8, 3, true);
+    rows(&mut seen, &[0xC1], 8, 0, true);
+    rows(&mut seen, &[0x41, 0xA5], 15, 0, true);
+    rows(&mut seen, &[0x41], 8, 0, true);
+    rows(&mut seen, &[0x41], 5, 0, true);
+    rows(&mut seen, &[0x4B], 8, 0, true);
+    rows(&mut seen, &[], 0, 0, true);
+    let open = |bits, said: &str| {
+        let mut seen = seen.clone();
+        rows(&mut seen, &[0x41, 0xA5], bits, 0, false);
+        let done = program(&["import", "-", "-o", &folder.path("list")], seen.as_bytes());
+        assert_eq!(status(&done), 0, "{}", stderr(&done));
+        assert!(stderr(&done).contains(said), "{}", stderr(&done));
+    };
+    open(12, "10 transactions: 1 whole write, 3 reads, 1 ignored, 3 half sent, 1 with nothing sent, 1 not ended\n");
+    open(0, "10 transactions: 1 whole write, 3 reads, 1 ignored, 3 half sent, 1 with nothing sent, 1 not ended\n");
+    open(
+        16,
+        "10 transactions: 2 whole writes, 3 reads, 1 ignored, 3 half sent, 1 with nothing sent\n",
+    );
+    let done = program(&["import", "-", "-o", &folder.path("list")], seen.as_bytes());
+    let said =
+        "9 transactions: 1 whole write, 3 reads, 1 ignored, 3 half sent, 1 with nothing sent\n";
+    assert!(stderr(&done).contains(said), "{}", stderr(&done));
+    let summary = program(&["summary", &folder.path("list")], b"");
+    let said = "9 transactions: 1 written, 3 half sent, 1 nothing sent, 1 illegal, 3 read\n";
+    assert!(stdout(&summary).contains(said), "{}", stdout(&summary));
+    // A read of which some bits were taken is said so in the text.
+    let text = stdout(&program(&["import", "-", "--as-text"], seen.as_bytes()));
+    assert!(text.contains("; read cell 0: 3 of 8 bits taken\n"), "{text}");
+    // Begun before the start.
+    let held = "microseconds,enable,data_clock,data\n0,0,1,1\n10,0,0,1\n20,1,1,1\n";
+    let done = program(&["import", "-", "--goes-on", "-o", &folder.path("list")], held.as_bytes());
+    let said = "1 transaction: 0 whole writes, 0 reads, 0 ignored, 0 half sent, 1 begun before the start\n";
+    assert!(stderr(&done).contains(said), "{}", stderr(&done));
+}
+
 /// Out and in again, by a dump, by values, and through sigrok where it is: the same transactions.
 #[test]
 fn out_and_in_again() {

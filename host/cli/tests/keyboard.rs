@@ -58,7 +58,7 @@ events:4:12: a byte is 0 to 255, or $00 to $FF
 events:5:1: a wait is 0 to 4294967295 VIA ticks
 events:6:4: COMMAND or KEY comes here
 events:7:10: nothing more belongs here
-swarmtempo: events: 7 errors in the text; no file is written
+swarmtempo: events: 7 errors in the text; nothing is run or written
 ";
     assert_eq!((stderr(&said), status(&said)), (wanted.into(), 65));
     assert_eq!(folder.names(), ["events"]);

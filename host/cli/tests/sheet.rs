@@ -98,7 +98,7 @@ fn nothing_is_written_where_something_is_wrong() {
         (&["make", "wrong.txt", "-o", "no"], 65, "wrong.txt:2:1: a setting is a number from 0"),
         (&["make", "wrong.txt", "-o", "no"], 65, "wrong.txt:3:7: a quote is missing"),
         (&["make", "wrong.txt", "-o", "no"], 65, "wrong.txt:4:1: not text (UTF-8)"),
-        (&["make", "wrong.txt", "-o", "no"], 65, "wrong.txt: 3 errors in the text; no file is"),
+        (&["make", "wrong.txt", "-o", "no"], 65, "wrong.txt: 3 errors in the text; nothing is"),
         (&["list", "absent", "-o", "no"], 74, "absent: No such file"),
         (&["make", "bench.txt", "-o", "bench.txt"], 64, "TEXT bench.txt and -o bench.txt are one"),
         (&["compact", "bench.sv", "-o", "./bench.sv"], 64, "what is read is not written over"),

@@ -63,6 +63,31 @@ pub struct SeenDate {
     pub seconds: u32,
     /// As the chip had them when it took the last of the four bytes.
     pub clock: u32,
+    /// The numbers of the four transactions, in their order.
+    pub numbers: [u64; 4],
+}
+
+/// The seconds bytes of a reading under way, in one direction: 0, 1, 2, 3 or 3, 2, 1, 0.
+#[derive(Clone, Copy, Debug, Default)]
+struct Reading {
+    /// How many there are, 0 to 3.
+    count: usize,
+    /// In the order of the reading, each with the number of its transaction.
+    bytes: [(u8, u64); 4],
+}
+
+impl Reading {
+    /// The byte of this place in the reading comes: true where it is the last. Place 0 begins anew, and
+    /// one out of turn leaves nothing.
+    fn takes(&mut self, place: usize, byte: u8, number: u64) -> bool {
+        if place != 0 && place != self.count {
+            self.count = 0;
+            return false;
+        }
+        self.bytes[place] = (byte, number);
+        self.count = place + 1;
+        self.count == 4
+    }
 }
 
 /// What was asked of the chip.
@@ -116,7 +141,7 @@ pub enum Fate {
         /// The byte sent.
         byte: u8,
     },
-    /// Enable went up too early: nothing was done.
+    /// Enable went up too early, or the list ended: nothing was done.
     Half {
         /// The bits that the command needs, where so much of it is known.
         of: Option<u8>,
@@ -131,7 +156,8 @@ pub enum Fate {
         falls: u8,
         /// What the program read of them.
         seen: SeenBits,
-        /// The seconds, where this is the last of the four seconds bytes.
+        /// The seconds, where this is the last of the four seconds bytes, read one after the other
+        /// upward (0 to 3) or downward, with no other read and no write of seconds between.
         date: Option<SeenDate>,
     },
     /// It was settled before the list began.
@@ -225,8 +251,8 @@ pub struct Decoder {
     data_clock: bool,
     stretch: Option<Stretch>,
     number: u64,
-    /// The seconds bytes that a program has seen since it last had all four.
-    date: [Option<u8>; 4],
+    /// The readings of the seconds that may be under way, upward and downward.
+    readings: [Reading; 2],
 }
 
 /// The address of a VIA register, as a record has it.
@@ -253,7 +279,7 @@ impl Decoder {
             data_clock: wires.data_clock,
             stretch: None,
             number: 0,
-            date: [None; 4],
+            readings: [Reading::default(); 2],
         };
         decoder.stretch = decoder.open_at_start(state.phase);
         decoder
@@ -352,7 +378,7 @@ impl Decoder {
     /// The ports become inputs, and the program begins anew: it has no seconds byte any more.
     fn begin_anew(&mut self, at: Place, watch: &mut impl Watch) {
         self.ports(at, 0, 0, watch);
-        self.date = [None; 4];
+        self.no_reading();
     }
 
     /// Seconds go by, unless the test byte stops them.
@@ -561,6 +587,9 @@ impl Decoder {
         let (Some(Command { target, .. }), byte) = (open.command, open.data) else {
             return;
         };
+        if matches!(target, Target::Seconds(_)) {
+            self.no_reading();
+        }
         if self.protect && target != Target::Protect {
             open.it.fate = Fate::Protected { target, byte };
             return;
@@ -571,7 +600,6 @@ impl Decoder {
                 let mut bytes = self.seconds.to_le_bytes();
                 bytes[usize::from(k & 3)] = byte;
                 self.seconds = u32::from_le_bytes(bytes);
-                self.date = [None; 4];
             }
             Target::Test => self.test = byte,
             Target::Protect => self.protect = byte & 0x80 != 0,
@@ -605,22 +633,40 @@ impl Decoder {
         }
         if let Fate::Read { falls, seen, date, .. } = &mut it.fate {
             *falls = open.falls;
-            if let Some(Command { target: Target::Seconds(k), .. }) = open.command {
-                *date = self.seen_seconds(k, *seen, open.clock);
-            }
+            *date = match (open.command, seen.byte()) {
+                (Some(Command { target: Target::Seconds(k), .. }), Some(byte)) => {
+                    self.seen_seconds(k, byte, it.number, open.clock)
+                }
+                _ => {
+                    self.no_reading();
+                    None
+                }
+            };
         }
         it
     }
 
-    /// A seconds byte was read: the date where it is the last of four.
-    fn seen_seconds(&mut self, k: u8, seen: SeenBits, clock: u32) -> Option<SeenDate> {
-        self.date[usize::from(k & 3)] = seen.byte();
-        let mut bytes = [0; 4];
-        for (byte, seen) in bytes.iter_mut().zip(self.date) {
-            *byte = seen?;
-        }
-        self.date = [None; 4];
-        Some(SeenDate { seconds: u32::from_le_bytes(bytes), clock })
+    /// No reading of the seconds is under way.
+    fn no_reading(&mut self) {
+        self.readings = [Reading::default(); 2];
+    }
+
+    /// A seconds byte was read: the date where it is the last of a reading in one direction. Bytes in
+    /// another order may be of two readings, and give none.
+    fn seen_seconds(&mut self, k: u8, byte: u8, number: u64, clock: u32) -> Option<SeenDate> {
+        let place = usize::from(k & 3);
+        let [up, down] = &mut self.readings;
+        let (rose, fell) = (up.takes(place, byte, number), down.takes(3 - place, byte, number));
+        let bytes = match (rose, fell) {
+            (true, _) => up.bytes,
+            (_, true) => down.bytes,
+            _ => return None,
+        };
+        // The last byte is no part of the next reading.
+        self.no_reading();
+        let value = bytes.map(|(byte, _)| byte);
+        let seconds = if rose { u32::from_le_bytes(value) } else { u32::from_be_bytes(value) };
+        Some(SeenDate { seconds, clock, numbers: bytes.map(|(_, number)| number) })
     }
 }
 

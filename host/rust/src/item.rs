@@ -7,7 +7,7 @@
 
 use crate::address::named;
 use crate::units::number;
-use crate::{text, Address, ParseError, Refusal, Seconds, ViaTicks};
+use crate::{text, Address, ParseError, Refusal, Seconds, WaitTicks};
 use std::fmt;
 use std::ops::Deref;
 use std::str::FromStr;
@@ -256,7 +256,7 @@ impl Item {
     }
 
     /// Appends the item's record.
-    pub fn write(&self, wait: ViaTicks, out: &mut Vec<u8>) {
+    pub fn write(&self, wait: WaitTicks, out: &mut Vec<u8>) {
         let start = out.len();
         out.extend_from_slice(&[0, 0]);
         out.extend_from_slice(self.kind());
@@ -295,7 +295,7 @@ impl Item {
     /// # Errors
     /// The refusal that a run answers whatever the state. [`Refusal::Disk`] is none of those, nor is
     /// [`Refusal::Retired`]: items of an old capture can be looked at and shown.
-    pub fn read(record: &[u8]) -> Result<(ViaTicks, Item), Refusal> {
+    pub fn read(record: &[u8]) -> Result<(WaitTicks, Item), Refusal> {
         let (kind, rest) = record.split_first_chunk::<2>().ok_or(Refusal::Cut)?;
         if !Self::KINDS.contains(&kind) {
             return Err(Refusal::Kind);
@@ -324,7 +324,7 @@ impl Item {
             (b"PW", &[a, b, c, d]) => Item::Power(Seconds(u32::from_le_bytes([a, b, c, d]))),
             _ => return Err(Refusal::Length),
         };
-        Ok((ViaTicks(u16::from_le_bytes(*wait)), item))
+        Ok((WaitTicks(u16::from_le_bytes(*wait)), item))
     }
 }
 
@@ -353,7 +353,7 @@ fn level(byte: u8) -> Result<bool, Refusal> {
 
 impl fmt::Display for Item {
     fn fmt(&self, f: &mut fmt::Formatter<'_>) -> fmt::Result {
-        let words = text::item(ViaTicks(0), self);
+        let words = text::item(WaitTicks(0), self);
         f.pad(words.strip_prefix("0t ").unwrap_or(&words))
     }
 }
@@ -378,9 +378,9 @@ impl FromStr for Item {
 /// Written and read as a line of the text form ([`crate::text`]):
 ///
 /// ```
-/// use swarmtempo::{Item, Timed, ViaTicks};
+/// use swarmtempo::{Item, Timed, WaitTicks};
 ///
-/// let second = Timed { wait: ViaTicks(12), item: Item::Second };
+/// let second = Timed { wait: WaitTicks(12), item: Item::Second };
 /// assert_eq!(second.to_string(), "12t SE");
 /// assert_eq!("12t SE ; the one-second tick".parse(), Ok(second));
 /// assert_eq!(Timed::try_from(&[4, 0, b'S', b'E', 12, 0][..]), Ok(second));
@@ -388,7 +388,7 @@ impl FromStr for Item {
 #[derive(Clone, Copy, Debug, PartialEq, Eq, Hash)]
 pub struct Timed {
     /// Passes first.
-    pub wait: ViaTicks,
+    pub wait: WaitTicks,
     /// What is done then.
     pub item: Item,
 }
@@ -419,7 +419,7 @@ impl Timed {
         };
         (0..count).map(move |i| match self.item {
             Item::WriteMany(address, values) => Timed {
-                wait: if i == 0 { self.wait } else { ViaTicks(0) },
+                wait: if i == 0 { self.wait } else { WaitTicks(0) },
                 item: Item::Write(address, values[i]),
             },
             _ => self,
@@ -427,8 +427,8 @@ impl Timed {
     }
 }
 
-impl From<(ViaTicks, Item)> for Timed {
-    fn from((wait, item): (ViaTicks, Item)) -> Timed {
+impl From<(WaitTicks, Item)> for Timed {
+    fn from((wait, item): (WaitTicks, Item)) -> Timed {
         Timed { wait, item }
     }
 }

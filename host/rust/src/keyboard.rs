@@ -1,12 +1,12 @@
 //! The keyboard, a part of its own.
 
-use crate::{sys, Refusal, TickCount};
+use crate::{sys, Refusal, ViaTicks};
 use std::fmt;
 
 /// Bytes of a keyboard's image.
 pub const KEYBOARD_LEN: usize = 18;
 /// VIA ticks that an Inquiry waits for a key: a quarter of a second.
-pub const INQUIRY_TICKS: TickCount = TickCount(195_840);
+pub const INQUIRY_TICKS: ViaTicks = ViaTicks(195_840);
 
 /// Eight key codes are held already: refusal 11. Nothing is changed.
 #[derive(Clone, Copy, Debug, PartialEq, Eq, Hash)]
@@ -29,11 +29,11 @@ impl std::error::Error for KeyboardFull {}
 /// bytes come out. No item of a list reaches it: a shell carries its bits.
 ///
 /// ```
-/// use swarmtempo::{Keyboard, TickCount, INQUIRY_TICKS};
+/// use swarmtempo::{Keyboard, ViaTicks, INQUIRY_TICKS};
 ///
 /// let mut keyboard = Keyboard::new(0x03);
 /// assert_eq!(keyboard.command(0x10), None); // Inquiry: no code is held, so it waits
-/// assert_eq!(keyboard.wait(TickCount(100)), None);
+/// assert_eq!(keyboard.wait(ViaTicks(100)), None);
 /// assert_eq!(keyboard.key(0x33), Ok(Some(0x33))); // the key answers it, and is not kept
 /// assert_eq!(keyboard.command(0x14), Some(0x7B)); // Instant: Null
 /// assert_eq!(keyboard.command(0x10), None);
@@ -52,7 +52,7 @@ pub struct KeyboardState {
     /// The key codes held, the oldest first; eight at most.
     pub codes: Vec<u8>,
     /// VIA ticks until a waiting Inquiry answers Null; none where none waits.
-    pub left: Option<TickCount>,
+    pub left: Option<ViaTicks>,
 }
 
 impl Keyboard {
@@ -101,7 +101,7 @@ impl Keyboard {
         KeyboardState {
             model: self.image[4],
             codes: self.image[6..6 + held].to_vec(),
-            left: (left != 0).then_some(TickCount(left)),
+            left: (left != 0).then_some(ViaTicks(left)),
         }
     }
 
@@ -124,7 +124,7 @@ impl Keyboard {
 
     /// So many VIA ticks pass. The answer is the Null of an Inquiry that waited long enough. A wait
     /// may be cut anywhere.
-    pub fn wait(&mut self, ticks: TickCount) -> Option<u8> {
+    pub fn wait(&mut self, ticks: ViaTicks) -> Option<u8> {
         answer(sys::keyboard_wait(&mut self.image, ticks.0))
     }
 }

@@ -1,15 +1,15 @@
 //! Swarmtempo: the VIA, the clock chip and the disk lines of a Macintosh Plus, behind safe types.
 //!
-//! A [`Machine`] owns a state, and has one of two clock chips ([`Chip`]). A [`List`] is built of items, each with a wait in [`ViaTicks`]; a run
+//! A [`Machine`] owns a state, and has one of two clock chips ([`Chip`]). A [`List`] is built of items, each with a wait in [`WaitTicks`]; a run
 //! carries them out or refuses them, and answers each.
 //!
 //! ```
-//! use swarmtempo::{Address, Chip, Item, List, Machine, Register, ViaTicks};
+//! use swarmtempo::{Address, Chip, Item, List, Machine, Register, WaitTicks};
 //!
 //! let mut list = List::new();
-//! list.push(ViaTicks(0), Item::Write(Address::Via(Register::IER), 0x81));
-//! list.push(ViaTicks(0), Item::Second);
-//! list.push(ViaTicks(0), Item::Read(Address::Via(Register::IFR)));
+//! list.push(WaitTicks(0), Item::Write(Address::Via(Register::IER), 0x81));
+//! list.push(WaitTicks(0), Item::Second);
+//! list.push(WaitTicks(0), Item::Read(Address::Via(Register::IFR)));
 //!
 //! let mut machine = Machine::fresh(Chip::First);
 //! let transcript = machine.run_items(&list);
@@ -96,6 +96,6 @@ pub use sheets::{
 };
 pub use state::{DriveState, Phase, State, Strobe, Timer1, Timer2, Wires};
 pub use touches::{Touch, Touched, Touches};
-pub use units::{Micros, Seconds, TickCount, TooLong, ViaTicks, TICKS_PER_SECOND};
+pub use units::{Micros, Seconds, TooLong, ViaTicks, WaitTicks, TICKS_PER_SECOND};
 pub use wire_dump::{wire_save_file, wire_steps, WireDump, WireForm, WIRES};
 pub use wire_import::{Femtoseconds, GapTooLong, WireEvent, WireImport};

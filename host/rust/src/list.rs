@@ -1,6 +1,6 @@
 //! Lists of items.
 
-use crate::{pieces, text, Item, Piece, Pieces, Refusal, Timed, ViaTicks};
+use crate::{pieces, text, Item, Piece, Pieces, Refusal, Timed, WaitTicks};
 use std::fmt;
 use std::iter::FusedIterator;
 use std::str::FromStr;
@@ -8,11 +8,11 @@ use std::str::FromStr;
 /// A list of items, as the bytes that a run takes. It may have bytes that make no item too.
 ///
 /// ```
-/// use swarmtempo::{Item, List, Timed, ViaTicks};
+/// use swarmtempo::{Item, List, Timed, WaitTicks};
 ///
 /// let mut list: List = "12t SE\n0t VB".parse()?;
-/// list.push(ViaTicks(3), Item::Reset);
-/// list.extend([Timed { wait: ViaTicks(0), item: Item::Second }]);
+/// list.push(WaitTicks(3), Item::Reset);
+/// list.extend([Timed { wait: WaitTicks(0), item: Item::Second }]);
 /// assert_eq!(list.as_ref().len(), 4 * 6);
 /// let items: Result<Vec<Timed>, _> = list.iter().collect();
 /// assert_eq!(items?[2].to_string(), "3t RS");
@@ -31,7 +31,7 @@ impl List {
     }
 
     /// Appends an item that comes after a wait.
-    pub fn push(&mut self, wait: ViaTicks, item: Item) -> &mut List {
+    pub fn push(&mut self, wait: WaitTicks, item: Item) -> &mut List {
         item.write(wait, &mut self.bytes);
         self
     }
@@ -113,8 +113,8 @@ impl Extend<Timed> for List {
     }
 }
 
-impl Extend<(ViaTicks, Item)> for List {
-    fn extend<I: IntoIterator<Item = (ViaTicks, Item)>>(&mut self, items: I) {
+impl Extend<(WaitTicks, Item)> for List {
+    fn extend<I: IntoIterator<Item = (WaitTicks, Item)>>(&mut self, items: I) {
         self.extend(items.into_iter().map(Timed::from));
     }
 }
@@ -127,8 +127,8 @@ impl FromIterator<Timed> for List {
     }
 }
 
-impl FromIterator<(ViaTicks, Item)> for List {
-    fn from_iter<I: IntoIterator<Item = (ViaTicks, Item)>>(items: I) -> List {
+impl FromIterator<(WaitTicks, Item)> for List {
+    fn from_iter<I: IntoIterator<Item = (WaitTicks, Item)>>(items: I) -> List {
         items.into_iter().map(Timed::from).collect()
     }
 }

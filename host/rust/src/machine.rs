@@ -2,7 +2,7 @@
 
 use crate::table::{Table, HEAD};
 use crate::{
-    chunks, pieces, sys, Answer, Chip, Item, Piece, Pieces, Refusal, Seen, State, Timed, ViaTicks,
+    chunks, pieces, sys, Answer, Chip, Item, Piece, Pieces, Refusal, Seen, State, Timed, WaitTicks,
     ANSWER_LEN,
 };
 use std::fmt;
@@ -115,10 +115,10 @@ impl Machine {
     /// Does one item, after a wait.
     ///
     /// ```
-    /// use swarmtempo::{Address, Chip, Item, Machine, Register, ViaTicks};
+    /// use swarmtempo::{Address, Chip, Item, Machine, Register, WaitTicks};
     ///
     /// let mut machine = Machine::fresh(Chip::First);
-    /// let seen = machine.step(ViaTicks(0), Item::Read(Address::Via(Register::ORB)))?;
+    /// let seen = machine.step(WaitTicks(0), Item::Read(Address::Via(Register::ORB)))?;
     /// assert_eq!(seen.value, 0xFF);
     /// # Ok::<(), swarmtempo::Refusal>(())
     /// ```
@@ -128,7 +128,7 @@ impl Machine {
     ///
     /// # Panics
     /// Where the archive is of another version than this crate, and answers what this does not know.
-    pub fn step(&mut self, wait: ViaTicks, item: Item) -> Result<Seen, Refusal> {
+    pub fn step(&mut self, wait: WaitTicks, item: Item) -> Result<Seen, Refusal> {
         let mut answer = [0; ANSWER_LEN];
         self.run_in(&Timed { wait, item }.to_bytes(), &mut answer);
         Answer::read(&answer).expect("an item is answered").result()

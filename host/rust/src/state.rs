@@ -1,15 +1,15 @@
 //! An image taken apart, for showing it. The layout is that of kinds ST and SX. Its words are in
 //! [`crate::describe`].
 
-use crate::{Chip, Command, DiskLine, InLine, Lines, Seconds, SenseRegister, TickCount, ViaTicks};
+use crate::{Chip, Command, DiskLine, InLine, Lines, Seconds, SenseRegister, ViaTicks, WaitTicks};
 
 /// Timer 1.
 #[derive(Clone, Copy, Debug, PartialEq, Eq)]
 pub struct Timer1 {
     /// The counter.
-    pub counter: ViaTicks,
+    pub counter: WaitTicks,
     /// The latches.
-    pub latch: ViaTicks,
+    pub latch: WaitTicks,
     /// Its next passage sets flag 6.
     pub armed: bool,
     /// The next tick loads the latches.
@@ -20,7 +20,7 @@ pub struct Timer1 {
 #[derive(Clone, Copy, Debug, PartialEq, Eq)]
 pub struct Timer2 {
     /// The counter.
-    pub counter: ViaTicks,
+    pub counter: WaitTicks,
     /// The low latch.
     pub low: u8,
     /// Its next passage sets flag 5.
@@ -96,7 +96,7 @@ pub struct DriveState {
     /// The motor runs.
     pub motor: bool,
     /// What is left of a step, 0 where none is under way.
-    pub step_left: ViaTicks,
+    pub step_left: WaitTicks,
     /// The direction of that step.
     pub step_direction: bool,
 }
@@ -105,7 +105,7 @@ pub struct DriveState {
 #[derive(Clone, Copy, Debug, PartialEq, Eq)]
 pub struct Strobe {
     /// Since LSTRB rose, 391,680 at most; 0 unless steady.
-    pub ticks: TickCount,
+    pub ticks: ViaTicks,
     /// ENABLE was on and the other lines held still since LSTRB rose.
     pub steady: bool,
 }
@@ -186,8 +186,8 @@ impl Fields<'_> {
         self.bytes::<1>()[0]
     }
 
-    fn ticks(&mut self) -> ViaTicks {
-        ViaTicks(u16::from_le_bytes(self.bytes()))
+    fn ticks(&mut self) -> WaitTicks {
+        WaitTicks(u16::from_le_bytes(self.bytes()))
     }
 
     fn long(&mut self) -> u32 {
@@ -277,7 +277,7 @@ impl State {
             inputs: f.flags(),
             sense: [f.flags(), f.flags()],
             drives: [f.drive(), f.drive()],
-            strobe: Strobe { ticks: TickCount(f.long()), steady: f.flag() },
+            strobe: Strobe { ticks: ViaTicks(f.long()), steady: f.flag() },
         };
         f.tail(&mut state);
         state

@@ -1,6 +1,6 @@
 //! What of a run can touch the clock chip.
 
-use crate::{pieces, Address, Item, Machine, Register, Run, Seconds, Timed, ViaTicks, ANSWER_LEN};
+use crate::{pieces, Address, Item, Machine, Register, Run, Seconds, Timed, WaitTicks, ANSWER_LEN};
 use std::fmt;
 
 /// An item that can touch the clock chip; an MW counts as its single writes. Two runs from one state that carry out the same of these, in
@@ -20,7 +20,7 @@ pub enum Touch {
 impl Touch {
     /// Those of an item: one or none, and of an MW one for each value or none.
     pub fn of(item: Item) -> impl Iterator<Item = Touch> {
-        let timed = Timed { wait: ViaTicks(0), item };
+        let timed = Timed { wait: WaitTicks(0), item };
         timed.singles().filter_map(|single| Touch::of_single(single.item))
     }
 

@@ -12,19 +12,19 @@ pub const TICKS_PER_SECOND: u32 = 783_360;
 /// Written `12t`, in full (`{:#}`) `12 VIA ticks`; the first is read back.
 ///
 /// ```
-/// use swarmtempo::{Micros, ViaTicks};
+/// use swarmtempo::{Micros, WaitTicks};
 ///
-/// assert_eq!("12t".parse(), Ok(ViaTicks(12)));
-/// assert_eq!(format!("{0} or {0:#}", ViaTicks(12)), "12t or 12 VIA ticks");
-/// assert_eq!(ViaTicks::try_from(Micros(12_000)), Ok(ViaTicks(9_401)));
-/// assert!("12s".parse::<ViaTicks>().is_err());
+/// assert_eq!("12t".parse(), Ok(WaitTicks(12)));
+/// assert_eq!(format!("{0} or {0:#}", WaitTicks(12)), "12t or 12 VIA ticks");
+/// assert_eq!(WaitTicks::try_from(Micros(12_000)), Ok(WaitTicks(9_401)));
+/// assert!("12s".parse::<WaitTicks>().is_err());
 /// ```
 #[derive(Clone, Copy, Debug, Default, PartialEq, Eq, PartialOrd, Ord, Hash)]
-pub struct ViaTicks(pub u16);
+pub struct WaitTicks(pub u16);
 
-/// A number of VIA ticks, which may be more than one wait takes. Written as [`ViaTicks`].
+/// A number of VIA ticks, which may be more than one wait takes. Written as [`WaitTicks`].
 #[derive(Clone, Copy, Debug, Default, PartialEq, Eq, PartialOrd, Ord, Hash)]
-pub struct TickCount(pub u32);
+pub struct ViaTicks(pub u32);
 
 /// A time in seconds. Written `5s`, in full `5 seconds`.
 #[derive(Clone, Copy, Debug, Default, PartialEq, Eq, PartialOrd, Ord, Hash)]
@@ -34,17 +34,17 @@ pub struct Seconds(pub u32);
 /// into VIA ticks:
 ///
 /// ```
-/// use swarmtempo::{Item, List, Micros, TickCount, ViaTicks};
+/// use swarmtempo::{Item, List, Micros, ViaTicks, WaitTicks};
 ///
 /// // 12 ms, a step of a drive: 9,400.32 ticks.
 /// let step = Micros(12_000).ticks();
-/// assert_eq!(step, TickCount(9_401));
-/// assert_eq!(step.wait(), Some(ViaTicks(9_401)));
+/// assert_eq!(step, ViaTicks(9_401));
+/// assert_eq!(step.wait(), Some(WaitTicks(9_401)));
 /// if let Some(wait) = step.wait() {
 ///     List::new().push(wait, Item::Second);
 /// }
 /// // Half a second is longer than one wait.
-/// assert_eq!(Micros(500_000).ticks(), TickCount(391_680));
+/// assert_eq!(Micros(500_000).ticks(), ViaTicks(391_680));
 /// assert_eq!(Micros(500_000).ticks().wait(), None);
 /// assert_eq!(Micros(500_000).ticks().waits().count(), 6);
 /// ```
@@ -60,62 +60,62 @@ pub struct Micros(pub u32);
 
 impl Micros {
     /// In VIA ticks, rounded up (`swarmtempo_ticks_of_micros`).
-    pub fn ticks(self) -> TickCount {
-        TickCount(sys::ticks_of_micros(self.0))
+    pub fn ticks(self) -> ViaTicks {
+        ViaTicks(sys::ticks_of_micros(self.0))
     }
 }
 
-impl TickCount {
+impl ViaTicks {
     /// As one wait, where it is not too long.
-    pub fn wait(self) -> Option<ViaTicks> {
-        u16::try_from(self.0).ok().map(ViaTicks)
+    pub fn wait(self) -> Option<WaitTicks> {
+        u16::try_from(self.0).ok().map(WaitTicks)
     }
 
     /// As waits one after the other, each as long as can be; none for no ticks.
-    pub fn waits(self) -> impl Iterator<Item = ViaTicks> {
+    pub fn waits(self) -> impl Iterator<Item = WaitTicks> {
         let longest = u32::from(u16::MAX);
-        let whole = (0..self.0 / longest).map(|_| ViaTicks(u16::MAX));
-        let rest = TickCount(self.0 % longest).wait().filter(|wait| wait.0 > 0);
+        let whole = (0..self.0 / longest).map(|_| WaitTicks(u16::MAX));
+        let rest = ViaTicks(self.0 % longest).wait().filter(|wait| wait.0 > 0);
         whole.chain(rest)
     }
 }
 
 /// More VIA ticks than one wait takes, 65,535.
 #[derive(Clone, Copy, Debug, PartialEq, Eq)]
-pub struct TooLong(pub TickCount);
+pub struct TooLong(pub ViaTicks);
 
 impl fmt::Display for TooLong {
     fn fmt(&self, f: &mut fmt::Formatter<'_>) -> fmt::Result {
-        write!(f, "{:#} are longer than one wait, {:#}", self.0, ViaTicks(u16::MAX))
+        write!(f, "{:#} are longer than one wait, {:#}", self.0, WaitTicks(u16::MAX))
     }
 }
 
 impl std::error::Error for TooLong {}
 
-impl From<ViaTicks> for TickCount {
-    fn from(wait: ViaTicks) -> TickCount {
-        TickCount(wait.0.into())
+impl From<WaitTicks> for ViaTicks {
+    fn from(wait: WaitTicks) -> ViaTicks {
+        ViaTicks(wait.0.into())
     }
 }
 
-impl From<Micros> for TickCount {
-    fn from(micros: Micros) -> TickCount {
+impl From<Micros> for ViaTicks {
+    fn from(micros: Micros) -> ViaTicks {
         micros.ticks()
     }
 }
 
-impl TryFrom<TickCount> for ViaTicks {
+impl TryFrom<ViaTicks> for WaitTicks {
     type Error = TooLong;
 
-    fn try_from(ticks: TickCount) -> Result<ViaTicks, TooLong> {
+    fn try_from(ticks: ViaTicks) -> Result<WaitTicks, TooLong> {
         ticks.wait().ok_or(TooLong(ticks))
     }
 }
 
-impl TryFrom<Micros> for ViaTicks {
+impl TryFrom<Micros> for WaitTicks {
     type Error = TooLong;
 
-    fn try_from(micros: Micros) -> Result<ViaTicks, TooLong> {
+    fn try_from(micros: Micros) -> Result<WaitTicks, TooLong> {
         micros.ticks().try_into()
     }
 }
@@ -145,8 +145,8 @@ macro_rules! with_unit {
     };
 }
 
-with_unit!(ViaTicks, "t", "VIA tick", "a wait from 0t to 65535t (VIA ticks)");
-with_unit!(TickCount, "t", "VIA tick", "a number of VIA ticks, as 391680t");
+with_unit!(WaitTicks, "t", "VIA tick", "a wait from 0t to 65535t (VIA ticks)");
+with_unit!(ViaTicks, "t", "VIA tick", "a number of VIA ticks, as 391680t");
 with_unit!(Seconds, "s", "second", "a number of seconds, as 5s");
 with_unit!(Micros, "us", "microsecond", "a number of microseconds, as 12000us");
 

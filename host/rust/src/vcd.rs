@@ -18,7 +18,7 @@
 //! ```
 
 use crate::{
-    pieces, Answer, Command, DiskLine, Machine, Phase, Piece, Run, State, Timed, ViaTicks,
+    pieces, Answer, Command, DiskLine, Machine, Phase, Piece, Run, State, Timed, WaitTicks,
     ANSWER_LEN, TICKS_PER_SECOND,
 };
 use std::io::{self, Write};
@@ -208,7 +208,7 @@ impl<W: Write> Vcd<W> {
     ) -> io::Result<()> {
         match (Answer::read(answer), Timed::try_from(piece)) {
             (Some(Answer::Ok(_)), Ok(timed)) => self.done(timed, before, after),
-            (Some(Answer::No(refusal)), _) => self.item(ViaTicks(0), refusal.number(), after),
+            (Some(Answer::No(refusal)), _) => self.item(WaitTicks(0), refusal.number(), after),
             _ => Ok(()),
         }
     }
@@ -232,13 +232,13 @@ impl<W: Write> Vcd<W> {
     ///
     /// # Errors
     /// Those of the output.
-    pub fn item(&mut self, wait: ViaTicks, refused: u8, after: State) -> io::Result<()> {
+    pub fn item(&mut self, wait: WaitTicks, refused: u8, after: State) -> io::Result<()> {
         self.items += 1;
         self.point(wait, refused, after)
     }
 
     /// A point of the dump: so many VIA ticks after the one before, or a little later.
-    fn point(&mut self, wait: ViaTicks, refused: u8, after: State) -> io::Result<()> {
+    fn point(&mut self, wait: WaitTicks, refused: u8, after: State) -> io::Result<()> {
         self.ticks += u64::from(wait.0);
         let exact = u128::from(self.ticks) * 1_000_000_000 / u128::from(TICKS_PER_SECOND);
         self.nanoseconds = u64::try_from(exact)

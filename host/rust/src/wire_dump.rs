@@ -6,7 +6,7 @@
 //! follows is late by that much.
 
 use crate::vcd::save_head;
-use crate::{Timed, ViaTicks, Wires, TICKS_PER_SECOND};
+use crate::{Timed, WaitTicks, Wires, TICKS_PER_SECOND};
 use std::io::{self, Write};
 
 /// Steps of 100 nanoseconds in a second.
@@ -33,11 +33,11 @@ pub enum WireForm {
 /// Writes the wires over time.
 ///
 /// ```
-/// use swarmtempo::{WireDump, WireForm, Wires, ViaTicks};
+/// use swarmtempo::{WireDump, WireForm, Wires, WaitTicks};
 ///
 /// let up = Wires { enable: true, data_clock: true, data: true };
 /// let mut dump = WireDump::new(Vec::new(), WireForm::Csv, up)?;
-/// dump.item(ViaTicks(12), Wires { enable: false, ..up })?;
+/// dump.item(WaitTicks(12), Wires { enable: false, ..up })?;
 /// let text = String::from_utf8(dump.finish()?).expect("text");
 /// assert_eq!(text, "Time [ns],enable,data_clock,data\n0,1,1,1\n15300,0,1,1\n15400,0,1,1\n");
 /// # Ok::<(), std::io::Error>(())
@@ -80,7 +80,7 @@ impl<W: Write> WireDump<W> {
     ///
     /// # Errors
     /// Those of the output.
-    pub fn item(&mut self, wait: ViaTicks, after: Wires) -> io::Result<()> {
+    pub fn item(&mut self, wait: WaitTicks, after: Wires) -> io::Result<()> {
         self.ticks += u64::from(wait.0);
         let changed = [
             self.shown.enable != after.enable,

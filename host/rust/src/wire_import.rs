@@ -18,7 +18,7 @@
 //! # Ok::<(), swarmtempo::GapTooLong>(())
 //! ```
 
-use crate::{Address, Chip, Command, Item, Register, Timed, ViaTicks, Wires, TICKS_PER_SECOND};
+use crate::{Address, Chip, Command, Item, Register, Timed, WaitTicks, Wires, TICKS_PER_SECOND};
 use std::fmt;
 
 /// Femtoseconds in a second.
@@ -62,7 +62,9 @@ pub enum WireEvent {
     Written(Command, u8),
     /// The whole byte that the chip sent.
     Sent(Command, u8),
-    /// Enable went up before a command and its byte were whole: bits of the byte under way.
+    /// Enable went up while the chip sent: bits of its byte that were taken.
+    SentInPart(Command, u8),
+    /// Enable went up before a command, or the byte of a write, was whole: bits of the byte under way.
     HalfSent(u8),
     /// Enable went up, and nothing was under way.
     Ended,
@@ -80,6 +82,9 @@ impl fmt::Display for WireEvent {
             }
             WireEvent::Written(command, byte) => write!(f, "{command} = ${byte:02X}"),
             WireEvent::Sent(command, byte) => write!(f, "{command}: the chip sent ${byte:02X}"),
+            WireEvent::SentInPart(command, bits) => {
+                write!(f, "{command}: {bits} of 8 bits taken")
+            }
             WireEvent::HalfSent(bits) => {
                 write!(f, "enable up: half sent, {bits} of 8 bits of a byte")
             }
@@ -180,7 +185,7 @@ impl Follower {
     fn end(&mut self, bit: bool) -> WireEvent {
         match self.stage {
             Stage::Sending(command) => {
-                self.sent(command, bit).unwrap_or(WireEvent::HalfSent(self.bits))
+                self.sent(command, bit).unwrap_or(WireEvent::SentInPart(command, self.bits))
             }
             Stage::First | Stage::Second(_) | Stage::Data(_) => WireEvent::HalfSent(self.bits),
             Stage::Idle | Stage::Ignoring => WireEvent::Ended,
@@ -372,11 +377,11 @@ impl WireImport {
             let left = tick.saturating_sub(self.tick);
             let Ok(wait) = u16::try_from(left) else {
                 self.tick += u64::from(u16::MAX);
-                out(Timed { wait: ViaTicks(u16::MAX), item: self.still() }, None);
+                out(Timed { wait: WaitTicks(u16::MAX), item: self.still() }, None);
                 continue;
             };
             self.tick += u64::from(wait);
-            return out(Timed { wait: ViaTicks(wait), item }, event);
+            return out(Timed { wait: WaitTicks(wait), item }, event);
         }
     }
 

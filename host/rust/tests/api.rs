@@ -9,12 +9,12 @@ use swarmtempo::text::{LineError, TextError};
 use swarmtempo::{
     answers, items, sys, table, vcd, Address, Answer, Ask, Chip, ClockError, DiskLine, Drive,
     InLine, Item, KeyboardFull, Lines, List, Machine, Micros, NoAnswer, ParseError, Phase, Refusal,
-    Register, Seconds, Seen, SenseRegister, Setting, State, TickCount, Timed, TooLong,
-    UnknownRefusal, Values, ViaTicks, ANSWER_LEN, INQUIRY_TICKS, KEYBOARD_LEN, SETTING_MAX,
-    TICKS_PER_SECOND, TRANSACTION_MAX,
+    Register, Seconds, Seen, SenseRegister, Setting, State, Timed, TooLong, UnknownRefusal, Values,
+    ViaTicks, WaitTicks, ANSWER_LEN, INQUIRY_TICKS, KEYBOARD_LEN, SETTING_MAX, TICKS_PER_SECOND,
+    TRANSACTION_MAX,
 };
 
-const NOW: ViaTicks = ViaTicks(0);
+const NOW: WaitTicks = WaitTicks(0);
 
 /// As many values as there can be.
 fn many() -> Values {
@@ -61,7 +61,7 @@ fn every_kind_there_and_back() {
     let kinds: BTreeSet<_> = samples().iter().map(Item::kind).collect();
     assert_eq!(kinds, BTreeSet::from(Item::KINDS), "a sample for each kind");
     for item in samples() {
-        let timed = Timed { wait: ViaTicks(0xABCD), item };
+        let timed = Timed { wait: WaitTicks(0xABCD), item };
         let bytes = timed.to_bytes();
         assert_eq!(bytes[2..4], *item.kind());
         assert_eq!(usize::from(bytes[0]) + 2, bytes.len());
@@ -100,19 +100,19 @@ where
 
 #[test]
 fn units() {
-    back(ViaTicks(65_535), "65535t");
-    back(TickCount(391_680), "391680t");
+    back(WaitTicks(65_535), "65535t");
+    back(ViaTicks(391_680), "391680t");
     back(Seconds(u32::MAX), "4294967295s");
     back(Micros(12_000), "12000us");
     let full = [
-        format!("{:#}", ViaTicks(1)),
-        format!("{:#}", TickCount(2)),
+        format!("{:#}", WaitTicks(1)),
+        format!("{:#}", ViaTicks(2)),
         format!("{:#}", Seconds(0)),
         format!("{:#}", Micros(12)),
     ];
     assert_eq!(full, ["1 VIA tick", "2 VIA ticks", "0 seconds", "12 microseconds"]);
     for other in ["5", "5s", "5us", "5u", "5tt", "65536t"] {
-        assert!(other.parse::<ViaTicks>().is_err(), "{other}");
+        assert!(other.parse::<WaitTicks>().is_err(), "{other}");
     }
     for other in ["5", "5t", "5us", "4294967296s"] {
         assert!(other.parse::<Seconds>().is_err(), "{other}");
@@ -120,18 +120,18 @@ fn units() {
     for other in ["5", "5t", "5s"] {
         assert!(other.parse::<Micros>().is_err(), "{other}");
     }
-    assert_eq!(("$1Ft".parse(), "0x1fT".parse()), (Ok(ViaTicks(31)), Ok(ViaTicks(31))));
+    assert_eq!(("$1Ft".parse(), "0x1fT".parse()), (Ok(WaitTicks(31)), Ok(WaitTicks(31))));
     // 783,360 a second, rounded up.
-    assert_eq!(Micros(1_000_000).ticks(), TickCount(TICKS_PER_SECOND));
-    assert_eq!(TickCount::from(Micros(12_000)), TickCount(9_401));
-    assert_eq!(ViaTicks::try_from(Micros(83_658)), Ok(ViaTicks(65_535)));
-    let long = TickCount(65_536);
-    assert_eq!(ViaTicks::try_from(Micros(83_659)), Err(TooLong(long)));
-    assert_eq!(ViaTicks::try_from(long), Err(TooLong(long)));
+    assert_eq!(Micros(1_000_000).ticks(), ViaTicks(TICKS_PER_SECOND));
+    assert_eq!(ViaTicks::from(Micros(12_000)), ViaTicks(9_401));
+    assert_eq!(WaitTicks::try_from(Micros(83_658)), Ok(WaitTicks(65_535)));
+    let long = ViaTicks(65_536);
+    assert_eq!(WaitTicks::try_from(Micros(83_659)), Err(TooLong(long)));
+    assert_eq!(WaitTicks::try_from(long), Err(TooLong(long)));
     let message = "65536 VIA ticks are longer than one wait, 65535 VIA ticks";
     assert_eq!(TooLong(long).to_string(), message);
     for ticks in [0, 1, 65_534, 65_535, 65_536, 131_070, 391_680, 3_364_505_581] {
-        let waits: Vec<ViaTicks> = TickCount(ticks).waits().collect();
+        let waits: Vec<WaitTicks> = ViaTicks(ticks).waits().collect();
         assert_eq!(waits.iter().map(|wait| u64::from(wait.0)).sum::<u64>(), ticks.into());
         assert_eq!(waits.len(), ticks.div_ceil(65_535) as usize);
         assert!(waits.iter().all(|wait| wait.0 > 0));
@@ -212,7 +212,7 @@ fn answers_there_and_back() {
 
 #[test]
 fn lists() {
-    let waits = (0..).map(|i| ViaTicks(7 * i));
+    let waits = (0..).map(|i| WaitTicks(7 * i));
     let timed: Vec<Timed> = waits.zip(samples()).map(Timed::from).collect();
     let list: List = timed.iter().copied().collect();
     let pairs: List = timed.iter().map(|timed| (timed.wait, timed.item)).collect();
@@ -248,9 +248,9 @@ fn lists() {
 #[test]
 fn runs_give_items_with_answers() {
     let mut list = List::new();
-    list.push(ViaTicks(9), Item::Write(Address::Via(Register::IER), 0x81));
+    list.push(WaitTicks(9), Item::Write(Address::Via(Register::IER), 0x81));
     list.push_raw(&[5, 0, b'S', b'E', 0, 0, 0]);
-    list.push(ViaTicks(3), Item::Second);
+    list.push(WaitTicks(3), Item::Second);
     list.push_raw(&[1, 0, 9]);
     list.push(NOW, Item::Reset);
     let mut machine = Machine::fresh(Chip::First);
@@ -262,7 +262,7 @@ fn runs_give_items_with_answers() {
     let got: Vec<_> = transcript.iter().collect();
     assert_eq!(got.len(), 4, "the run stops at a length of 1");
     assert_eq!(got.iter().map(|done| done.record.len()).collect::<Vec<_>>(), [11, 7, 6, 11 - 2]);
-    assert_eq!(got[0].item.unwrap().wait, ViaTicks(9));
+    assert_eq!(got[0].item.unwrap().wait, WaitTicks(9));
     assert_eq!((got[1].item, got[1].answer), (Err(Refusal::Length), Answer::No(Refusal::Length)));
     assert_eq!(got[2].answer.result().unwrap().level, 1);
     assert_eq!((got[3].item, got[3].answer), (Err(Refusal::Cut), Answer::No(Refusal::Cut)));
@@ -443,15 +443,15 @@ fn errors_are_errors() {
         Box::new(ClockError::Range),
         Box::new(ClockError::Enable),
         Box::new(ClockError::Protected),
-        Box::new(TooLong(TickCount(65_536))),
-        Box::new("5".parse::<ViaTicks>().unwrap_err()),
+        Box::new(TooLong(ViaTicks(65_536))),
+        Box::new("5".parse::<WaitTicks>().unwrap_err()),
         Box::new("5 SE".parse::<Timed>().unwrap_err()),
         Box::new("5 SE".parse::<List>().unwrap_err()),
     ];
     for error in errors {
         assert!(error.to_string().len() > 5);
     }
-    let error: ParseError = "5".parse::<ViaTicks>().unwrap_err();
+    let error: ParseError = "5".parse::<WaitTicks>().unwrap_err();
     assert_eq!(error.to_string(), "expected a wait from 0t to 65535t (VIA ticks), not `5`");
     assert!(error.expected().contains("VIA ticks"));
 }

@@ -4,8 +4,8 @@ use std::fmt::{Debug, Display};
 use std::str::FromStr;
 use swarmtempo::{
     answers, items, pieces, table, vcd, Address, Answer, Chip, Chunks, Command, DiskLine, Drive,
-    InLine, Item, List, Machine, Micros, Refusal, Register, Seconds, SenseRegister, TickCount,
-    Timed, Values, ViaTicks, ANSWER_LEN,
+    InLine, Item, List, Machine, Micros, Refusal, Register, Seconds, SenseRegister, Timed, Values,
+    ViaTicks, WaitTicks, ANSWER_LEN,
 };
 
 /// Random numbers (splitmix64).
@@ -61,7 +61,7 @@ fn some_item(random: &mut Random) -> Timed {
         }
         _ => Item::Power(Seconds(number.into())),
     };
-    Timed { wait: ViaTicks(u16::from_le_bytes([random.byte(), random.byte() % 3])), item }
+    Timed { wait: WaitTicks(u16::from_le_bytes([random.byte(), random.byte() % 3])), item }
 }
 
 /// Items, random bytes, and lengths that promise much; a byte or two changed, the end cut off.
@@ -280,8 +280,8 @@ fn texts_of_any_characters() {
         }
         let text = if random.below(3) == 0 { text.trim() } else { &text };
         let got = [
+            reads::<WaitTicks>(text),
             reads::<ViaTicks>(text),
-            reads::<TickCount>(text),
             reads::<Seconds>(text),
             reads::<Micros>(text),
             reads::<Register>(text),

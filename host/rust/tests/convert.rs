@@ -1,7 +1,7 @@
 //! Old captures turned over: the library against the model on random captures.
 
 use swarmtempo::{
-    convert, convert_in, Chip, Drive, Item, Machine, Refusal, SenseRegister, ViaTicks,
+    convert, convert_in, Chip, Drive, Item, Machine, Refusal, SenseRegister, WaitTicks,
 };
 use swarmtempo_model as model;
 
@@ -123,7 +123,7 @@ fn as_many_ticks() {
 fn retired_registers() {
     for register in (0..SenseRegister::COUNT).filter_map(SenseRegister::new) {
         let item = Item::Sense(Drive::External, register, true);
-        let done = Machine::fresh(Chip::First).step(ViaTicks(0), item);
+        let done = Machine::fresh(Chip::First).step(WaitTicks(0), item);
         assert_eq!(done.err(), register.is_retired().then_some(Refusal::Retired), "{register}");
     }
 }

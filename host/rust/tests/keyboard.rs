@@ -3,7 +3,7 @@
 //! `SWARMTEMPO_SEED` takes another seed (the fixed one is 1), `SWARMTEMPO_EVENTS` another number of events.
 
 use swarmtempo::sys::{self, Said};
-use swarmtempo::{Keyboard, KeyboardFull, KeyboardState, Refusal, TickCount, INQUIRY_TICKS};
+use swarmtempo::{Keyboard, KeyboardFull, KeyboardState, Refusal, ViaTicks, INQUIRY_TICKS};
 use swarmtempo_model::{keyboard_call, keyboard_fresh, KeyboardEvent, KEYBOARD_LEN};
 
 fn by_library(image: &mut [u8], event: KeyboardEvent) -> Said {
@@ -156,8 +156,8 @@ fn types() {
 
     let mut keyboard = Keyboard::new(0x0B);
     assert_eq!(keyboard.command(0x10), None);
-    assert_eq!(keyboard.wait(TickCount(INQUIRY_TICKS.0 - 1)), None);
-    assert_eq!(keyboard.state().left, Some(TickCount(1)));
-    assert_eq!(keyboard.wait(TickCount(1)), Some(0x7B));
-    assert_eq!(keyboard.wait(TickCount(u32::MAX)), None);
+    assert_eq!(keyboard.wait(ViaTicks(INQUIRY_TICKS.0 - 1)), None);
+    assert_eq!(keyboard.state().left, Some(ViaTicks(1)));
+    assert_eq!(keyboard.wait(ViaTicks(1)), Some(0x7B));
+    assert_eq!(keyboard.wait(ViaTicks(u32::MAX)), None);
 }

@@ -2,10 +2,10 @@
 
 use swarmtempo::{
     answers, Address, Answer, Chip, Item, Lines, List, Machine, Phase, Refusal, Register, Run,
-    Seen, ViaTicks,
+    Seen, WaitTicks,
 };
 
-const NOW: ViaTicks = ViaTicks(0);
+const NOW: WaitTicks = WaitTicks(0);
 
 fn write(register: Register, value: u8) -> Item {
     Item::Write(Address::Via(register), value)

@@ -2,7 +2,7 @@
 
 use std::io::Read;
 use swarmtempo::text::{assemble, assemble_all, assemble_line, disassemble};
-use swarmtempo::{pieces, Address, Chunks, Micros, Piece, ViaTicks};
+use swarmtempo::{pieces, Address, Chunks, Micros, Piece, WaitTicks};
 
 struct Random(u64);
 
@@ -212,13 +212,13 @@ fn microseconds() {
         let mut bytes = Vec::new();
         let converted = assemble_line(&format!("{text} SE"), &mut bytes).expect("in the form");
         let converted = converted.expect("turned into VIA ticks");
-        assert_eq!(converted.wait, ViaTicks(ticks), "{text}");
+        assert_eq!(converted.wait, WaitTicks(ticks), "{text}");
         assert_eq!(converted.micros.ticks().wait(), Some(converted.wait));
         assert_eq!(Ok(bytes), assemble(&format!("{ticks}t SE")));
     }
     assert_eq!(assemble_line("12t SE", &mut Vec::new()), Ok(None));
     // The longest wait, by the library.
-    assert_eq!(Micros(83_658).ticks().wait(), Some(ViaTicks(65_535)));
+    assert_eq!(Micros(83_658).ticks().wait(), Some(WaitTicks(65_535)));
     assert_eq!(Micros(83_659).ticks().wait(), None);
 }
 

@@ -8,7 +8,7 @@ mod maker;
 use maker::{capture, Random};
 use swarmtempo::{
     pieces, wire_steps, Address, Chip, Command, Femtoseconds, Item, List, Machine, Phase, Register,
-    State, Target, Timed, ViaTicks, WireDump, WireEvent, WireForm, WireImport, Wires,
+    State, Target, Timed, WaitTicks, WireDump, WireEvent, WireForm, WireImport, Wires,
 };
 
 const CAPTURES: u64 = 4_000;
@@ -224,7 +224,7 @@ fn a_start_in_the_middle() {
     let rows = |list: &str| {
         let list: List = list.parse().expect("in the form");
         let mut machine = Machine::fresh(Chip::First);
-        machine.step(ViaTicks(0), Item::Write(Address::Via(Register::DDRB), 7)).expect("done");
+        machine.step(WaitTicks(0), Item::Write(Address::Via(Register::DDRB), 7)).expect("done");
         exported(&mut machine, list.as_ref())
     };
     // Sixteen rises of $41 $AA with enable low from the first sample on, then a whole $45 $55.

@@ -68,11 +68,30 @@ impl Transaction {
         }
     }
 
-    /// The name of its fate, in one word: written, protected, half, illegal, read or before.
+    /// True where neither enable went up nor all bits came before the list ended: it may go on.
+    pub fn not_ended(&self) -> bool {
+        matches!(self.fate, Fate::Half { .. }) && self.end.is_none()
+    }
+
+    /// True where enable went up again before the first bit.
+    pub fn nothing_sent(&self) -> bool {
+        matches!(self.fate, Fate::Half { .. }) && self.end.is_some() && self.bits == 0
+    }
+
+    /// True where the bytes are no command of this chip, and the first of two on one with 256 cells.
+    pub fn of_two_elsewhere(&self) -> bool {
+        matches!(self.asked, Asked::Command { first, second: None, command: None }
+            if Command::is_first_of_two(first))
+    }
+
+    /// The name of its fate, in one word: written, protected, half, nothing, open, illegal, read or
+    /// before.
     pub fn fate_name(&self) -> &'static str {
         match self.fate {
             Fate::Written { .. } => "written",
             Fate::Protected { .. } => "protected",
+            Fate::Half { .. } if self.not_ended() => "open",
+            Fate::Half { .. } if self.nothing_sent() => "nothing",
             Fate::Half { .. } => "half",
             Fate::Illegal => "illegal",
             Fate::Read { .. } => "read",
@@ -91,7 +110,8 @@ impl Transaction {
             Fate::Before => "settled before the list".into(),
         };
         if let Fate::Read { date: Some(seen), .. } = self.fate {
-            words.push_str(&format!("; the date read: {}", date(seen.seconds)));
+            let of = numbers(seen.numbers);
+            words.push_str(&format!("; the date read: {} ({of})", date(seen.seconds)));
             if seen.clock != seen.seconds {
                 words.push_str(&format!(", while the clock had {}", date(seen.clock)));
             }
@@ -101,7 +121,7 @@ impl Transaction {
             let more = if extra == 1 { "" } else { "s" };
             words.push_str(&format!("; {extra} bit{more} more, ignored"));
         }
-        if self.end.is_none() {
+        if self.end.is_none() && !self.not_ended() {
             words.push_str("; enable is still 0 at the end");
         }
         if self.begun {
@@ -116,11 +136,10 @@ impl Transaction {
     }
 
     fn illegal(&self) -> &'static str {
-        match self.asked {
-            Asked::Command { first, second: None, .. } if Command::is_first_of_two(first) => {
-                "illegal: ignored (of two bytes on a chip with 256 cells)"
-            }
-            _ => "illegal: ignored",
+        if self.of_two_elsewhere() {
+            "illegal: ignored (of two bytes on a chip with 256 cells)"
+        } else {
+            "illegal: ignored"
         }
     }
 
@@ -137,11 +156,23 @@ impl Transaction {
 
     fn half(&self, of: Option<u8>) -> String {
         let (bits, more) = (self.bits, if self.bits == 1 { "" } else { "s" });
-        match of {
-            Some(of) => format!("half sent ({bits} of {of} bits)"),
-            None if bits == 0 => "half sent (no bit)".into(),
-            None => format!("half sent ({bits} bit{more})"),
+        let count = match of {
+            Some(of) => format!("{bits} of {of} bits"),
+            None => format!("{bits} bit{more}"),
+        };
+        match self.fate_name() {
+            "open" => format!("not ended: {count} so far"),
+            "nothing" => "nothing sent".into(),
+            _ => format!("half sent ({count})"),
         }
+    }
+}
+
+/// As `no. 8 to 11`, or each where others are between.
+fn numbers(all: [u64; 4]) -> String {
+    match all {
+        [a, _, _, d] if d.wrapping_sub(a) == 3 => format!("no. {a} to {d}"),
+        [a, b, c, d] => format!("no. {a}, {b}, {c}, {d}"),
     }
 }
 
@@ -161,7 +192,9 @@ fn read(sent: u8, falls: u8, seen: SeenBits) -> String {
     match (seen.byte(), seen.count()) {
         (Some(byte), _) if byte == sent => "read".into(),
         (Some(_), _) => format!("read, but the chip sent ${sent:02X}"),
-        (None, 0) => format!("read by nobody: of ${sent:02X} the chip put out {falls} of 8 bits"),
+        (None, 0) => {
+            format!("not looked at in this list: of ${sent:02X} the chip put out {falls} of 8 bits")
+        }
         (None, count) => format!("{count} of 8 bits read; the chip sent ${sent:02X}"),
     }
 }

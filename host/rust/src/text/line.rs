@@ -2,7 +2,7 @@
 
 use super::words::{Word, Words};
 use super::LineError;
-use crate::{InLine, Item, Micros, Seconds, SenseRegister, Values, ViaTicks};
+use crate::{InLine, Item, Micros, Seconds, SenseRegister, Values, WaitTicks};
 
 /// A wait given in microseconds, and the VIA ticks that it came to, rounded up.
 #[derive(Clone, Copy, Debug, PartialEq, Eq)]
@@ -10,7 +10,7 @@ pub struct Converted {
     /// As written.
     pub micros: Micros,
     /// As run.
-    pub wait: ViaTicks,
+    pub wait: WaitTicks,
 }
 
 /// Appends the bytes of a line; none for an empty line or a comment. Gives the wait where it was

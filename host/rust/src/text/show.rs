@@ -1,12 +1,12 @@
 //! Records to text.
 
-use crate::{pieces, Item, Piece, Refusal, ViaTicks};
+use crate::{pieces, Item, Piece, Refusal, WaitTicks};
 
 /// Bytes on a `RAW` line at most.
 const RAW_WIDTH: usize = 32;
 
 /// An item in the text form, without a line end.
-pub fn item(wait: ViaTicks, item: &Item) -> String {
+pub fn item(wait: WaitTicks, item: &Item) -> String {
     let kind = item.kind().map(char::from);
     let head = format!("{}t {}{}", wait.0, kind[0], kind[1]);
     match *item {

@@ -1,7 +1,7 @@
 //! The words of a line: numbers, times with their unit, addresses, drives.
 
 use super::{Converted, LineError};
-use crate::{Address, Drive, Micros, ViaTicks};
+use crate::{Address, Drive, Micros, WaitTicks};
 
 /// Microseconds that one wait takes at most: 65,535 VIA ticks.
 const MICROS_MOST: u64 = 83_658;
@@ -90,14 +90,14 @@ impl Word<'_> {
     }
 
     /// A wait, in VIA ticks or in microseconds.
-    pub fn wait(&self) -> Result<(ViaTicks, Option<Converted>), LineError> {
+    pub fn wait(&self) -> Result<(WaitTicks, Option<Converted>), LineError> {
         let text = self.shown();
         if let Some(micros) = self.before("us") {
             return self.wait_of(micros);
         }
         match (self.before("t"), digits(self.text)) {
             (Some(ticks), _) => match u16::try_from(ticks) {
-                Ok(ticks) => Ok((ViaTicks(ticks), None)),
+                Ok(ticks) => Ok((WaitTicks(ticks), None)),
                 Err(_) => self.wrong(format!("a wait is 0t to 65535t (VIA ticks), not {text}")),
             },
             (None, Some(_)) => self.wrong(format!(
@@ -110,7 +110,7 @@ impl Word<'_> {
     }
 
     /// A wait of so many microseconds, turned into VIA ticks by the library.
-    fn wait_of(&self, micros: u64) -> Result<(ViaTicks, Option<Converted>), LineError> {
+    fn wait_of(&self, micros: u64) -> Result<(WaitTicks, Option<Converted>), LineError> {
         let micros = u32::try_from(micros).ok().map(Micros);
         let wait = micros.and_then(|micros| micros.ticks().wait());
         match (micros, wait) {

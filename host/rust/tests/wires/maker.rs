@@ -1,6 +1,6 @@
 //! Random captures of the clock's port.
 
-use swarmtempo::{Address, Item, List, Register, Seconds, ViaTicks};
+use swarmtempo::{Address, Item, List, Register, Seconds, WaitTicks};
 
 /// Random numbers (splitmix64).
 pub struct Random(pub u64);
@@ -45,7 +45,7 @@ impl Maker<'_> {
             1..=9 => self.random.below(300) as u16,
             _ => self.random.below(4) as u16,
         };
-        self.list.push(ViaTicks(wait.max(self.least)), item);
+        self.list.push(WaitTicks(wait.max(self.least)), item);
     }
 
     fn port(&mut self, register: Register, value: u8) {
