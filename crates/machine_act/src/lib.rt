@@ -167,10 +167,8 @@ pub fn act(
     sense: &[u8; 32],
     cells: &mut [u8; 256],
 ) -> Acted
-    requires { ⌜ ItemInRange item ⌝ }
-    requires { ⌜ 0 < length (now values) ⌝ }
-    requires { ⌜ Levels (wholeMachine b k (now cells) d (now sense)) ⌝ }
-    requires { ⌜ PhaseAccepted (wholeMachine b k (now cells) d (now sense)) ⌝ }
+    requires { ⌜ ItemInRange item × (0 < length (now values)) ⌝ }
+    requires { ⌜ Levels (wholeMachine b k (now cells) d (now sense)) × PhaseAccepted (wholeMachine b k (now cells) d (now sense)) ⌝ }
     ensures { λ r. ⌜ machineAfter r b (now (values .entry)) (now (cells .exit)) (now (sense .entry)) ≡ clockedBy (wholeMachine b k (now (cells .entry)) d (now (sense .entry))) item (now (values .entry)) ⌝ }
     ensures { λ r. ⌜ r .value ≡ actedOf (wholeMachine b k (now (cells .entry)) d (now (sense .entry))) item .value ⌝ }
     ensures { λ r. ⌜ ChangeInRange (r .change) ⌝ }
@@ -205,9 +203,7 @@ pub fn act(
             register,
             level,
             ..
-        } => {
-            change = Change::Sense(sense_index(drive, register), level);
-        }
+        } => change = Change::Sense(sense_index(drive, register), level),
         Item::Reset { .. } => {
             disk = disk_lines::off();
             core = clock_parts::idle(k);
@@ -225,9 +221,7 @@ pub fn act(
             locked,
             sides,
             ..
-        } => {
-            drives = disk_drives::place(d, drive == 1, insert == 1, locked == 1, sides == 1);
-        }
+        } => drives = disk_drives::place(d, drive == 1, insert == 1, locked == 1, sides == 1),
         Item::Pulse { level, .. } => {
             let p = b.via.pulse(level);
             value = p.value;
@@ -241,6 +235,16 @@ pub fn act(
         drives: drives,
         change: change,
     }
+}
+
+// The VIA with these values in register 10, the flags and the count of pulses.
+pub fn with_shift(mut via: Via, sr: u8, flags: u8, pulses: u8) -> Via
+    ensures { λ r. ⌜ r ≡ withPulses (withFlags (withSr via sr) flags) pulses ⌝ }
+{
+    via.sr = sr;
+    via.flags = flags;
+    via.pulses = pulses;
+    via
 }
 
 // The drives after an item with these values, whose wait and action are over: the levels before and after it, and the ports after it. SEL may have moved between.

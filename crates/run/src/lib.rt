@@ -9,6 +9,7 @@ use clock_command::Engine;
 use item_spec::Decoded;
 use item_spec::Framed;
 use machine_act::Change;
+use machine_act::act;
 use machine_spec::Machine;
 use run_spec::Ran;
 
@@ -58,7 +59,7 @@ pub fn run_accepted(engine: Engine, m: Machine, list: &[u8], answers: &mut [u8])
         let mut answer = item_record::no(item_plain::refusal(d));
         if let Decoded::Done(item) = d {
             let from = item_decode::first_value(record);
-            let values = &record[from..];
+            let bytes = &record[from..];
             let before = machine_pins::watched(board);
             let wait = machine_act::wait_of(item);
             if board.via.only_counts(wait) {
@@ -69,16 +70,7 @@ pub fn run_accepted(engine: Engine, m: Machine, list: &[u8], answers: &mut [u8])
             if disk_drives::busy(drives) {
                 drives = disk_drives::wait(drives, wait);
             }
-            let a = machine_act::act(
-                engine,
-                board,
-                core,
-                drives,
-                item,
-                values,
-                &sense,
-                &mut cells,
-            );
+            let a = act(engine, board, core, drives, item, bytes, &sense, &mut cells);
             let disk = a.disk;
             board.disk = disk;
             core = a.core;
@@ -87,25 +79,17 @@ pub fn run_accepted(engine: Engine, m: Machine, list: &[u8], answers: &mut [u8])
             match change {
                 Change::Nothing => {}
                 Change::Flags(f) => board.via.flags = f,
-                Change::Ports(p) => {
-                    let mut v = board.via;
-                    v.ports = p;
-                    board.via = v;
-                }
-                Change::Register(r) => board.via = machine_write::via_after(board.via, r, values),
+                Change::Ports(p) => board.via.ports = p,
+                Change::Register(r) => board.via = machine_write::via_after(board.via, r, bytes),
                 Change::Line(i, level) => board.inputs[i] = level,
                 Change::Sense(i, level) => sense[i] = level,
                 Change::Reset => board.via = board.via.reset(),
                 Change::Fresh => board.via = via::fresh(),
-                Change::Shift(s, f, n) => {
-                    board.via.sr = s;
-                    board.via.flags = f;
-                    board.via.pulses = n;
-                }
+                Change::Shift(s, f, n) => board.via = machine_act::with_shift(board.via, s, f, n),
             }
             let after = machine_pins::watched(board);
             if before.lstrb | after.lstrb {
-                drives = machine_act::strobed(drives, before, after, item, values, board.via.ports);
+                drives = machine_act::strobed(drives, before, after, item, bytes, board.via.ports);
             }
             answer = machine_answer::answer(board, a.value);
         }
