@@ -19,22 +19,22 @@ use Rattle.machine_spec.specs.Step.{stepOf, afterItems}
 
 -- ---- values written to a VIA register
 
-abbrev pub portsAfter : ℕ → List ℕ → Ports → Ports
+unfoldable pub portsAfter : ℕ → List ℕ → Ports → Ports
 portsAfter r [] p = p
 portsAfter r (v ∷ vs) p = portsAfter r vs (portsWritten r v p)
 
-abbrev pub viaAfter : ℕ → List ℕ → Via → Via
+unfoldable pub viaAfter : ℕ → List ℕ → Via → Via
 viaAfter r [] s = s
 viaAfter r (v ∷ vs) s = viaAfter r vs (viaWritten r v s)
 
 -- The clock compares its wires after each.
-abbrev pub clockAfter : ℕ → List ℕ → Ports → Clock → Clock
+unfoldable pub clockAfter : ℕ → List ℕ → Ports → Clock → Clock
 clockAfter r [] p c = c
 clockAfter r (v ∷ vs) p c =
     clockAfter r vs (portsWritten r v p) (stepWires c (wiresOf p (shownLevel (c .phase))) (wiresOf (portsWritten r v p) (shownLevel (c .phase))))
 
 -- Whether SEL has another level than this after one of them.
-abbrev pub movesSel : ℕ → List ℕ → Ports → Bool → Bool
+unfoldable pub movesSel : ℕ → List ℕ → Ports → Bool → Bool
 movesSel r [] p sel = false
 movesSel r (v ∷ vs) p sel = cond (not (Bool·beq (eqb (selOf (portsWritten r v p)) 1) sel)) true (movesSel r vs p sel)
 
