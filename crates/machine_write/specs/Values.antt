@@ -9,6 +9,9 @@ use Rattle.via.specs.Writes.{portsWritten, viaWritten}
 use Rattle.clock_spec.specs.Phase.{shownLevel}
 use Rattle.clock.specs.declared.Clock.{Clock}
 use Rattle.clock.specs.Step.{stepWires}
+use Rattle.disk_spec.specs.declared.Drives.{Drives}
+use Rattle.disk_spec.specs.Strobe.{noStrobe}
+use Rattle.disk_spec.specs.Drives.{withStrobe}
 use Rattle.item_spec.specs.declared.Item.{Item}
 use Rattle.item_spec.specs.declared.Item.the-variants.{ReadVia, ReadIwm, WriteVia, WriteIwm, Blank, Second, Line, Sense, Reset, Power, Disk, Pulse}
 use Rattle.item_spec.specs.Many.{singlesAfter}
@@ -37,6 +40,11 @@ clockAfter r (v ∷ vs) p c =
 unfoldable pub movesSel : ℕ → List ℕ → Ports → Bool → Bool
 movesSel r [] p sel = false
 movesSel r (v ∷ vs) p sel = cond (not (Bool·beq (eqb (selOf (portsWritten r v p)) 1) sel)) true (movesSel r vs p sel)
+
+-- The drives, their strobe spoilt or not.
+abbrev pub spoiltIf : Bool → Drives → Drives
+spoiltIf true d = withStrobe d noStrobe
+spoiltIf false d = d
 
 -- ---- an item with its values
 
