@@ -80,9 +80,11 @@ loop-again c =
     let w = wiresOf (l .ports) (shownLevel (l .core .phase)) in
     let w′ = wiresOf (portsWritten (a .register) (getD (now (a .values)) (l .i) 0) (l .ports)) (shownLevel (l .core .phase)) in
     let e : wholeClock (c .step .result) (c .step .last .1 .1 .1 .1 .0) ≡ stepWires k w w′ =
-    c .step .ensures ∙ simp (c .before .before .wires-of2 .ensures, c .before .before .before .ports-written .ensures, c .before .before .before .before .before .wires-of .ensures, c .before .before .before .before .before .before .shown-line .ensures) in
-    (search needs, clock-met (a .register) (now (a .values)) (l .i) (l .ports) k (l .inv .1) (c .before .before .before .ports-written .ensures) e,
-    clock-next (a .register) (now (a .values)) (l .i) (l .ports) k (c .before .before .before .before .before .before .before .loop-test .taken) (c .before .before .before .ports-written .ensures) e ∙ l .inv .2)
+    c .step .ensures ∙ simp (c .before .before .wires-of2 .ensures, c .before .before .before .ports-written .ensures, c .before .before .before .before .before .wires-of .ensures, c .before .before .before .before .before .before .shown-line .ensures) in (
+      search needs,
+      clock-met (a .register) (now (a .values)) (l .i) (l .ports) k (l .inv .1) (c .before .before .before .ports-written .ensures) e,
+      clock-next (a .register) (now (a .values)) (l .i) (l .ports) k (c .before .before .before .before .before .before .before .loop-test .taken) (c .before .before .before .ports-written .ensures) e ∙ l .inv .2,
+    )
 
 -- src/lib.rt:51:1
 returns-2 : tie.Need-returns-2 Inv-loop μ-loop
