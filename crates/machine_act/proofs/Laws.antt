@@ -3,6 +3,7 @@ use mathlib.Core.Path.{_≡_, refl, sym, ap, _∙_}
 use mathlib.Core.Logic.{_⊎_, inl, inr, ⊎-elim}
 use mathlib.Core.Bool.{Bool, true, false, not, _&&_, true≢false}
 use mathlib.Core.List.{List, [], _∷_}
+use mathlib.Core.Option.{none}
 use Prim.Native.Nat.{ℕ}
 use types.Run.{OneOf, miss}
 use denote.Enum.Declared.{tagOf}
@@ -25,8 +26,8 @@ use Rattle.machine_spec.specs.declared.Machine.{Machine}
 use Rattle.machine_spec.specs.Machine.{withClock, wires}
 use Rattle.machine_spec.specs.Action.{actedOf}
 use Rattle.machine_spec.proofs.Action.{acted-accepted}
-use Rattle.machine_write.specs.Values.{portsAfter, viaAfter}
-use Rattle.machine_act.specs.Parts.{clockedOf, clockedBy, itemMovesSel, PhaseAccepted}
+use Rattle.machine_write.specs.Values.{portsAfter, viaAfter, registerWritten}
+use Rattle.machine_act.specs.Parts.{clockedOf, PhaseAccepted}
 
 pub quietly : (x : Machine) (i : Item) (y : Machine) → PhaseAccepted x → y ≡ actedOf x i .machine → wires (actedOf x i .machine) ≡ wires x → y ≡ clockedOf x i
 quietly x i y h e p =
@@ -34,54 +35,24 @@ quietly x i y h e p =
     e ∙ sym (ap (λ (w : Wires). withClock z (stepWires (z .clock) (wires x) w)) p
     ∙ ap (λ (c : Clock). withClock z c) (still (z .clock) (wires x) (acted-accepted x i (wires x .enable) ∙ h)))
 
--- An item that does not write to a VIA register has no use for its values.
-abbrev pub writesVia : Item → Bool
-writesVia (Item.ReadVia w r) = false
-writesVia (Item.ReadIwm w k) = false
-writesVia (Item.WriteVia w r v) = true
-writesVia (Item.WriteIwm w k v) = false
-writesVia (Item.Blank w) = false
-writesVia (Item.Second w) = false
-writesVia (Item.Line w l v) = false
-writesVia (Item.Sense w d r v) = false
-writesVia (Item.Reset w) = false
-writesVia (Item.Power w s) = false
-writesVia (Item.Disk w d i l b) = false
-writesVia (Item.Pulse w l) = false
+-- Of the kinds but WR, none writes to a VIA register.
+abbrev other-kinds : List ℕ
+other-kinds = 0 ∷ 1 ∷ 3 ∷ 4 ∷ 5 ∷ 6 ∷ 7 ∷ 8 ∷ 9 ∷ 10 ∷ 11 ∷ []
 
-pub unwritten : (x : Machine) (i : Item) (vs : List ℕ) → writesVia i ≡ false → clockedBy x i vs ≡ clockedOf x i
-unfolding clockedBy
-unwritten x (Item.ReadVia w r) vs h = refl
-unwritten x (Item.ReadIwm w k) vs h = refl
-unwritten x (Item.WriteVia w r v) vs h = absurd (true≢false h)
-unwritten x (Item.WriteIwm w k v) vs h = refl
-unwritten x (Item.Blank w) vs h = refl
-unwritten x (Item.Second w) vs h = refl
-unwritten x (Item.Line w l v) vs h = refl
-unwritten x (Item.Sense w d r v) vs h = refl
-unwritten x (Item.Reset w) vs h = refl
-unwritten x (Item.Power w s) vs h = refl
-unwritten x (Item.Disk w d i l b) vs h = refl
-unwritten x (Item.Pulse w l) vs h = refl
-
--- Nor does it move SEL between its beginning and its end.
-abbrev unmoving-kinds : List ℕ
-unmoving-kinds = 0 ∷ 1 ∷ 3 ∷ 4 ∷ 5 ∷ 6 ∷ 7 ∷ 8 ∷ 9 ∷ 10 ∷ 11 ∷ []
-
-pub kinds-unmoved : (i : Item) (vs : List ℕ) (p : Ports) (sel : Bool) → OneOf unmoving-kinds (tagOf the-type i) → itemMovesSel i vs p sel ≡ false
-unfolding itemMovesSel
-kinds-unmoved (Item.ReadVia w r) vs p sel h = refl
-kinds-unmoved (Item.ReadIwm w k) vs p sel h = refl
-kinds-unmoved (Item.WriteVia w r v) vs p sel h = absurd (miss unmoving-kinds 2 tt h)
-kinds-unmoved (Item.WriteIwm w k v) vs p sel h = refl
-kinds-unmoved (Item.Blank w) vs p sel h = refl
-kinds-unmoved (Item.Second w) vs p sel h = refl
-kinds-unmoved (Item.Line w l v) vs p sel h = refl
-kinds-unmoved (Item.Sense w d r v) vs p sel h = refl
-kinds-unmoved (Item.Reset w) vs p sel h = refl
-kinds-unmoved (Item.Power w s) vs p sel h = refl
-kinds-unmoved (Item.Disk w d i l b) vs p sel h = refl
-kinds-unmoved (Item.Pulse w l) vs p sel h = refl
+pub kinds-unwritten : (i : Item) → OneOf other-kinds (tagOf the-type i) → registerWritten i ≡ none
+unfolding registerWritten
+kinds-unwritten (Item.ReadVia w r) h = refl
+kinds-unwritten (Item.ReadIwm w k) h = refl
+kinds-unwritten (Item.WriteVia w r v) h = absurd (miss other-kinds 2 tt h)
+kinds-unwritten (Item.WriteIwm w k v) h = refl
+kinds-unwritten (Item.Blank w) h = refl
+kinds-unwritten (Item.Second w) h = refl
+kinds-unwritten (Item.Line w l v) h = refl
+kinds-unwritten (Item.Sense w d r v) h = refl
+kinds-unwritten (Item.Reset w) h = refl
+kinds-unwritten (Item.Power w s) h = refl
+kinds-unwritten (Item.Disk w d i l b) h = refl
+kinds-unwritten (Item.Pulse w l) h = refl
 
 -- ---- port B's registers, 0 and 2, by the code's test for any other
 

@@ -3,6 +3,7 @@ use Prim.Native.Nat.{ℕ, _<_}
 use mathlib.Core.Path.{_≡_}
 use mathlib.Core.Bool.{Bool, true, false}
 use mathlib.Core.List.{List}
+use mathlib.Core.Option.{Option, none, some}
 use lib.ListN.{set}
 use Rattle.via.specs.declared.Via.{Via}
 use Rattle.via.specs.declared.Ports as ports
@@ -13,7 +14,6 @@ use Rattle.clock_parts.specs.declared.Core.{Core}
 use Rattle.clock_parts.specs.Parts.{wholeClock}
 use Rattle.disk_spec.specs.declared.Drives.{Drives}
 use Rattle.item_spec.specs.declared.Item.{Item}
-use Rattle.item_spec.specs.declared.Item.the-variants.{ReadVia, ReadIwm, WriteVia, WriteIwm}
 use Rattle.machine_spec.specs.declared.Machine.{Machine}
 use Rattle.machine_spec.specs.Machine.{withVia, withClock, wires}
 use Rattle.machine_pins.specs.declared.Board.{Board}
@@ -21,7 +21,7 @@ use Rattle.machine_pins.specs.Board.{onBoard}
 use Rattle.disk_lines.specs.declared.DiskLines.{DiskLines}
 use Rattle.machine_spec.specs.Stages.{afterWires}
 use Rattle.machine_spec.specs.Action.{actedOf}
-use Rattle.machine_write.specs.Values.{viaAfter, clockAfter, movesSel}
+use Rattle.machine_write.specs.Values.{viaAfter, clockAfter, movesSel, registerWritten}
 use Rattle.machine_act.specs.declared.Acted.{Acted}
 use Rattle.machine_act.specs.declared.Change.{Change}
 use Rattle.machine_act.specs.declared.Change.the-variants.{Nothing, Flags, Ports, Register, Line, Sense, Reset, Fresh, Shift}
@@ -94,31 +94,14 @@ abbrev pub clockedOf : Machine → Item → Machine
 clockedOf m i = afterWires (wires m) (actedOf m i .machine)
 
 -- The same with the values of the item: where it writes to a VIA register, value after value.
-unfoldable pub clockedBy : Machine → Item → List ℕ → Machine
-clockedBy m (ReadVia w r) vs = clockedOf m (ReadVia w r)
-clockedBy m (ReadIwm w k) vs = clockedOf m (ReadIwm w k)
-clockedBy m (WriteVia w r v) vs = withClock (withVia m (viaAfter r vs (m .via))) (clockAfter r vs (m .via .ports) (m .clock))
-clockedBy m (WriteIwm w k v) vs = clockedOf m (WriteIwm w k v)
-clockedBy m (Item.Blank w) vs = clockedOf m (Item.Blank w)
-clockedBy m (Item.Second w) vs = clockedOf m (Item.Second w)
-clockedBy m (Item.Line w l v) vs = clockedOf m (Item.Line w l v)
-clockedBy m (Item.Sense w d r v) vs = clockedOf m (Item.Sense w d r v)
-clockedBy m (Item.Reset w) vs = clockedOf m (Item.Reset w)
-clockedBy m (Item.Power w s) vs = clockedOf m (Item.Power w s)
-clockedBy m (Item.Disk w d i l b) vs = clockedOf m (Item.Disk w d i l b)
-clockedBy m (Item.Pulse w l) vs = clockedOf m (Item.Pulse w l)
+abbrev pub clockedAt : Option ℕ → Machine → Item → List ℕ → Machine
+clockedAt (some r) m i vs = withClock (withVia m (viaAfter r vs (m .via))) (clockAfter r vs (m .via .ports) (m .clock))
+clockedAt none m i vs = clockedOf m i
 
--- Whether an item with these values moves SEL from this level between its beginning and its end: writes to a VIA register alone can.
-unfoldable pub itemMovesSel : Item → List ℕ → ports.Ports → Bool → Bool
-itemMovesSel (ReadVia w r) vs p sel = false
-itemMovesSel (ReadIwm w k) vs p sel = false
-itemMovesSel (WriteVia w r v) vs p sel = movesSel r vs p sel
-itemMovesSel (WriteIwm w k v) vs p sel = false
-itemMovesSel (Item.Blank w) vs p sel = false
-itemMovesSel (Item.Second w) vs p sel = false
-itemMovesSel (Item.Line w l v) vs p sel = false
-itemMovesSel (Item.Sense w d r v) vs p sel = false
-itemMovesSel (Item.Reset w) vs p sel = false
-itemMovesSel (Item.Power w s) vs p sel = false
-itemMovesSel (Item.Disk w d i l b) vs p sel = false
-itemMovesSel (Item.Pulse w l) vs p sel = false
+abbrev pub clockedBy : Machine → Item → List ℕ → Machine
+clockedBy m i vs = clockedAt (registerWritten i) m i vs
+
+-- Whether values written to this register, if to one, move SEL from this level, and be it for a moment.
+abbrev pub selMoved : Option ℕ → List ℕ → ports.Ports → Bool → Bool
+selMoved (some r) vs p sel = movesSel r vs p sel
+selMoved none vs p sel = false

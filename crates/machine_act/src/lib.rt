@@ -19,9 +19,9 @@ ghost use Rattle.machine_pins.specs.declared.Board.{Board};
 ghost use Rattle.machine_spec.specs.Machine.{Levels};
 ghost use Rattle.machine_spec.specs.Stages.{itemWait};
 ghost use Rattle.machine_spec.specs.Action.{actedOf};
-ghost use Rattle.machine_write.specs.Values.{viaAfter, spoiltIf};
+ghost use Rattle.machine_write.specs.Values.{viaAfter, spoiltIf, registerWritten};
 ghost use Rattle.machine_act.specs.declared.Change.the-variants.{Shift};
-ghost use Rattle.machine_act.specs.Parts.{wholeMachine, boardVia, boardChange, senseChange, machineAfter, clockedBy, itemMovesSel, ChangeInRange, PhaseAccepted};
+ghost use Rattle.machine_act.specs.Parts.{wholeMachine, boardVia, boardChange, senseChange, machineAfter, clockedBy, selMoved, ChangeInRange, PhaseAccepted};
 use clock_command::Engine;
 use clock_parts::Core;
 use disk_lines::DiskLines;
@@ -255,7 +255,7 @@ pub fn strobed(
     values: &[u8],
     ports: Ports,
 ) -> Drives
-    ensures { λ r. ⌜ r ≡ spoiltIf (itemMovesSel item (now (values .entry)) ports (before .sel)) (drivesAfter before after d) ⌝ }
+    ensures { λ r. ⌜ r ≡ spoiltIf (selMoved (registerWritten item) (now (values .entry)) ports (before .sel)) (drivesAfter before after d) ⌝ }
 {
     let next = disk_drives::after(d, before, after);
     match item {

@@ -1,6 +1,7 @@
 -- The values that one record writes, one after the other. W-211: an MW has the effect of single WR items; a WR is one of them.
 use Prim.Native.Nat.{ℕ}
-use mathlib.Core.Bool.{Bool, true, false, cond, not, Bool·beq, _||_}
+use mathlib.Core.Bool.{Bool, true, false, cond, not, Bool·beq}
+use mathlib.Core.Option.{Option, none, some}
 use mathlib.Core.List.{List, [], _∷_}
 use lib.Dec.{eqb}
 use Rattle.via.specs.declared.Ports.{Ports}
@@ -47,6 +48,21 @@ spoiltIf true d = withStrobe d noStrobe
 spoiltIf false d = d
 
 -- ---- an item with its values
+
+-- The VIA register that it writes its values to, if it does.
+unfoldable pub registerWritten : Item → Option ℕ
+registerWritten (ReadVia w r) = none
+registerWritten (ReadIwm w k) = none
+registerWritten (WriteVia w r v) = some r
+registerWritten (WriteIwm w k v) = none
+registerWritten (Blank w) = none
+registerWritten (Second w) = none
+registerWritten (Line w l v) = none
+registerWritten (Sense w d r v) = none
+registerWritten (Reset w) = none
+registerWritten (Power w s) = none
+registerWritten (Disk w d i l b) = none
+registerWritten (Pulse w l) = none
 
 -- The single items: of a WR one for each value, the first after its wait and the others with no wait; any other item is itself.
 abbrev pub singlesWith : Item → List ℕ → List Item

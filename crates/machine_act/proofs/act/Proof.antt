@@ -1,4 +1,6 @@
-use mathlib.Core.Bool.{false}
+use Prim.Native.Nat.{ℕ}
+use mathlib.Core.Option.{Option, none}
+use Rattle.machine_write.specs.Values.{registerWritten}
 use mathlib.Core.Path.{_≡_, refl, sym, ap, subst, _∙_}
 use denote.Ref.{now}
 use Rattle.via.specs.Registers.{registerRead}
@@ -15,9 +17,9 @@ use Rattle.machine_spec.specs.Machine.{withVia, wires}
 use Rattle.machine_spec.specs.Pins.{wiresOf}
 use Rattle.machine_spec.specs.Accesses.{viaRead, iwmRead, keyboardPulse}
 use Rattle.machine_spec.specs.Action.{actedOf}
-use Rattle.machine_act.specs.Parts.{wholeMachine, boardDisk, boardChange, senseChange, clockedBy, ChangeInRange}
+use Rattle.machine_act.specs.Parts.{wholeMachine, boardDisk, boardChange, senseChange, clockedAt, clockedBy, ChangeInRange}
 use Rattle.machine_spec.proofs.Step.{pulse-quiet}
-use Rattle.machine_act.proofs.Laws.{writesVia, unwritten, quietly, pulse-shift}
+use Rattle.machine_act.proofs.Laws.{quietly, pulse-shift}
 use borrow.Author.Needs.{needs}
 use Rattle.machine_act.proofs.act.Statement.{statement}
 use Rattle.machine_act.proofs.act.Tie as tie
@@ -42,9 +44,10 @@ abbrev whole : tie.Start → Machine
 whole c = wholeMachine (c .args .b) (c .args .k) (now (c .args .cells)) (c .args .d) (now (c .args .sense))
 
 -- An action that moves no wire, of an item that does not write to a VIA register.
-quiet : (c : tie.Start) → writesVia (c .args .item) ≡ false → (y : Machine) → y ≡ actedOf (whole c) (c .args .item) .machine → wires (actedOf (whole c) (c .args .item) .machine) ≡ wires (whole c)
+quiet : (c : tie.Start) → registerWritten (c .args .item) ≡ none → (y : Machine) → y ≡ actedOf (whole c) (c .args .item) .machine → wires (actedOf (whole c) (c .args .item) .machine) ≡ wires (whole c)
     → y ≡ clockedBy (whole c) (c .args .item) (now (c .args .values))
-quiet c h y e w = quietly (whole c) (c .args .item) y (c .pre .1 .1) e w ∙ sym (unwritten (whole c) (c .args .item) (now (c .args .values)) h)
+quiet c h y e w =
+    quietly (whole c) (c .args .item) y (c .pre .1 .1) e w ∙ ap (λ (o : Option ℕ). clockedAt o (whole c) (c .args .item) (now (c .args .values))) (sym h)
 
 enum-known-item : tie.Need-enum-known-item
 enum-known-item c = search needs
@@ -137,61 +140,61 @@ pulse-requires : tie.Need-pulse-requires
 pulse-requires c κs = subst ItemInRange (c .before .item9 .given .1) (c .before .before .before .before .before .pre .0 .0)
 
 returns : tie.Need-returns
-unfolding actedOf viaRead registerRead iwmRead raisedOf boardChange senseChange
-returns c = (quiet (c .before .before .before .before .before .before .before) (ap writesVia (c .before .before .before .item .given .1)) _ (simp (c .before .before .before .item .given .1, c .read-change .ensures)) (simp (c .before .before .before .item .given .1)), (simp (c .before .before .before .item .given .1) (c .before .via-value .ensures), subst ChangeInRange (sym (c .read-change .ensures)) tt))
+unfolding actedOf viaRead registerRead iwmRead raisedOf boardChange senseChange registerWritten
+returns c = (quiet (c .before .before .before .before .before .before .before) (ap registerWritten (c .before .before .before .item .given .1)) _ (simp (c .before .before .before .item .given .1, c .read-change .ensures)) (simp (c .before .before .before .item .given .1)), (simp (c .before .before .before .item .given .1) (c .before .via-value .ensures), subst ChangeInRange (sym (c .read-change .ensures)) tt))
 
 returns-2 : tie.Need-returns-2
-unfolding actedOf viaRead registerRead iwmRead raisedOf boardChange senseChange
-returns-2 c = (quiet (c .before .before .before .before .before .before .before) (ap writesVia (c .before .before .before .item2 .given .1)) _ (simp (c .before .before .before .item2 .given .1, c .before .access .ensures)) (simp (c .before .before .before .item2 .given .1)), (simp (c .before .before .before .item2 .given .1, c .iwm-value .ensures, c .before .access .ensures), tt))
+unfolding actedOf viaRead registerRead iwmRead raisedOf boardChange senseChange registerWritten
+returns-2 c = (quiet (c .before .before .before .before .before .before .before) (ap registerWritten (c .before .before .before .item2 .given .1)) _ (simp (c .before .before .before .item2 .given .1, c .before .access .ensures)) (simp (c .before .before .before .item2 .given .1)), (simp (c .before .before .before .item2 .given .1, c .iwm-value .ensures, c .before .access .ensures), tt))
 
 returns-3 : tie.Need-returns-3
-unfolding actedOf clockedBy
+unfolding actedOf registerWritten
 returns-3 c =
     let a = c .before .before .before .before .before .before .before .before .args in
     (simp (c .before .before .before .before .item3 .given .1, c .via-change .ensures .0 (boardDisk (a .b) (a .b .disk)) refl, c .via-change .ensures .1 .0 (now (a .sense)), ← c .before .clocked .ensures), (simp (c .before .before .before .before .item3 .given .1), c .via-change .ensures .1 .1))
 
 returns-4 : tie.Need-returns-4
-unfolding actedOf viaRead registerRead iwmRead raisedOf boardChange senseChange
-returns-4 c = (quiet (c .before .before .before .before .before .before) (ap writesVia (c .before .before .item4 .given .1)) _ (simp (c .before .before .item4 .given .1, c .access2 .ensures)) (simp (c .before .before .item4 .given .1)), (simp (c .before .before .item4 .given .1), tt))
+unfolding actedOf viaRead registerRead iwmRead raisedOf boardChange senseChange registerWritten
+returns-4 c = (quiet (c .before .before .before .before .before .before) (ap registerWritten (c .before .before .item4 .given .1)) _ (simp (c .before .before .item4 .given .1, c .access2 .ensures)) (simp (c .before .before .item4 .given .1)), (simp (c .before .before .item4 .given .1), tt))
 
 returns-5 : tie.Need-returns-5
-unfolding actedOf viaRead registerRead iwmRead raisedOf boardChange senseChange
-returns-5 c = (quiet (c .before .before .before .before .before) (ap writesVia (c .before .enum-told .given .1)) _ (simp (c .before .enum-told .given .1)) (simp (c .before .enum-told .given .1)), (simp (c .before .enum-told .given .1), tt))
+unfolding actedOf viaRead registerRead iwmRead raisedOf boardChange senseChange registerWritten
+returns-5 c = (quiet (c .before .before .before .before .before) (ap registerWritten (c .before .enum-told .given .1)) _ (simp (c .before .enum-told .given .1)) (simp (c .before .enum-told .given .1)), (simp (c .before .enum-told .given .1), tt))
 
 returns-6 : tie.Need-returns-6
-unfolding actedOf viaRead registerRead iwmRead raisedOf boardChange senseChange
-returns-6 c = (quiet (c .before .before .before .before .before .before) (ap writesVia (c .before .before .enum-told2 .given .1)) _ (simp (c .before .before .enum-told2 .given .1, c .before .add-seconds .ensures)) (simp (c .before .before .enum-told2 .given .1)), (simp (c .before .before .enum-told2 .given .1), tt))
+unfolding actedOf viaRead registerRead iwmRead raisedOf boardChange senseChange registerWritten
+returns-6 c = (quiet (c .before .before .before .before .before .before) (ap registerWritten (c .before .before .enum-told2 .given .1)) _ (simp (c .before .before .enum-told2 .given .1, c .before .add-seconds .ensures)) (simp (c .before .before .enum-told2 .given .1)), (simp (c .before .before .enum-told2 .given .1), tt))
 
 returns-7 : tie.Need-returns-7
-unfolding actedOf viaRead registerRead iwmRead raisedOf boardChange senseChange
-returns-7 c = (quiet (c .before .before .before .before .before) (ap writesVia (c .before .item5 .given .1)) _ (simp (c .before .item5 .given .1)) (simp (c .before .item5 .given .1)), (simp (c .before .item5 .given .1), (subst ItemInRange (c .before .item5 .given .1) (c .before .before .before .before .before .pre .0 .0)) .0))
+unfolding actedOf viaRead registerRead iwmRead raisedOf boardChange senseChange registerWritten
+returns-7 c = (quiet (c .before .before .before .before .before) (ap registerWritten (c .before .item5 .given .1)) _ (simp (c .before .item5 .given .1)) (simp (c .before .item5 .given .1)), (simp (c .before .item5 .given .1), (subst ItemInRange (c .before .item5 .given .1) (c .before .before .before .before .before .pre .0 .0)) .0))
 
 returns-8 : tie.Need-returns-8
-unfolding actedOf viaRead registerRead iwmRead raisedOf boardChange senseChange
-returns-8 c = (quiet (c .before .before .before .before .before .before) (ap writesVia (c .before .before .item6 .given .1)) _ (simp (c .before .before .item6 .given .1, c .sense-index .ensures .0)) (simp (c .before .before .item6 .given .1)), (simp (c .before .before .item6 .given .1), c .sense-index .ensures .1))
+unfolding actedOf viaRead registerRead iwmRead raisedOf boardChange senseChange registerWritten
+returns-8 c = (quiet (c .before .before .before .before .before .before) (ap registerWritten (c .before .before .item6 .given .1)) _ (simp (c .before .before .item6 .given .1, c .sense-index .ensures .0)) (simp (c .before .before .item6 .given .1)), (simp (c .before .before .item6 .given .1), c .sense-index .ensures .1))
 
 returns-9 : tie.Need-returns-9
-unfolding actedOf clockedBy boardChange senseChange wiresOf resetOf
+unfolding actedOf boardChange senseChange wiresOf resetOf registerWritten
 returns-9 c =
     let a = c .before .before .before .before .before .before .args in
     (simp (c .before .before .enum-told3 .given .1, c .before .off .ensures, c .idle .ensures, enabled-idle (a .k) (now (a .cells)) (wiresOf (a .b .via .ports) (shownLevel (a .k .phase))) (wiresOf (resetOf (a .b .via) .ports) (shownLevel (a .k .phase))) refl), (simp (c .before .before .enum-told3 .given .1), tt))
 
 returns-10 : tie.Need-returns-10
-unfolding actedOf clockedBy boardChange senseChange wiresOf freshVia
+unfolding actedOf boardChange senseChange wiresOf freshVia registerWritten
 returns-10 c =
     let a = c .before .before .before .before .before .before .before .before .before .args in
     (simp (c .before .before .before .before .before .item7 .given .1, c .before .before .before .off2 .ensures, c .power-cut .ensures, c .before .idle2 .ensures, c .before .before .add-seconds2 .ensures, enabled-idle (coreSeconds (a .k) (advance (stops (a .k .test)) (c .before .before .before .before .before .item7 .given .0 .1 .0) (a .k .seconds))) (now (a .cells)) (wiresOf (a .b .via .ports) (shownLevel (a .k .phase))) (wiresOf (freshVia .ports) (shownLevel (a .k .phase))) refl), (simp (c .before .before .before .before .before .item7 .given .1), tt))
 
 returns-11 : tie.Need-returns-11
-unfolding actedOf viaRead registerRead iwmRead raisedOf boardChange senseChange
-returns-11 c = (quiet (c .before .before .before .before .before .before) (ap writesVia (c .before .before .item8 .given .1)) _ (simp (c .before .before .item8 .given .1, c .place .ensures)) (simp (c .before .before .item8 .given .1)), (simp (c .before .before .item8 .given .1), tt))
+unfolding actedOf viaRead registerRead iwmRead raisedOf boardChange senseChange registerWritten
+returns-11 c = (quiet (c .before .before .before .before .before .before) (ap registerWritten (c .before .before .item8 .given .1)) _ (simp (c .before .before .item8 .given .1, c .place .ensures)) (simp (c .before .before .item8 .given .1)), (simp (c .before .before .item8 .given .1), tt))
 
 returns-12 : tie.Need-returns-12
-unfolding actedOf keyboardPulse boardChange senseChange
+unfolding actedOf keyboardPulse boardChange senseChange registerWritten
 returns-12 c =
     let s = c .before .before .before .before .before .before in
     let i = c .before .before .item9 .given in (
-      quiet s (ap writesVia (i .1)) _ (simp (i .1, c .pulse .ensures) (ap (λ (u : Via). withVia (whole s) u) (pulse-shift (i .0 .1 .0) (s .args .b .via))))
+      quiet s (ap registerWritten (i .1)) _ (simp (i .1, c .pulse .ensures) (ap (λ (u : Via). withVia (whole s) u) (pulse-shift (i .0 .1 .0) (s .args .b .via))))
           (subst (λ (x : Item). wires (actedOf (whole s) x .machine) ≡ wires (whole s)) (sym (i .1)) (pulse-quiet (i .0 .0) (i .0 .1 .0) (whole s) .0)),
       (simp (i .1, c .pulse .ensures), tt),
     )
