@@ -3,6 +3,7 @@ use Prim.Native.Nat.{ℕ, _+_, _-_, _*_, _/_, _%_, _^_, _≤_, _<_}
 use mathlib.Core.Path.{_≡_, refl, sym, ap, ap₂, _∙_}
 use mathlib.Core.Bool.{Bool, true, false}
 use mathlib.Core.List.{List, [], _∷_}
+use mathlib.Core.Option.{none, some, Option·none-ne-some, Option·some-ne-none, Option·some-injective}
 use native.Mathlib.Omega.{arith}
 use native.Mathlib.Nat.{one-mul, add-mul, mod-lt, mod-le, div-add-mod', div-eq-of-lt-le}
 use lib.Pow.{pow-pos}
@@ -24,7 +25,9 @@ use Rattle.disk_spec.specs.Strobe.{strobeTicks}
 use Rattle.disk_spec.specs.Watched.{watchedOf}
 use Rattle.disk_spec.specs.Drives.{drivesTicks, drivesAfter}
 use Rattle.disk_spec.proofs.DrivesLaws.{drives-untouched}
-use Rattle.item_spec.specs.declared.Item.the-variants.{WriteVia, WriteIwm}
+use Rattle.item_spec.specs.declared.Item.{Item}
+use Rattle.item_spec.specs.declared.Item.the-variants.{ReadVia, ReadIwm, WriteVia, WriteIwm, Blank, Second, Line, Sense, Reset, Power, Disk, Pulse}
+use Rattle.item_spec.specs.Items.{ItemInRange}
 use Rattle.item_spec.specs.declared.Many.{Many}
 use Rattle.item_spec.specs.Many.{writeTo, single, singlesAfter}
 use Rattle.machine_spec.specs.declared.Machine.{Machine}
@@ -36,14 +39,24 @@ use Rattle.machine_spec.specs.Step.{stepOf, afterItems}
 use Rattle.machine_spec.proofs.MachineLaws.{parts}
 use Rattle.machine_spec.proofs.Stages.{waited-wires, waited-watched}
 use Rattle.machine_spec.proofs.Keeps.{step-keeps}
-use Rattle.machine_write.specs.Values.{viaAfter, clockAfter}
+use Rattle.machine_write.specs.Values.{viaAfter, clockAfter, registerWritten, stepWith}
 use Rattle.machine_write.proofs.Strobes.{strobesAfter}
 
 -- ---- a VIA register
 
 -- The VIA, the clock and the drives go their own ways.
-pub via-apart : (w : WaitTicks) (r : ℕ) (vs : List ℕ) (m : Machine) → afterItems m (singlesAfter (record { wait = w; iwm = false; number = r }) (forTicks 0) vs)
-    ≡ record { via = viaAfter r vs (m .via); clock = clockAfter r vs (m .via .ports) (m .clock); disk = m .disk; inputs = m .inputs; sense = m .sense; drives = strobesAfter r vs (m .disk) (m .via .ports) (m .drives) }
+abbrev pub apartOf : ℕ → List ℕ → Machine → Machine
+apartOf r vs m =
+    record {
+      via = viaAfter r vs (m .via);
+      clock = clockAfter r vs (m .via .ports) (m .clock);
+      disk = m .disk;
+      inputs = m .inputs;
+      sense = m .sense;
+      drives = strobesAfter r vs (m .disk) (m .via .ports) (m .drives);
+    }
+
+via-apart : (w : WaitTicks) (r : ℕ) (vs : List ℕ) (m : Machine) → afterItems m (singlesAfter (record { wait = w; iwm = false; number = r }) (forTicks 0) vs) ≡ apartOf r vs m
 unfolding stepOf itemWait actedOf ticks drivesTicks driveTicks strobeTicks viaWritten viaAfter clockAfter strobesAfter
 via-apart w r [] m = refl
 via-apart w r (v ∷ vs) m = via-apart w r vs (stepOf m (WriteVia (forTicks 0) r v) .machine)
@@ -59,7 +72,7 @@ wait-apart m x w v = go (x .iwm)
     go true = ap₂ (λ (u : Wires) (l : Watched). afterStrobe l (afterWires u (actedOf (afterWait (w .0) m) (writeTo true (x .number) w v) .machine))) (waited-wires (w .0) m) (waited-watched (w .0) m)
     go false = ap₂ (λ (u : Wires) (l : Watched). afterStrobe l (afterWires u (actedOf (afterWait (w .0) m) (writeTo false (x .number) w v) .machine))) (waited-wires (w .0) m) (waited-watched (w .0) m)
 
-pub waited : (m : Machine) (x : Many) (w : WaitTicks) (vs : List ℕ) → 0 < length vs → afterItems m (singlesAfter x w vs) ≡ afterItems (afterWait (w .0) m) (singlesAfter x (forTicks 0) vs)
+waited : (m : Machine) (x : Many) (w : WaitTicks) (vs : List ℕ) → 0 < length vs → afterItems m (singlesAfter x w vs) ≡ afterItems (afterWait (w .0) m) (singlesAfter x (forTicks 0) vs)
 waited m x w [] h = absurd (omega arith)
 waited m x w (v ∷ vs) h = ap (λ (n : Machine). afterItems n (singlesAfter x (forTicks 0) vs)) (sym (wait-apart m x w v))
 
@@ -117,9 +130,45 @@ idle-accesses m w k (v ∷ vs) a e =
     ap (λ (n : Machine). afterItems n (singlesAfter (record { wait = w; iwm = true; number = k }) (forTicks 0) vs)) (idle-access m k v a e)
     ∙ idle-accesses m w k vs a e
 
-pub iwm-once : (m : Machine) (w : WaitTicks) (k v : ℕ) (vs : List ℕ) → acceptedOf m ≡ true → k < 16 → 0 < length vs
+iwm-once : (m : Machine) (w : WaitTicks) (k v : ℕ) (vs : List ℕ) → acceptedOf m ≡ true → k < 16 → 0 < length vs
     → afterItems m (singlesAfter (record { wait = w; iwm = true; number = k }) w vs) ≡ stepOf m (WriteIwm w k v) .machine
 unfolding stepOf actedOf itemWait
 iwm-once m w k v [] a h n = absurd (omega arith)
 iwm-once m w k v (u ∷ vs) a h n =
     idle-accesses (stepOf m (WriteIwm w k u) .machine) w k vs (step-keeps m (WriteIwm w k u) h a) (access-twice k (m .disk) h)
+
+-- ---- an item with its values
+
+-- Where it writes to no VIA register, it is the item.
+pub one-step : (m : Machine) (i : Item) (vs : List ℕ) → registerWritten i ≡ none → acceptedOf m ≡ true → ItemInRange i → 0 < length vs → stepWith m i vs ≡ stepOf m i
+unfolding stepWith registerWritten
+one-step m (ReadVia w r) vs o a h n = refl
+one-step m (ReadIwm w k) vs o a h n = refl
+one-step m (WriteVia w r v) vs o a h n = absurd (Option·some-ne-none r o)
+one-step m (WriteIwm w k v) vs o a h n = ap (λ (x : Machine). record { machine = x; value = stepOf m (WriteIwm w k v) .value }) (iwm-once m w k v vs a h n)
+one-step m (Blank w) vs o a h n = refl
+one-step m (Second w) vs o a h n = refl
+one-step m (Line w l v) vs o a h n = refl
+one-step m (Sense w d r v) vs o a h n = refl
+one-step m (Reset w) vs o a h n = refl
+one-step m (Power w s) vs o a h n = refl
+one-step m (Disk w d i l b) vs o a h n = refl
+one-step m (Pulse w l) vs o a h n = refl
+
+-- Where it writes to one, its wait passes, and then each part goes its own way.
+pub written-step : (m : Machine) (i : Item) (vs : List ℕ) (r : ℕ) → registerWritten i ≡ some r → 0 < length vs → stepWith m i vs .machine ≡ apartOf r vs (afterWait (itemWait i) m)
+unfolding stepWith registerWritten itemWait
+written-step m (ReadVia w r) vs q o n = absurd (Option·none-ne-some q o)
+written-step m (ReadIwm w k) vs q o n = absurd (Option·none-ne-some q o)
+written-step m (WriteVia w r v) vs q o n =
+    waited m (record { wait = w; iwm = false; number = r }) w vs n ∙ via-apart w r vs (afterWait (w .0) m)
+    ∙ ap (λ (k : ℕ). apartOf k vs (afterWait (w .0) m)) (Option·some-injective r q o)
+written-step m (WriteIwm w k v) vs q o n = absurd (Option·none-ne-some q o)
+written-step m (Blank w) vs q o n = absurd (Option·none-ne-some q o)
+written-step m (Second w) vs q o n = absurd (Option·none-ne-some q o)
+written-step m (Line w l v) vs q o n = absurd (Option·none-ne-some q o)
+written-step m (Sense w d r v) vs q o n = absurd (Option·none-ne-some q o)
+written-step m (Reset w) vs q o n = absurd (Option·none-ne-some q o)
+written-step m (Power w s) vs q o n = absurd (Option·none-ne-some q o)
+written-step m (Disk w d i l b) vs q o n = absurd (Option·none-ne-some q o)
+written-step m (Pulse w l) vs q o n = absurd (Option·none-ne-some q o)

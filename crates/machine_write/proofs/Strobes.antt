@@ -1,7 +1,7 @@
 -- The strobe's look at its levels after each of the values: one look at the levels before and after them all, and whether SEL moved between.
 use Prim.Native.Nat.{ℕ, _<_}
 use mathlib.Core.Path.{_≡_, refl, sym, ap, ap₂, _∙_}
-use mathlib.Core.Bool.{Bool, true, false, cond, not, _&&_, Bool·beq, true≢false, false≢true}
+use mathlib.Core.Bool.{Bool, true, false, cond, not, _&&_, _||_, Bool·beq, true≢false, false≢true}
 use mathlib.Core.List.{List, [], _∷_}
 use native.Mathlib.Omega.{arith}
 use lib.Dec.{eqb}
@@ -36,7 +36,7 @@ strobesAfter r (v ∷ vs) l p d = strobesAfter r vs l (portsWritten r v p) (driv
 
 -- ---- with LSTRB off nothing changes
 
-pub strobes-unlit : (r : ℕ) (vs : List ℕ) (l : DiskLines) (p : Ports) (d : Drives) → watchedOf l (selOf p) .lstrb ≡ false → acceptedDrives (watchedOf l (selOf p)) d ≡ true
+strobes-unlit : (r : ℕ) (vs : List ℕ) (l : DiskLines) (p : Ports) (d : Drives) → watchedOf l (selOf p) .lstrb ≡ false → acceptedDrives (watchedOf l (selOf p)) d ≡ true
     → strobesAfter r vs l p d ≡ d
 unfolding strobesAfter watchedOf acceptedDrives acceptedStrobe
 strobes-unlit r [] l p d off a = refl
@@ -78,7 +78,7 @@ unfolding movesSel
 moves-again r u [] p b = refl
 moves-again r u (v ∷ vs) p b = ap₂ (λ (q : Ports) (m : Bool). cond (not (Bool·beq (sel q) b)) true m) (ports-again r u v p) (moves-again r u vs p b)
 
-pub moves-after : (r : ℕ) (us vs : List ℕ) (p : Ports) (b : Bool) → 0 < length us → movesSel r vs (portsAfter r us p) b ≡ movesSel r vs p b
+moves-after : (r : ℕ) (us vs : List ℕ) (p : Ports) (b : Bool) → 0 < length us → movesSel r vs (portsAfter r us p) b ≡ movesSel r vs p b
 moves-after r us vs p b h = ap (λ (q : Ports). movesSel r vs q b) (ports-last r us p h) ∙ moves-again r _ vs p b
 
 -- The strobe after each of the values.
@@ -144,7 +144,7 @@ spoil false true true false d h = absurd (false≢true (h refl))
 spoil false true false true d h = absurd (false≢true (h refl))
 spoil false false a b d h = refl
 
-pub strobes-lit : (r : ℕ) (vs : List ℕ) (l : DiskLines) (p : Ports) (d : Drives) → 0 < length vs → watchedOf l (selOf p) .lstrb ≡ true
+strobes-lit : (r : ℕ) (vs : List ℕ) (l : DiskLines) (p : Ports) (d : Drives) → 0 < length vs → watchedOf l (selOf p) .lstrb ≡ true
     → strobesAfter r vs l p d ≡ spoiltIf (movesSel r vs p (watchedOf l (selOf p) .sel)) (drivesAfter (watchedOf l (selOf p)) (watchedOf l (selOf (portsAfter r vs p))) d)
 unfolding watchedOf
 strobes-lit r [] l p d h on = absurd (omega arith)
@@ -155,3 +155,20 @@ strobes-lit r (v ∷ vs) l p d h on =
     strobes-kept r (v ∷ vs) l p d on ∙ ap (withStrobe d) (kept-is r v vs e p (d .strobe))
     ∙ spoil m e (sel p) (sel q) d (unmoved r v vs p (sel p))
     ∙ ap (spoiltIf m) (sym (lit-step l p q d on))
+
+-- What code does: one look at the levels before and after, where LSTRB is on before or after; SEL asked with the ports at the end.
+pub strobes-by : (r : ℕ) (vs : List ℕ) (l : DiskLines) (p : Ports) (d : Drives) → 0 < length vs → acceptedDrives (watchedOf l (selOf p)) d ≡ true
+    → ((watchedOf l (selOf p) .lstrb || watchedOf l (selOf (portsAfter r vs p)) .lstrb) ≡ true
+        → strobesAfter r vs l p d ≡ spoiltIf (movesSel r vs (portsAfter r vs p) (watchedOf l (selOf p) .sel)) (drivesAfter (watchedOf l (selOf p)) (watchedOf l (selOf (portsAfter r vs p))) d))
+    × ((watchedOf l (selOf p) .lstrb || watchedOf l (selOf (portsAfter r vs p)) .lstrb) ≡ false → strobesAfter r vs l p d ≡ d)
+unfolding watchedOf
+strobes-by r vs l p d h a = (
+  λ on.
+      strobes-lit r vs l p d h (once (eqb (lines.lstrb l) 1) true on)
+      ∙ ap (λ (m : Bool). spoiltIf m (drivesAfter (levels l p) (levels l (portsAfter r vs p)) d)) (sym (moves-after r vs vs p (sel p) h)),
+  λ off. strobes-unlit r vs l p d (once (eqb (lines.lstrb l) 1) false off) a,
+)
+  where
+    once : (x y : Bool) → (x || x) ≡ y → x ≡ y
+    once true y e = e
+    once false y e = e

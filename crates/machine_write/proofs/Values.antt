@@ -1,8 +1,7 @@
 -- Values written one after the other, on plain lists: one more, and none left.
 use Prim.Native.Nat.{ℕ, _+_, _-_, _≤_, _<_}
 use mathlib.Core.Path.{_≡_, refl, sym, ap, subst, _∙_}
-use mathlib.Core.Logic.{_⊎_, inl, inr}
-use mathlib.Core.Bool.{Bool, true, false, cond, not, _&&_, _||_, Bool·beq, true≢false, false≢true}
+use mathlib.Core.Bool.{Bool, true, false, cond, not, _&&_, _||_, Bool·beq, false≢true}
 use mathlib.Core.List.{List, [], _∷_}
 use native.Mathlib.Omega.{arith}
 use native.Mathlib.Numerals.{add-one}
@@ -45,6 +44,11 @@ unfolding portsWritten
 ports-again r u v p =
     simp (again (eqb r 0) u v (p .outb), again (eqb r 1 || eqb r 15) u v (p .outa), again (eqb r 2) u v (p .dirb), again (eqb r 3) u v (p .dira))
 
+pub via-ports : (r : ℕ) (vs : List ℕ) (s : Via) → viaAfter r vs s .ports ≡ portsAfter r vs (s .ports)
+unfolding viaAfter portsAfter viaWritten
+via-ports r [] s = refl
+via-ports r (v ∷ vs) s = via-ports r vs (viaWritten r v s)
+
 last : (r v : ℕ) (vs : List ℕ) (p : Ports) → portsAfter r (v ∷ vs) p ≡ portsWritten r (getD (v ∷ vs) (length vs) 0) p
 unfolding portsAfter
 last r v [] p = refl
@@ -63,11 +67,6 @@ neither : (x y : Bool) → (not x && not y) ≡ true → (x ≡ false) × (y ≡
 neither false false h = (refl, refl)
 neither false true h = (refl, sym h)
 neither true y h = (sym h, absurd (false≢true h))
-
-either : (x y : Bool) → (not x && not y) ≡ false → (x ≡ true) ⊎ (y ≡ true)
-either true y h = inl refl
-either false true h = inr refl
-either false false h = absurd (true≢false h)
 
 -- Another register moves no wire of the clock.
 other-register : (r v : ℕ) (p : Ports) (line : Bool) → (not (eqb r 0) && not (eqb r 2)) ≡ true → wiresOf (portsWritten r v p) line ≡ wiresOf p line
