@@ -159,7 +159,7 @@ strobes-lit r (v ∷ vs) l p d h on =
 -- What code does: one look at the levels before and after, where LSTRB is on before or after; SEL asked with the ports at the end.
 pub strobes-by : (r : ℕ) (vs : List ℕ) (l : DiskLines) (p : Ports) (d : Drives) → 0 < length vs → acceptedDrives (watchedOf l (selOf p)) d ≡ true
     → ((watchedOf l (selOf p) .lstrb || watchedOf l (selOf (portsAfter r vs p)) .lstrb) ≡ true
-        → strobesAfter r vs l p d ≡ spoiltIf (movesSel r vs (portsAfter r vs p) (watchedOf l (selOf p) .sel)) (drivesAfter (watchedOf l (selOf p)) (watchedOf l (selOf (portsAfter r vs p))) d))
+    → strobesAfter r vs l p d ≡ spoiltIf (movesSel r vs (portsAfter r vs p) (watchedOf l (selOf p) .sel)) (drivesAfter (watchedOf l (selOf p)) (watchedOf l (selOf (portsAfter r vs p))) d))
     × ((watchedOf l (selOf p) .lstrb || watchedOf l (selOf (portsAfter r vs p)) .lstrb) ≡ false → strobesAfter r vs l p d ≡ d)
 unfolding watchedOf
 strobes-by r vs l p d h a = (

@@ -79,7 +79,7 @@ pub fn run_accepted(engine: Engine, m: Machine, list: &[u8], answers: &mut [u8])
             match change {
                 Change::Nothing => {}
                 Change::Flags(f) => board.via.flags = f,
-                Change::Ports(p) => board.via.ports = p,
+                Change::Ports(p) => board.via = machine_act::with_ports(board.via, p),
                 Change::Register(r) => board.via = machine_write::via_after(board.via, r, bytes),
                 Change::Line(i, level) => board.inputs[i] = level,
                 Change::Sense(i, level) => sense[i] = level,
