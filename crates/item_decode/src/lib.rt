@@ -62,8 +62,8 @@ pub fn first_value(s: &[u8]) -> usize
     requires { ⌜ 2 ≤ length (now s) ⌝ }
     ensures { λ r. ⌜ r ≡ firstValue (now (s .entry)) ⌝ }
 {
-    if s.len() < 10 {
-        return s.len() - 1;
+    if s[0] == b'M' {
+        return 9;
     }
-    9
+    s.len() - 1
 }

@@ -11,7 +11,7 @@ ghost use Rattle.disk_lines.specs.Lines.{readLine, senseAt};
 ghost use Rattle.disk_spec.specs.Drives.{drivesShown, drivesAfter};
 ghost use Rattle.item_spec.specs.Items.{ItemInRange};
 ghost use Rattle.via.specs.Registers.{valueRead, flagsRead};
-ghost use Rattle.via.specs.Setters.{withPorts, withSr, withFlags, withPulses};
+ghost use Rattle.via.specs.Setters.{withSr, withFlags, withPulses};
 ghost use Rattle.via.specs.Shift.{pulsesAccessed};
 ghost use Rattle.machine_spec.specs.Pins.{selOf};
 ghost use Rattle.machine_spec.specs.Wiring.{inputsOf};
@@ -234,14 +234,6 @@ pub fn act(
         drives: drives,
         change: change,
     }
-}
-
-// The VIA with these ports.
-pub fn with_ports(mut via: Via, ports: Ports) -> Via
-    ensures { λ r. ⌜ r ≡ withPorts via ports ⌝ }
-{
-    via.ports = ports;
-    via
 }
 
 // The VIA with these values in register 10, the flags and the count of pulses.

@@ -71,15 +71,18 @@ pub fn run_accepted(engine: Engine, m: Machine, list: &[u8], answers: &mut [u8])
                 drives = disk_drives::wait(drives, wait);
             }
             let a = act(engine, board, core, drives, item, bytes, &sense, &mut cells);
-            let disk = a.disk;
-            board.disk = disk;
+            board.disk.lines = a.disk.lines;
             core = a.core;
             drives = a.drives;
             let change = a.change;
             match change {
                 Change::Nothing => {}
                 Change::Flags(f) => board.via.flags = f,
-                Change::Ports(p) => board.via = machine_act::with_ports(board.via, p),
+                Change::Ports(p) => {
+                    let mut v = board.via;
+                    v.ports = p;
+                    board.via = v;
+                }
                 Change::Register(r) => board.via = machine_write::via_after(board.via, r, bytes),
                 Change::Line(i, level) => board.inputs[i] = level,
                 Change::Sense(i, level) => sense[i] = level,

@@ -1,5 +1,5 @@
 -- A record's turn by the item that it is handed on as, with its values.
-use Prim.Native.Nat.{ℕ, _-_, _≤_}
+use Prim.Native.Nat.{ℕ, _-_, _≤_, _<_}
 use mathlib.Core.Path.{_≡_, refl, sym, ap, _∙_}
 use mathlib.Core.Bool.{Bool, true, false, cond}
 use mathlib.Core.List.{List}
@@ -16,7 +16,7 @@ use Rattle.item_spec.specs.Kinds.{decodedOf}
 use Rattle.item_spec.proofs.ItemRange.{Good, decoded-range, many-range, single-range}
 use Rattle.item_many.specs.LastWrite.{asLastWrite}
 use Rattle.item_decode.specs.Values.{valuesIn}
-use Rattle.item_decode.proofs.ValueLaws.{OneValue, AllValues, values-right, values-some}
+use Rattle.item_decode.proofs.ValueLaws.{OneValue, AllValues, values-right}
 use Rattle.machine_spec.specs.declared.Machine.{Machine}
 use Rattle.machine_spec.specs.declared.Did.{Did}
 use Rattle.machine_spec.specs.Machine.{noValue}
@@ -59,22 +59,23 @@ many-steps m s vs w false n v =
 many-steps m s vs w true n v =
     ap (λ (k : ℕ). doneTurn (record { machine = afterItems m (singlesAfter (record { wait = w; iwm = true; number = n }) w vs); value = k })) (sym (unread m (WriteIwm w n v) refl))
 
-pub turn-with : (m : Machine) (s : List ℕ) → turnOf m s ≡ turnWith m s (valuesIn s) (asLastWrite s (decodedOf s))
+pub turn-with : (m : Machine) (s : List ℕ) → 2 ≤ length s → turnOf m s ≡ turnWith m s (valuesIn s) (asLastWrite s (decodedOf s))
 unfolding turnOf
-turn-with m s = go (decodedOf s) (values-right s)
+turn-with m s h = go (decodedOf s) (values-right s h)
   where
-    go : (d : Decoded) → Good (OneValue (valuesIn s)) (AllValues s) d → turnBy m s d ≡ turnWith m s (valuesIn s) (asLastWrite s d)
-    go (Done i) g = ap (λ (d : Did). cond (eqb (refusesOf m i) 0) (doneTurn d) (refusedTurn m (refusesOf m i))) (one-step m i (valuesIn s) g)
+    go : (d : Decoded) → Good (λ i. OneValue (valuesIn s) i × (0 < length (valuesIn s))) (λ x. AllValues s x × (0 < length (valuesIn s))) d → turnBy m s d ≡ turnWith m s (valuesIn s) (asLastWrite s d)
+    go (Done i) g = ap (λ (d : Did). cond (eqb (refusesOf m i) 0) (doneTurn d) (refusedTurn m (refusesOf m i))) (one-step m i (valuesIn s) (g .0))
     go (Decoded.Many x) g =
-        ap (λ (vs : List ℕ). doneTurn (noValue (afterItems m (singlesAfter x (x .wait) vs)))) (sym g)
+        ap (λ (vs : List ℕ). doneTurn (noValue (afterItems m (singlesAfter x (x .wait) vs)))) (sym (g .0))
         ∙ many-steps m s (valuesIn s) (x .wait) (x .iwm) (x .number) (getD s (length s - 1) 0)
     go (Refused n) g = refl
 
 -- The item is in range, and has a value.
 pub judged-range : (s : List ℕ) → 2 ≤ length s → JudgedInRange (valuesIn s) (asLastWrite s (decodedOf s))
-judged-range s h = go (decodedOf s) refl
+judged-range s h = go (decodedOf s) refl (values-right s h)
   where
-    go : (d : Decoded) → decodedOf s ≡ d → JudgedInRange (valuesIn s) (asLastWrite s d)
-    go (Done i) e = (decoded-range s i e, values-some s h)
-    go (Decoded.Many x) e = (single-range x (many-range s x e .number) (x .wait) (getD s (length s - 1) 0), values-some s h)
-    go (Refused n) e = tt
+    go : (d : Decoded) → decodedOf s ≡ d → Good (λ i. OneValue (valuesIn s) i × (0 < length (valuesIn s))) (λ x. AllValues s x × (0 < length (valuesIn s))) d
+        → JudgedInRange (valuesIn s) (asLastWrite s d)
+    go (Done i) e g = (decoded-range s i e, g .1)
+    go (Decoded.Many x) e g = (single-range x (many-range s x e .number) (x .wait) (getD s (length s - 1) 0), g .1)
+    go (Refused n) e g = tt

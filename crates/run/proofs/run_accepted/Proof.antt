@@ -38,7 +38,6 @@ use Rattle.machine_act.specs.Parts.{wholeMachine, boardVia, boardDisk, boardCha
 use Rattle.machine_write.specs.Values.{spoiltIf, registerWritten, stepWith}
 use Rattle.machine_act.specs.Parts.{selMoved}
 use Rattle.item_decode.specs.Values.{valuesIn}
-use Rattle.item_decode.proofs.ValueLaws.{first-below}
 use Rattle.run.proofs.Turns.{strobeOf, Struck}
 use Rattle.run.proofs.Refused.{refused}
 use Rattle.run.proofs.Loop as loop
@@ -98,7 +97,7 @@ unfolding boardChange senseChange
 stored c =
     ⊎-elim (λ w. (simp (w .2, w .1 .given .1), simp (w .3, w .1 .given .1)))
     (⊎-elim (λ w. (simp (w .4, w .1 .given .1), simp (w .5, w .1 .given .1)))
-    (⊎-elim (λ w. (simp (w .5, w .1 .given .1, w .4 .ensures), simp (w .6, w .1 .given .1)))
+    (⊎-elim (λ w. (simp (w .4, w .1 .given .1), simp (w .5, w .1 .given .1)))
     (⊎-elim (λ w. (simp (w .5, w .1 .given .1, w .4 .ensures), simp (w .6, w .1 .given .1)))
     (⊎-elim (λ w. (simp (w .3, w .1 .given .1), simp (w .4, w .1 .given .1)))
     (⊎-elim (λ w. (simp (w .3, w .1 .given .1), simp (w .4, w .1 .given .1)))
@@ -152,7 +151,7 @@ did c =
 -- where the ways of the record meet: the parts together are the turn's machine
 met : (c : tie.At-match2-came Inv-loop μ-loop) → record { machine = wholeMachine (c .match2 .board) (c .match2 .core) (c .match2 .cells) (c .match2 .drives) (c .match2 .sense); answer = c .match2 .answer } ≡ turnOf (wholeMachine (c .before .before .before .before .before .before .before .before .before .before .before .before .loop .board) (c .before .before .before .before .before .before .before .before .before .before .before .before .loop .core) (c .before .before .before .before .before .before .before .before .before .before .before .before .loop .cells) (c .before .before .before .before .before .before .before .before .before .before .before .before .loop .drives) (c .before .before .before .before .before .before .before .before .before .before .before .before .loop .sense)) (recordAt (now (c .before .before .before .before .before .before .before .before .before .before .before .before .before .before .before .before .before .before .before .before .before .args .list)) (c .before .before .before .before .before .before .before .before .before .before .before .before .loop .at) (c .before .before .before .before .before .before .n .given .0 .0))
 met c =
-    ⊎-elim (λ w. simp (w .24, w .25, w .26, w .27, w .28, w .29) (did (record { before = record { before = record { before = record { before = record { before = record { before = record { before = record { before = record { before = record { before = record { before = record { before = record { before = record { before = record { before = record { before = record { before = record { before = record { before = record { before = record { before = record { before = record { before = record { before = c .before; match2 = w .0 }; d = w .1 }; known-told2 = w .2 }; first-value = w .3 }; bytes = w .4 }; watched = w .5 }; wait-of = w .6 }; only-counts-arg = w .7 }; only-counts = w .8 }; if2 = w .9 }; busy = w .10 }; if3 = w .11 }; sense2 = w .12 }; cells = w .13 }; act = w .14 }; disk = w .15 }; core = w .16 }; drives2 = w .17 }; match3 = w .18 }; watched2 = w .19 }; struct-known = w .20 }; struct-known2 = w .21 }; if4 = w .22 }; answer = w .23 })))
+    ⊎-elim (λ w. simp (w .24, w .25, w .26, w .27, w .28, w .29) (did (record { before = record { before = record { before = record { before = record { before = record { before = record { before = record { before = record { before = record { before = record { before = record { before = record { before = record { before = record { before = record { before = record { before = record { before = record { before = record { before = record { before = record { before = record { before = record { before = c .before; match2 = w .0 }; d = w .1 }; known-told2 = w .2 }; first-value = w .3 }; bytes = w .4 }; watched = w .5 }; wait-of = w .6 }; only-counts-arg = w .7 }; only-counts = w .8 }; if2 = w .9 }; busy = w .10 }; if3 = w .11 }; sense2 = w .12 }; cells = w .13 }; act = w .14 }; board = w .15 }; core = w .16 }; drives2 = w .17 }; match3 = w .18 }; watched2 = w .19 }; struct-known = w .20 }; struct-known2 = w .21 }; if4 = w .22 }; answer = w .23 })))
     (λ w. simp (w .1, w .2, w .3, w .4, w .5, w .6) (sym (c .before .before .before .judge .ensures .0 (wholeMachine (c .before .before .before .before .before .before .before .before .before .before .before .before .loop .board) (c .before .before .before .before .before .before .before .before .before .before .before .before .loop .core) (c .before .before .before .before .before .before .before .before .before .before .before .before .loop .cells) (c .before .before .before .before .before .before .before .before .before .before .before .before .loop .drives) (c .before .before .before .before .before .before .before .before .before .before .before .before .loop .sense)) refl ∙ refused (wholeMachine (c .before .before .before .before .before .before .before .before .before .before .before .before .loop .board) (c .before .before .before .before .before .before .before .before .before .before .before .before .loop .core) (c .before .before .before .before .before .before .before .before .before .before .before .before .loop .cells) (c .before .before .before .before .before .before .before .before .before .before .before .before .loop .drives) (c .before .before .before .before .before .before .before .before .before .before .before .before .loop .sense)) _ _ (c .before .before .before .judge .result) (w .0 .keys2) (c .before .before .before .judge .ensures .1)
     ∙ ap (λ (y : Answer). record { machine = (wholeMachine (c .before .before .before .before .before .before .before .before .before .before .before .before .loop .board) (c .before .before .before .before .before .before .before .before .before .before .before .before .loop .core) (c .before .before .before .before .before .before .before .before .before .before .before .before .loop .cells) (c .before .before .before .before .before .before .before .before .before .before .before .before .loop .drives) (c .before .before .before .before .before .before .before .before .before .before .before .before .loop .sense)); answer = y }) (sym (c .before .no2 .ensures ∙ ap noOf (c .before .before .refusal .ensures)))))) (c .match2 .came)
 
@@ -242,8 +241,10 @@ first-value-requires c κs = loop.body-long (now (c .before .before .before .bef
 
 -- the values begin within the record
 within : (c : tie.After-first-value Inv-loop μ-loop) → c .first-value .result < length (recordAt (now (c .before .before .before .before .before .before .before .before .before .before .before .before .before .before .before .before .before .before .before .before .before .before .before .before .args .list)) (c .before .before .before .before .before .before .before .before .before .before .before .before .before .before .before .loop .at) (c .before .before .before .before .before .before .before .before .before .n .given .0 .0))
-within c =
-    subst⁻¹ (λ (k : ℕ). k < length (recordAt (now (c .before .before .before .before .before .before .before .before .before .before .before .before .before .before .before .before .before .before .before .before .before .before .before .before .args .list)) (c .before .before .before .before .before .before .before .before .before .before .before .before .before .before .before .loop .at) (c .before .before .before .before .before .before .before .before .before .n .given .0 .0))) (c .first-value .ensures) (first-below (recordAt (now (c .before .before .before .before .before .before .before .before .before .before .before .before .before .before .before .before .before .before .before .before .before .before .before .before .args .list)) (c .before .before .before .before .before .before .before .before .before .before .before .before .before .before .before .loop .at) (c .before .before .before .before .before .before .before .before .before .n .given .0 .0)) (loop.body-long (now (c .before .before .before .before .before .before .before .before .before .before .before .before .before .before .before .before .before .before .before .before .before .before .before .before .args .list)) (c .before .before .before .before .before .before .before .before .before .before .before .before .before .before .before .loop .at) (c .before .before .before .before .before .before .before .before .before .n .given .0 .0) (found (c .before .before .before .before .before .before .before .before))))
+within c = reaches (recordAt (now (c .before .before .before .before .before .before .before .before .before .before .before .before .before .before .before .before .before .before .before .before .before .before .before .before .args .list)) (c .before .before .before .before .before .before .before .before .before .before .before .before .before .before .before .loop .at) (c .before .before .before .before .before .before .before .before .before .n .given .0 .0)) _ (subst⁻¹ (λ (k : ℕ). 0 < length (drop k (recordAt (now (c .before .before .before .before .before .before .before .before .before .before .before .before .before .before .before .before .before .before .before .before .before .before .before .before .args .list)) (c .before .before .before .before .before .before .before .before .before .before .before .before .before .before .before .loop .at) (c .before .before .before .before .before .before .before .before .before .n .given .0 .0)))) (c .first-value .ensures) ((subst (JudgedInRange _) (c .before .before .d .given .1) (c .before .before .before .before .before .before .judge .ensures .1)) .1))
+  where
+    reaches : (l : List ℕ) (k : ℕ) → 0 < length (drop k l) → k < length l
+    reaches l k h = omega (arith, length-drop k l)
 
 sub-bytes : tie.Need-sub-bytes Inv-loop μ-loop
 sub-bytes c = omega (arith, within c)
@@ -286,9 +287,6 @@ enum-known-change c = search needs
 
 enum-known-change-2 : tie.Need-enum-known-change-2 Inv-loop μ-loop
 enum-known-change-2 c = search needs
-
-with-ports-requires : tie.Need-with-ports-requires Inv-loop μ-loop
-with-ports-requires c κs = search needs
 
 via-after-requires : tie.Need-via-after-requires Inv-loop μ-loop
 via-after-requires c κs = subst ChangeInRange (c .before .before .change3 .given .1) (c .before .before .before .before .before .before .before .act .ensures .1 .1)
@@ -412,7 +410,6 @@ run-accepted-spec =
     enum-told-2
     enum-known-change
     enum-known-change-2
-    with-ports-requires
     enum-known-change-3
     via-after-requires
     enum-known-change-4

@@ -20,7 +20,7 @@ returns : tie.Need-returns
 unfolding turnJudged
 returns c = (
   λ x e. let r : refusesOf x (c .before .before .before .x .given .0 .0) ≡ c .before .refuses .result = sym (c .before .refuses .ensures x e) in
-      turn-with x _ ∙ simp (← c .before .before .before .before .before .decode .ensures, c .before .before .before .x .given .1, r, ne-eqb _ _ (c .if1 .taken)),
+      turn-with x _ (c .before .before .before .before .before .before .before .pre) ∙ simp (← c .before .before .before .before .before .decode .ensures, c .before .before .before .x .given .1, r, ne-eqb _ _ (c .if1 .taken)),
   tt,
 )
 
@@ -34,19 +34,19 @@ returns-2 : tie.Need-returns-2
 unfolding turnJudged
 returns-2 c = (
   λ x e. let r : refusesOf x (c .before .before .before .x .given .0 .0) ≡ c .before .refuses .result = sym (c .before .refuses .ensures x e) in
-      turn-with x _ ∙ simp (← c .before .before .before .before .before .decode .ensures, c .before .before .before .x .given .1, r, eq-eqb _ _ (c .if1 .left)),
+      turn-with x _ (c .before .before .before .before .before .before .before .pre) ∙ simp (← c .before .before .before .before .before .decode .ensures, c .before .before .before .x .given .1, r, eq-eqb _ _ (c .if1 .left)),
   subst (JudgedInRange _) (sym (c .before .before .before .before .before .decode .ensures) ∙ c .before .before .before .x .given .1) (judged-range _ (c .before .before .before .before .before .before .before .pre)),
 )
 
 returns-3 : tie.Need-returns-3
 unfolding turnJudged
 returns-3 c =
-    (λ x e. turn-with x _ ∙ simp (← c .before .before .decode .ensures, c .enum-told .given .1), subst (JudgedInRange _) (sym (c .before .before .decode .ensures)) (judged-range _ (c .before .before .before .before .pre)))
+    (λ x e. turn-with x _ (c .before .before .before .before .pre) ∙ simp (← c .before .before .decode .ensures, c .enum-told .given .1), subst (JudgedInRange _) (sym (c .before .before .decode .ensures)) (judged-range _ (c .before .before .before .before .pre)))
 
 returns-4 : tie.Need-returns-4
 unfolding turnJudged
 returns-4 c =
-    (λ x e. turn-with x _ ∙ simp (← c .before .before .decode .ensures, c .enum-told2 .given .1), subst (JudgedInRange _) (sym (c .before .before .decode .ensures)) (judged-range _ (c .before .before .before .before .pre)))
+    (λ x e. turn-with x _ (c .before .before .before .before .pre) ∙ simp (← c .before .before .decode .ensures, c .enum-told2 .given .1), subst (JudgedInRange _) (sym (c .before .before .decode .ensures)) (judged-range _ (c .before .before .before .before .pre)))
 
 pub judge-spec : {M : Type 1} → statement M
 judge-spec =
