@@ -1,12 +1,13 @@
 // The clock in an image: the bytes of the half-made command and of the registers, and the cells, written in their places and read back.
 ghost use mathlib.Core.Path.{_≡_};
 ghost use Prim.Native.Nat.{_+_, _≤_};
-ghost use mathlib.Core.List.{_++_};
-ghost use lib.ListN.{length, take};
+ghost use mathlib.Core.List.{[], _∷_, _++_};
+ghost use lib.ListN.{length, take, drop};
 ghost use Rattle.octets.specs.Octets.{putAt};
+ghost use Rattle.clock_spec.specs.declared.Chip.{Chip};
 ghost use Rattle.clock_spec.specs.declared.Phase.{Phase};
-ghost use Rattle.image_spec.specs.Layout.{tailAt, moreCells, tailLength, imageLength, phaseAt, phaseLength, registersAt, registersLength, cellsAt, cellsLength, part};
-ghost use Rattle.image_spec.specs.ClockLayout.{phaseBytes, secondIn, secondByte, phaseBy, phaseOf, tailRoom, tailBytes, tailOf, registerLayout, registerBytes, storeFields, clockOf, StoreTyped};
+ghost use Rattle.image_spec.specs.Layout.{tailAt, tailLength, imageLength, phaseAt, phaseLength, registersAt, registersLength, cellsAt, cellsLength, part};
+ghost use Rattle.image_spec.specs.ClockLayout.{phaseBytes, secondIn, secondByte, phaseBy, phaseOf, tailBytes, registerLayout, registerBytes, storeFields, cellsRead, secondOf, clockOf, phaseExact, registersExact, clockExact, StoreTyped};
 use clock::Clock;
 use clock_command::ALL_CELLS;
 use clock_spec::Bytes;
@@ -22,7 +23,6 @@ use image_layout::PHASE_LENGTH;
 use image_layout::REGISTERS;
 use image_layout::REGISTERS_LENGTH;
 use image_layout::TAIL;
-use image_layout::TAIL_LENGTH;
 
 // The phase's number, the first command byte, the bits taken or the falls, their value or the byte sent.
 fn phase_bytes(p: Phase) -> [u8; PHASE_LENGTH]
@@ -162,25 +162,16 @@ fn put_first(image: &mut [u8], cells: &[u8])
 }
 
 // The later chip's other cells and the second command byte.
-fn tail_room(p: Phase, cells: &[u8]) -> [u8; TAIL_LENGTH]
+fn put_more(image: &mut [u8], cells: &[u8], second: u8)
+    requires { ⌜ imageLength Chip.Later ≤ length (now image) ⌝ }
     requires { ⌜ length (now cells) ≡ 256 ⌝ }
-    ensures { λ r. ⌜ r ≡ tailRoom p (now (cells .entry)) ⌝ }
+    ensures { λ _. ⌜ now (image .exit) ≡ putAt (now (image .entry)) tailAt (drop cellsLength (now (cells .entry)) ++ (second ∷ [])) ⌝ }
 {
-    let mut own = [0; TAIL_LENGTH];
-    octets::copy(&mut own, 0, &cells[CELLS_LENGTH..]);
-    own[MORE_CELLS] = second_byte(p);
-    own
+    octets::copy(image, TAIL, &cells[CELLS_LENGTH..]);
+    image[TAIL + MORE_CELLS] = second;
 }
 
-fn put_part(image: &mut [u8], tail: &[u8], n: usize)
-    requires { ⌜ n ≤ length (now tail) ⌝ }
-    requires { ⌜ tailAt + n ≤ length (now image) ⌝ }
-    ensures { λ _. ⌜ now (image .exit) ≡ putAt (now (image .entry)) tailAt (take n (now (tail .entry))) ⌝ }
-{
-    octets::copy(image, TAIL, &tail[0..n]);
-}
-
-// So much of them as the chip's images have.
+// What the chip's images have of them.
 pub fn put_tail(image: &mut [u8], c: Clock)
     requires { ⌜ imageLength (c .store .chip) ≤ length (now image) ⌝ }
     ensures { λ _. ⌜ now (image .exit) ≡ putAt (now (image .entry)) tailAt (tailBytes (c .store .chip) (c .phase) (c .store .cells)) ⌝ }
@@ -189,39 +180,39 @@ pub fn put_tail(image: &mut [u8], c: Clock)
     let s = c.store;
     let chip = s.chip;
     let cells = s.cells;
-    let tail = tail_room(p, &cells);
-    let n = image_layout::tail_length(chip);
-    put_part(image, &tail, n);
+    match chip {
+        Chip::First => {}
+        Chip::Later => put_more(image, &cells, second_byte(p)),
+    }
 }
 
-fn phase(image: &[u8], second: u8) -> Phase
-    requires { ⌜ tailAt ≤ length (now image) ⌝ }
-    ensures { λ r. ⌜ r ≡ phaseOf (part phaseAt phaseLength (now (image .entry))) second ⌝ }
+fn phase(s: &[u8], second: u8) -> Phase
+    requires { ⌜ length (now s) ≡ phaseLength ⌝ }
+    ensures { λ r. ⌜ r ≡ phaseOf (now (s .entry)) second ⌝ }
 {
-    let mut b = [0; PHASE_LENGTH];
-    octets::copy(&mut b, 0, &image[PHASE..REGISTERS]);
-    phase_of(b[0], b[1], second, b[2], b[3])
+    phase_of(s[0], s[1], second, s[2], s[3])
 }
 
-// The tail as it is read: what the image does not have is 0.
-fn tail(image: &[u8], n: usize) -> [u8; TAIL_LENGTH]
-    requires { ⌜ tailAt + n ≤ length (now image) ⌝ }
-    requires { ⌜ n ≤ moreCells + 1 ⌝ }
-    ensures { λ r. ⌜ r ≡ tailOf (part tailAt n (now (image .entry))) ⌝ }
+// The second command byte: an image without one has 0.
+fn second(image: &[u8], chip: Chip) -> u8
+    requires { ⌜ imageLength chip ≤ length (now image) ⌝ }
+    ensures { λ r. ⌜ r ≡ secondOf (part tailAt (tailLength chip) (now (image .entry))) ⌝ }
 {
-    let mut own = [0; TAIL_LENGTH];
-    octets::copy(&mut own, 0, &image[TAIL..TAIL + n]);
-    own
+    match chip {
+        Chip::First => 0,
+        Chip::Later => image[TAIL + MORE_CELLS],
+    }
 }
 
-fn cells(image: &[u8], tail: &[u8]) -> [u8; ALL_CELLS]
-    requires { ⌜ tailAt ≤ length (now image) ⌝ }
-    requires { ⌜ length (now tail) ≡ moreCells + 1 ⌝ }
-    ensures { λ r. ⌜ r ≡ part cellsAt cellsLength (now (image .entry)) ++ take moreCells (now (tail .entry)) ⌝ }
+// The cells: what the image does not have is 0.
+fn cells(image: &[u8], chip: Chip) -> [u8; ALL_CELLS]
+    requires { ⌜ imageLength chip ≤ length (now image) ⌝ }
+    ensures { λ r. ⌜ r ≡ cellsRead (part cellsAt cellsLength (now (image .entry))) (part tailAt (tailLength chip) (now (image .entry))) ⌝ }
 {
+    let more = clock_command::cell_count(chip) - CELLS_LENGTH;
     let mut own = [0; ALL_CELLS];
     octets::copy(&mut own, 0, &image[CELLS..LINES]);
-    octets::copy(&mut own, CELLS_LENGTH, &tail[0..MORE_CELLS]);
+    octets::copy(&mut own, CELLS_LENGTH, &image[TAIL..TAIL + more]);
     own
 }
 
@@ -238,13 +229,41 @@ pub fn clock(image: &[u8], chip: Chip) -> Clock
     requires { ⌜ imageLength chip ≤ length (now image) ⌝ }
     ensures { λ r. ⌜ r ≡ clockOf chip (part phaseAt phaseLength (now (image .entry))) (part registersAt registersLength (now (image .entry))) (part cellsAt cellsLength (now (image .entry))) (part tailAt (tailLength chip) (now (image .entry))) ⌝ }
 {
-    let n = image_layout::tail_length(chip);
-    let t = tail(image, n);
-    let second = t[MORE_CELLS];
+    let d = second(image, chip);
     let b = registers(image);
-    let c = cells(image, &t);
+    let c = cells(image, chip);
     Clock {
-        phase: phase(image, second),
+        phase: phase(&image[PHASE..REGISTERS], d),
         store: store_of(chip, b, c),
     }
+}
+
+// Whether the bytes are those of the phase that they stand for.
+fn exact_phase(s: &[u8], second: u8) -> bool
+    requires { ⌜ length (now s) ≡ phaseLength ⌝ }
+    ensures { λ r. ⌜ r ≡ phaseExact (now (s .entry)) second ⌝ }
+{
+    let p = phase(s, second);
+    let own = phase_bytes(p);
+    image_layout::same(&own, s) & (second_byte(p) == second)
+}
+
+// Whether the bytes are those of the registers that they stand for, whatever the chip and the cells. Compiled, this asks the flag alone.
+fn exact_registers(b: [u8; REGISTERS_LENGTH]) -> bool
+    ensures { λ r. ⌜ r ≡ registersExact b ⌝ }
+{
+    let none = [0; ALL_CELLS];
+    let own = register_bytes(store_of(Chip::First, b, none));
+    image_layout::same(&own, &b)
+}
+
+// Whether the bytes are those of the clock that they stand for: its cells stand as they are read.
+pub fn exact(image: &[u8], chip: Chip) -> bool
+    requires { ⌜ imageLength chip ≤ length (now image) ⌝ }
+    ensures { λ r. ⌜ r ≡ clockExact (part phaseAt phaseLength (now (image .entry))) (part registersAt registersLength (now (image .entry))) (part tailAt (tailLength chip) (now (image .entry))) ⌝ }
+{
+    let d = second(image, chip);
+    let p = exact_phase(&image[PHASE..REGISTERS], d);
+    let r = exact_registers(registers(image));
+    p & r
 }

@@ -4,7 +4,7 @@ ghost use Prim.Native.Nat.{_≤_};
 ghost use lib.ListN.{length};
 ghost use Rattle.octets.specs.Octets.{putAt};
 ghost use Rattle.image_spec.specs.Layout.{tailAt, internalAt, externalAt, strobeAt, driveLength, strobeLength, part};
-ghost use Rattle.image_spec.specs.DriveLayout.{driveLayout, driveBytes, driveFields, driveOf, strobeLayout, strobeBytes, strobeFields, strobeOf, drivesOf, DrivesTyped};
+ghost use Rattle.image_spec.specs.DriveLayout.{driveLayout, driveBytes, driveFields, driveOf, strobeLayout, strobeBytes, strobeFields, strobeOf, drivesOf, driveExact, strobeExact, drivesExact, DrivesTyped};
 use disk_spec::Drive;
 use disk_spec::Drives;
 use disk_spec::Strobe;
@@ -111,4 +111,32 @@ pub fn drives(image: &[u8]) -> Drives
         external: drive(&image[EXTERNAL..STROBE]),
         strobe: strobe(&image[STROBE..TAIL]),
     }
+}
+
+// Whether the bytes are those of the drive that they stand for. Compiled, this asks the flags alone.
+fn exact_drive(s: &[u8]) -> bool
+    requires { ⌜ length (now s) ≡ driveLength ⌝ }
+    ensures { λ r. ⌜ r ≡ driveExact (now (s .entry)) ⌝ }
+{
+    let own = drive_bytes(drive(s));
+    image_layout::same(&own, s)
+}
+
+fn exact_strobe(s: &[u8]) -> bool
+    requires { ⌜ length (now s) ≡ strobeLength ⌝ }
+    ensures { λ r. ⌜ r ≡ strobeExact (now (s .entry)) ⌝ }
+{
+    let own = strobe_bytes(strobe(s));
+    image_layout::same(&own, s)
+}
+
+// Whether the bytes are those of the drives that they stand for.
+pub fn exact(image: &[u8]) -> bool
+    requires { ⌜ tailAt ≤ length (now image) ⌝ }
+    ensures { λ r. ⌜ r ≡ drivesExact (part internalAt driveLength (now (image .entry))) (part externalAt driveLength (now (image .entry))) (part strobeAt strobeLength (now (image .entry))) ⌝ }
+{
+    let i = exact_drive(&image[INTERNAL..EXTERNAL]);
+    let e = exact_drive(&image[EXTERNAL..STROBE]);
+    let s = exact_strobe(&image[STROBE..TAIL]);
+    i & e & s
 }

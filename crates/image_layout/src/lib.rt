@@ -3,7 +3,7 @@ ghost use mathlib.Core.Path.{_≡_};
 ghost use Prim.Native.Nat.{_≤_};
 ghost use lib.ListN.{length};
 ghost use Rattle.octets.specs.Octets.{putAt};
-ghost use Rattle.image_spec.specs.Layout.{linesLength, inputsLength, senseLength, linesAt, inputsAt, senseAt, tailAt, tailLength, imageLength, part, kindBytes, headBytes, chipOf, sameBytes};
+ghost use Rattle.image_spec.specs.Layout.{linesLength, inputsLength, senseLength, linesAt, inputsAt, senseAt, tailAt, tailLength, imageLength, part, kindBytes, headLength, headBytes, headExact, chipOf, sameBytes};
 use clock_spec::Chip;
 
 // The kinds of images: the first chip's, and the later one's.
@@ -59,10 +59,7 @@ pub const TAIL: usize = STROBE + STROBE_LENGTH;
 
 pub const MORE_CELLS: usize = clock_command::ALL_CELLS - clock_command::FIRST_CELLS;
 
-pub const TAIL_LENGTH: usize = MORE_CELLS + 1;
-
-// The length of the longest image.
-pub const LENGTH: usize = TAIL + TAIL_LENGTH;
+const TAIL_LENGTH: usize = MORE_CELLS + 1;
 
 pub fn tail_length(chip: Chip) -> usize
     ensures { λ r. ⌜ r ≡ tailLength chip ⌝ }
@@ -101,14 +98,29 @@ pub fn chip_of(image: &[u8]) -> Chip
 }
 
 // The length of what follows it, and the kind.
+fn head(chip: Chip) -> [u8; HEAD_LENGTH]
+    ensures { λ r. ⌜ r ≡ headBytes chip ⌝ }
+{
+    let n = image_length(chip) - 2;
+    let k = kind(chip);
+    [(n % 256) as u8, (n / 256 % 256) as u8, k[0], k[1]]
+}
+
 pub fn put_head(image: &mut [u8], chip: Chip)
     requires { ⌜ tailAt ≤ length (now image) ⌝ }
     ensures { λ _. ⌜ now (image .exit) ≡ putAt (now (image .entry)) 0 (headBytes chip) ⌝ }
 {
-    let n = image_length(chip) - 2;
-    let k = kind(chip);
-    let head = [(n % 256) as u8, (n / 256 % 256) as u8, k[0], k[1]];
-    octets::copy(image, 0, &head);
+    let b = head(chip);
+    octets::copy(image, 0, &b);
+}
+
+// Whether the image has the chip's head.
+pub fn exact_head(image: &[u8], chip: Chip) -> bool
+    requires { ⌜ tailAt ≤ length (now image) ⌝ }
+    ensures { λ r. ⌜ r ≡ headExact chip (part 0 headLength (now (image .entry))) ⌝ }
+{
+    let b = head(chip);
+    same(&b, &image[0..VIA])
 }
 
 // The eight disk lines, the IN lines and the sense levels, written in their places.

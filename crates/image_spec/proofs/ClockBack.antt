@@ -1,14 +1,14 @@
 -- The clock's parts: as long as the layout says, and read back what was written.
 use Prim.Native.Nat.{ℕ, _+_, _≤_, _<_}
 use mathlib.Core.Path.{_≡_, refl, sym, ap, ap₂, subst, _∙_}
-use mathlib.Core.Bool.{Bool, true, false, _&&_, not, false≢true}
+use mathlib.Core.Bool.{Bool, true, false, cond, _&&_, and-true, not, false≢true}
 use mathlib.Core.List.{List, [], _∷_, _++_}
 use native.Mathlib.Omega.{arith}
 use native.Mathlib.Nat.{le-of-eq}
-use lib.Dec.{ltb}
-use lib.ListN.{length, getD, take, drop, replicate, length-append, length-drop, length-replicate, take-append-drop}
-use lib.Seq.{take-all, take-at, getD-at, length-take-le}
-use borrow.Author.Tests.{ltb-true}
+use lib.Dec.{eqb, ltb}
+use lib.ListN.{length, getD, take, drop, replicate, length-append, length-drop, length-replicate, take-append-drop, drop-of-length-le}
+use lib.Seq.{take-all, take-at, take-suc, drop-at, getD-at, length-take-le}
+use borrow.Author.Tests.{ltb-true, eq-eqb}
 use Rattle.levels.specs.Levels.{allBelow}
 use Rattle.levels.proofs.Laws.{both}
 use Rattle.octets.specs.Octets.{putAt}
@@ -28,10 +28,11 @@ use Rattle.clock_spec.specs.declared.Phase.{Phase}
 use Rattle.clock_spec.specs.declared.Phase.the-variants.{Idle, Listening, Sending, Ignoring}
 use Rattle.clock_spec.specs.declared.Store.{Store}
 use Rattle.clock.specs.declared.Clock.{Clock}
-use Rattle.image_spec.specs.Layout.{phaseLength, registersLength, cellsLength, moreCells, tailLength}
+use Rattle.image_spec.specs.Layout.{phaseLength, registersLength, cellsLength, moreCells, tailLength, sameBytes}
 use Rattle.image_spec.proofs.Numbers.{flag-back, back32, width32}
-use Rattle.image_spec.proofs.Parts.{whole}
-use Rattle.image_spec.specs.ClockLayout.{phaseBytes, secondByte, phaseBy, phaseOf, tailRoom, tailBytes, tailOf, registerBytes, storeOf, cellsRead, clockOf, StoreTyped}
+use Rattle.image_spec.proofs.Parts.{whole, same-more}
+use Rattle.image_spec.proofs.Equal.{same-refl}
+use Rattle.image_spec.specs.ClockLayout.{phaseBytes, secondByte, phaseBy, phaseOf, tailRoom, tailBytes, tailOf, registerBytes, storeOf, cellsRead, secondOf, clockOf, StoreTyped}
 
 pub phase-long : (p : Phase) → length (phaseBytes p) ≡ phaseLength
 unfolding phaseBytes
@@ -116,6 +117,44 @@ tail-back Later p e cells l u a =
       second = ap (λ (x : List ℕ). getD x 236 0) w ∙ getD-at (drop cellsLength cells) (secondByte p) [] 0 236 n;
     }
 
+-- ---- the tail's very bytes
+
+-- Without a second command byte read there is none in the phase.
+second-none : (k c n v : ℕ) → secondByte (phaseBy k c 0 n v) ≡ 0
+unfolding phaseBy secondByte
+second-none k c n v = go (eqb k 0) (eqb k 1) (eqb k 2) (eqb k 3) (eqb k 5)
+  where
+    go : (h i j l m : Bool)
+        → secondByte (cond h Idle (cond i (Listening Nothing n v) (cond j (Listening (One c) n v) (cond l (Sending v n) (cond m (Listening (Two c 0) n v) Ignoring))))) ≡ 0
+    go true i j l m = refl
+    go false true j l m = refl
+    go false false true l m = refl
+    go false false false true m = refl
+    go false false false false true = refl
+    go false false false false false = refl
+
+-- The cells of the tail stand as they are read, so that it goes by the second command byte.
+pub tail-exact : (k : Chip) (b first t : List ℕ) → length first ≡ cellsLength → length t ≡ tailLength k
+    → sameBytes (tailBytes k (phaseOf b (secondOf t)) (cellsRead first t)) t ≡ eqb (secondByte (phaseOf b (secondOf t))) (secondOf t)
+unfolding tailBytes tailOf sameBytes
+tail-exact First b first [] l n = sym (eq-eqb _ 0 (second-none (getD b 0 0) (getD b 1 0) (getD b 2 0) (getD b 3 0)))
+tail-exact First b first (x ∷ t) l n = absurd (omega (arith, n))
+tail-exact Later b first t l n =
+    let w : putAt (replicate 237 0) 0 t ≡ t = whole (replicate 237 0) t (length-replicate {A = ℕ} 237 0 ∙ sym n) in
+    let y : ℕ = secondByte (phaseOf b (secondOf t)) in
+    let x : List ℕ = take 236 t in
+    let m : length x ≡ 236 = length-take-le 236 t (omega (arith, n)) in
+    let r : drop cellsLength (cellsRead first t) ≡ x = drop-at first (take 236 (putAt (replicate 237 0) 0 t)) cellsLength l ∙ ap (take 236) w in
+    let u : length (x ++ (y ∷ [])) ≡ 237 = omega (arith, length-append x (y ∷ []), m) in
+    let d : getD t 236 0 ≡ secondOf t = ap (λ (z : List ℕ). getD z 236 0) (sym w) in
+    let whole-t : t ≡ x ++ (secondOf t ∷ []) = sym (take-all 237 t (le-of-eq n)) ∙ take-suc t 236 0 (omega (arith, n)) ∙ ap (λ (z : ℕ). x ++ (z ∷ [])) d in
+    ap (λ (z : List ℕ). sameBytes (take 237 (z ++ (y ∷ []))) t) r
+    ∙ ap (λ (z : List ℕ). sameBytes z t) (take-all 237 (x ++ (y ∷ [])) (le-of-eq u))
+    ∙ ap (sameBytes (x ++ (y ∷ []))) whole-t
+    ∙ same-more x x (y ∷ []) (secondOf t ∷ []) refl
+    ∙ ap (λ (z : Bool). z && (eqb y (secondOf t) && true)) (same-refl x)
+    ∙ and-true (eqb y (secondOf t))
+
 -- ---- the whole
 
 pub registers-long : (s : Store) → length (registerBytes s) ≡ registersLength
@@ -153,3 +192,10 @@ read-long k first t l h =
     let n : length r ≡ 237 = length-replicate {A = ℕ} 237 0 in
     let q : length (putAt r 0 t) ≡ 237 = put-length r 0 t (omega (arith, tail-most k)) ∙ n in
     omega (arith, length-append first (take 236 (putAt r 0 t)), length-take-le 236 (putAt r 0 t) (omega arith))
+
+-- The cells that the chip does not have are read as 0.
+pub read-clear : (k : Chip) (b first t : List ℕ) → length first ≡ cellsLength → length t ≡ tailLength k → unusedClear (storeOf k b (cellsRead first t)) ≡ true
+unfolding unusedClear storeOf tailOf allBelow
+read-clear First b first [] l n = ap (allBelow 1) (drop-at first (take 236 (putAt (replicate 237 0) 0 [])) cellsLength l)
+read-clear First b first (x ∷ t) l n = absurd (omega (arith, n))
+read-clear Later b first t l n = ap (allBelow 1) (drop-of-length-le (cellsRead first t) (le-of-eq (read-long Later first t l n)))

@@ -1,7 +1,7 @@
 -- The clock's parts of an image: the half-made command, the registers and the cells; their layout, and how they are read.
 use Prim.Native.Nat.{ℕ, _+_, _<_}
 use mathlib.Core.Path.{_≡_}
-use mathlib.Core.Bool.{cond}
+use mathlib.Core.Bool.{Bool, cond, _&&_}
 use mathlib.Core.List.{List, [], _∷_, _++_}
 use lib.ListN.{length, getD, take, drop, replicate}
 use lib.Dec.{eqb}
@@ -15,7 +15,7 @@ use Rattle.clock_spec.specs.declared.Phase.{Phase}
 use Rattle.clock_spec.specs.declared.Phase.the-variants.{Idle, Listening, Sending, Ignoring}
 use Rattle.clock_spec.specs.declared.Store.{Store}
 use Rattle.clock.specs.declared.Clock.{Clock}
-use Rattle.image_spec.specs.Layout.{moreCells, tailLength, bytes32, flagByte, number32, flagAt}
+use Rattle.image_spec.specs.Layout.{moreCells, tailLength, bytes32, flagByte, number32, flagAt, sameBytes}
 
 -- The half-made command: which phase, the first command byte, bits taken or falls, their value or the byte sent. "Room not in use holds 0."
 unfoldable pub phaseBytes : Phase → List ℕ
@@ -90,9 +90,24 @@ storeOf k b cells = storeFields k b cells
 abbrev pub cellsRead : List ℕ → List ℕ → List ℕ
 cellsRead first t = first ++ take moreCells (tailOf t)
 
+-- The second command byte as it is read.
+abbrev pub secondOf : List ℕ → ℕ
+secondOf t = getD (tailOf t) moreCells 0
+
 -- The clock of its parts.
 unfoldable pub clockOf : Chip → List ℕ → List ℕ → List ℕ → List ℕ → Clock
-clockOf k p b first t = record { phase = phaseOf p (getD (tailOf t) moreCells 0); store = storeOf k b (cellsRead first t) }
+clockOf k p b first t = record { phase = phaseOf p (secondOf t); store = storeOf k b (cellsRead first t) }
+
+-- Whether these are the very bytes of the clock that they stand for: of its half-made command, with the second command byte, and of its registers. Cells
+-- stand as they are read, and the registers' bytes go by neither them nor the chip.
+abbrev pub phaseExact : List ℕ → ℕ → Bool
+phaseExact p d = sameBytes (phaseBytes (phaseOf p d)) p && eqb (secondByte (phaseOf p d)) d
+
+abbrev pub registersExact : List ℕ → Bool
+registersExact b = sameBytes (registerBytes (storeOf First b [])) b
+
+abbrev pub clockExact : List ℕ → List ℕ → List ℕ → Bool
+clockExact p b t = phaseExact p (secondOf t) && registersExact b
 
 -- What the struct's type says of its numbers and cells.
 abbrev pub StoreTyped : Store → Type 0

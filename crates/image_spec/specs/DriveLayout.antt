@@ -1,11 +1,12 @@
 -- The drives' parts of an image: each drive and the strobe; their layout, and how they are read.
 use Prim.Native.Nat.{ℕ, _<_}
+use mathlib.Core.Bool.{Bool, _&&_}
 use mathlib.Core.List.{List, [], _∷_, _++_}
 use lib.ListN.{getD}
 use Rattle.disk_spec.specs.declared.Drive.{Drive}
 use Rattle.disk_spec.specs.declared.Strobe.{Strobe}
 use Rattle.disk_spec.specs.declared.Drives.{Drives}
-use Rattle.image_spec.specs.Layout.{bytes16, bytes32, flagByte, number16, number32, flagAt}
+use Rattle.image_spec.specs.Layout.{bytes16, bytes32, flagByte, number16, number32, flagAt, sameBytes}
 
 -- W-203: a drive's track, direction, disk, locked, double-sided, motor, VIA ticks left of a pending step, and that step's own direction.
 abbrev pub driveLayout : Drive → List ℕ
@@ -55,6 +56,16 @@ strobeOf b = strobeFields b
 -- The drives of their three parts.
 abbrev pub drivesOf : List ℕ → List ℕ → List ℕ → Drives
 drivesOf a b c = record { internal = driveOf a; external = driveOf b; strobe = strobeOf c }
+
+-- Whether these are the very bytes of the drives that they stand for.
+abbrev pub driveExact : List ℕ → Bool
+driveExact b = sameBytes (driveBytes (driveOf b)) b
+
+abbrev pub strobeExact : List ℕ → Bool
+strobeExact b = sameBytes (strobeBytes (strobeOf b)) b
+
+abbrev pub drivesExact : List ℕ → List ℕ → List ℕ → Bool
+drivesExact a b c = driveExact a && driveExact b && strobeExact c
 
 -- What the struct's type says of its numbers.
 abbrev pub DrivesTyped : Drives → Type 0

@@ -146,3 +146,7 @@ sameBytes [] [] = true
 sameBytes [] (y ∷ ys) = false
 sameBytes (x ∷ xs) [] = false
 sameBytes (x ∷ xs) (y ∷ ys) = eqb x y && sameBytes xs ys
+
+-- Whether these are the very bytes of the chip's head.
+abbrev pub headExact : Chip → List ℕ → Bool
+headExact k b = sameBytes (headBytes k) b

@@ -1,9 +1,10 @@
 -- The VIA's part of an image: its layout, and how it is read.
 use Prim.Native.Nat.{ℕ, _<_}
+use mathlib.Core.Bool.{Bool}
 use mathlib.Core.List.{List, [], _∷_, _++_}
 use lib.ListN.{getD}
 use Rattle.via.specs.declared.Via.{Via}
-use Rattle.image_spec.specs.Layout.{bytes16, flagByte, number16, flagAt}
+use Rattle.image_spec.specs.Layout.{bytes16, flagByte, number16, flagAt, sameBytes}
 
 -- The ports, T1, T2, the other registers and the count of pulses.
 abbrev pub viaLayout : Via → List ℕ
@@ -37,6 +38,10 @@ viaFields b =
 -- The same, opened only where a proof asks for it.
 unfoldable pub viaOf : List ℕ → Via
 viaOf b = viaFields b
+
+-- Whether these are the very bytes of the VIA that they stand for.
+abbrev pub viaExact : List ℕ → Bool
+viaExact b = sameBytes (viaBytes (viaOf b)) b
 
 -- What the struct's type says of its numbers.
 abbrev pub ViaTyped : Via → Type 0

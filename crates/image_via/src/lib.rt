@@ -4,7 +4,7 @@ ghost use Prim.Native.Nat.{_≤_};
 ghost use lib.ListN.{length};
 ghost use Rattle.octets.specs.Octets.{putAt};
 ghost use Rattle.image_spec.specs.Layout.{tailAt, viaAt, viaLength, part};
-ghost use Rattle.image_spec.specs.ViaLayout.{viaLayout, viaBytes, viaFields, viaOf, ViaTyped};
+ghost use Rattle.image_spec.specs.ViaLayout.{viaLayout, viaBytes, viaFields, viaOf, viaExact, ViaTyped};
 use image_layout::PHASE;
 use image_layout::VIA;
 use image_layout::VIA_LENGTH;
@@ -81,11 +81,28 @@ pub fn put_via(image: &mut [u8], v: Via)
     octets::copy(image, VIA, &b);
 }
 
+fn bytes(image: &[u8]) -> [u8; VIA_LENGTH]
+    requires { ⌜ tailAt ≤ length (now image) ⌝ }
+    ensures { λ r. ⌜ r ≡ part viaAt viaLength (now (image .entry)) ⌝ }
+{
+    let mut b = [0; VIA_LENGTH];
+    octets::copy(&mut b, 0, &image[VIA..PHASE]);
+    b
+}
+
 pub fn via(image: &[u8]) -> Via
     requires { ⌜ tailAt ≤ length (now image) ⌝ }
     ensures { λ r. ⌜ r ≡ viaOf (part viaAt viaLength (now (image .entry))) ⌝ }
 {
-    let mut b = [0; VIA_LENGTH];
-    octets::copy(&mut b, 0, &image[VIA..PHASE]);
-    via_of(b)
+    via_of(bytes(image))
+}
+
+// Whether the bytes are those of the VIA that they stand for. Compiled, this asks the flags alone.
+pub fn exact(image: &[u8]) -> bool
+    requires { ⌜ tailAt ≤ length (now image) ⌝ }
+    ensures { λ r. ⌜ r ≡ viaExact (part viaAt viaLength (now (image .entry))) ⌝ }
+{
+    let b = bytes(image);
+    let own = via_bytes(via_of(b));
+    image_layout::same(&own, &b)
 }

@@ -3,6 +3,8 @@ ghost use mathlib.Core.Path.{_≡_};
 ghost use Prim.Native.Nat.{_≤_};
 ghost use lib.ListN.{length};
 ghost use Rattle.item_spec.specs.Kinds.{isKind, decodedOf};
+ghost use Rattle.item_many.specs.LastWrite.{asLastWrite};
+ghost use Rattle.item_decode.specs.Values.{firstValue};
 use item_spec::Decoded;
 use item_spec::Plain;
 
@@ -14,10 +16,10 @@ pub fn is(s: &[u8], kind: &[u8; 2]) -> bool
     s[0] == kind[0] && s[1] == kind[1]
 }
 
-// A record's bytes after its length: an item, or refusal 2, 3, 4, 5 or 9.
+// A record's bytes after its length: an item, or refusal 2, 3, 4, 5 or 9. Of an MW the item is its last write.
 pub fn decode(s: &[u8]) -> Decoded
     requires { ⌜ 2 ≤ length (now s) ⌝ }
-    ensures { λ r. ⌜ r ≡ decodedOf (now (s .entry)) ⌝ }
+    ensures { λ r. ⌜ r ≡ asLastWrite (now (s .entry)) (decodedOf (now (s .entry))) ⌝ }
 {
     if is(s, b"RD") {
         return item_plain::read_item(s);
@@ -53,4 +55,15 @@ pub fn decode(s: &[u8]) -> Decoded
         return item_ranged::pulse_item(s);
     }
     Decoded::Refused(2)
+}
+
+// Where a record's values begin among its bytes after the length.
+pub fn first_value(s: &[u8]) -> usize
+    requires { ⌜ 2 ≤ length (now s) ⌝ }
+    ensures { λ r. ⌜ r ≡ firstValue (now (s .entry)) ⌝ }
+{
+    if s[0] == b'M' {
+        return 9;
+    }
+    s.len() - 1
 }

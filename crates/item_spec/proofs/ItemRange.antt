@@ -26,27 +26,27 @@ use Rattle.item_spec.specs.declared.Found.the-variants.{Via, Iwm, Nowher
 use Rattle.item_spec.proofs.Addresses.{found-via, found-iwm}
 
 -- P holds of the item, Q of the many writes, if there is one
-abbrev Good : (Item → Type 0) → (Many → Type 0) → Decoded → Type 0
+abbrev pub Good : (Item → Type 0) → (Many → Type 0) → Decoded → Type 0
 Good P Q (Done x) = P x
 Good P Q (Decoded.Many x) = Q x
 Good P Q (Refused n) = Unit {0}
 
 module _ (P : Item → Type 0) (Q : Many → Type 0) where
-  good-cond : (t : Bool) (x y : Decoded) → Good P Q x → Good P Q y → Good P Q (cond t x y)
+  pub good-cond : (t : Bool) (x y : Decoded) → Good P Q x → Good P Q y → Good P Q (cond t x y)
   good-cond true x y g h = g
   good-cond false x y g h = h
 
-  good-sized : (s : List ℕ) (n : ℕ) (x : Decoded) → Good P Q x → Good P Q (ofLength s n x)
+  pub good-sized : (s : List ℕ) (n : ℕ) (x : Decoded) → Good P Q x → Good P Q (ofLength s n x)
   good-sized s n x g = good-cond (eqb (length s) n) x (Refused 3) g tt
 
-  good-upTo : (v most : ℕ) (x : Decoded) → (v ≤ most → Good P Q x) → Good P Q (atMost v most x)
+  pub good-upTo : (v most : ℕ) (x : Decoded) → (v ≤ most → Good P Q x) → Good P Q (atMost v most x)
   good-upTo v most x g = go (ltb most v) refl
     where
       go : (t : Bool) → ltb most v ≡ t → Good P Q (cond t (Refused 5) x)
       go true e = tt
       go false e = g (ltb-false _ _ e)
 
-  good-placed : (a : ℕ) (f g : ℕ → Decoded) → ((r : ℕ) → r < 16 → Good P Q (f r)) → ((k : ℕ) → k < 16 → Good P Q (g k)) → Good P Q (atAddress (foundOf a) f g)
+  pub good-placed : (a : ℕ) (f g : ℕ → Decoded) → ((r : ℕ) → r < 16 → Good P Q (f r)) → ((k : ℕ) → k < 16 → Good P Q (g k)) → Good P Q (atAddress (foundOf a) f g)
   good-placed a f g p q = go (foundOf a) refl
     where
       go : (x : Found) → foundOf a ≡ x → Good P Q (atAddress x f g)
@@ -70,7 +70,7 @@ module _ (P : Item → Type 0) (Q : Many → Type 0) where
           let k : getD s 8 0 ≡ 0 → ⊥ = eqb-false _ _ p in
           q (omega arith) (omega arith)
 
-  good-many : (s : List ℕ) → ((b : Bool) (n : ℕ) → foundOf (le32Of s 4) ≡ placeOf b n → n < 16 → 10 ≤ length s → length s ≤ 73 → Q (manyAt s b n)) → Good P Q (manyRecord s)
+  pub good-many : (s : List ℕ) → ((b : Bool) (n : ℕ) → foundOf (le32Of s 4) ≡ placeOf b n → n < 16 → 10 ≤ length s → length s ≤ 73 → Q (manyAt s b n)) → Good P Q (manyRecord s)
   unfolding manyRecord
   good-many s q = good-cond (ltb (length s) 9) _ _ tt (go (foundOf (le32Of s 4)) refl)
     where
@@ -80,7 +80,7 @@ module _ (P : Item → Type 0) (Q : Many → Type 0) where
       go Nowhere e = tt
 
   -- the table of kinds, once for every P and Q
-  good-all : (s : List ℕ) → Good P Q (readRecord s) → Good P Q (writeRecord s) → ((k : Plain) → Good P Q (plainRecord s k)) → Good P Q (lineRecord s) → Good P Q (senseRecord s) → Good P Q (powerRecord s)
+  pub good-all : (s : List ℕ) → Good P Q (readRecord s) → Good P Q (writeRecord s) → ((k : Plain) → Good P Q (plainRecord s k)) → Good P Q (lineRecord s) → Good P Q (senseRecord s) → Good P Q (powerRecord s)
       → Good P Q (diskRecord s) → Good P Q (manyRecord s) → Good P Q (pulseRecord s) → Good P Q (decodedOf s)
   unfolding decodedOf
   good-all s rd wr plain line sn pw di mw kc =

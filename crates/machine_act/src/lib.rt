@@ -4,29 +4,29 @@ ghost use mathlib.Core.Path.{_≡_};
 ghost use mathlib.Core.Bool.{true};
 ghost use Prim.Native.Nat.{ℕ, _<_, _+_, _*_};
 ghost use mathlib.Core.List.{List};
-ghost use lib.ListN.{getD};
+ghost use lib.ListN.{length, getD};
 ghost use Rattle.levels.specs.Levels.{allLevels};
-ghost use Rattle.clock_spec.specs.Phase.{shownLevel, acceptedPhase};
-ghost use Rattle.clock.specs.Step.{stepWires};
-ghost use Rattle.clock_parts.specs.Parts.{wholeClock};
+ghost use Rattle.clock_spec.specs.Phase.{shownLevel};
 ghost use Rattle.disk_lines.specs.Lines.{readLine, senseAt};
-ghost use Rattle.disk_spec.specs.Drives.{drivesShown};
+ghost use Rattle.disk_spec.specs.Drives.{drivesShown, drivesAfter};
 ghost use Rattle.item_spec.specs.Items.{ItemInRange};
 ghost use Rattle.via.specs.Registers.{valueRead, flagsRead};
+ghost use Rattle.via.specs.Setters.{withSr, withFlags, withPulses};
 ghost use Rattle.via.specs.Shift.{pulsesAccessed};
-ghost use Rattle.via.specs.Writes.{portsWritten, viaWritten};
-ghost use Rattle.machine_spec.specs.Pins.{wiresOf, selOf};
+ghost use Rattle.machine_spec.specs.Pins.{selOf};
 ghost use Rattle.machine_spec.specs.Wiring.{inputsOf};
 ghost use Rattle.machine_pins.specs.declared.Board.{Board};
 ghost use Rattle.machine_spec.specs.Machine.{Levels};
 ghost use Rattle.machine_spec.specs.Stages.{itemWait};
 ghost use Rattle.machine_spec.specs.Action.{actedOf};
+ghost use Rattle.machine_write.specs.Values.{viaAfter, spoiltIf, registerWritten};
 ghost use Rattle.machine_act.specs.declared.Change.the-variants.{Shift};
-ghost use Rattle.machine_act.specs.Parts.{wholeMachine, boardVia, boardChange, senseChange, machineAfter, clockedOf, ChangeInRange, PhaseAccepted};
+ghost use Rattle.machine_act.specs.Parts.{wholeMachine, boardVia, boardChange, senseChange, machineAfter, clockedBy, selMoved, ChangeInRange, PhaseAccepted};
 use clock_command::Engine;
 use clock_parts::Core;
 use disk_lines::DiskLines;
 use disk_spec::Drives;
+use disk_spec::Watched;
 use item_spec::Item;
 use machine_pins::Board;
 use machine_spec::Machine;
@@ -41,8 +41,8 @@ pub enum Change {
     Flags(u8),
     // The VIA's ports, by a write to port B or to its direction.
     Ports(Ports),
-    // Another VIA register, and the value written to it.
-    Register(u8, u8),
+    // Another VIA register, to which the item's values are written.
+    Register(u8),
     // An IN line, and a sense register, each with its level.
     Line(usize, u8),
     Sense(usize, u8),
@@ -133,51 +133,18 @@ fn iwm_value(d: DiskLines, drives: Drives, location: u8, ports: Ports, sense: &[
     d.read(location, disk_drives::shown(drives, at, stored))
 }
 
-// The ports once a value is written to a register. They are made whole, not changed byte by byte: a byte stored makes the next look at all four wait for it.
-fn ports_written(p: Ports, register: u8, value: u8) -> Ports
-    ensures { λ r. ⌜ r ≡ portsWritten register value p ⌝ }
-{
-    Ports {
-        outb: via_bits::pick(register == 0, value, p.outb),
-        outa: via_bits::pick((register == 1) | (register == 15), value, p.outa),
-        dirb: via_bits::pick(register == 2, value, p.dirb),
-        dira: via_bits::pick(register == 3, value, p.dira),
-    }
-}
-
-// The clock's look at its wires, where a VIA register is written: port B's output and its direction alone move them.
-pub fn clocked(
-    engine: Engine,
-    k: Core,
-    ports: Ports,
-    register: u8,
-    value: u8,
-    cells: &mut [u8; 256],
-) -> Core
-    requires { ⌜ acceptedPhase (k .chip) (k .phase) (wiresOf ports (shownLevel (k .phase)) .enable) ≡ true ⌝ }
-    ensures { λ r. ⌜ wholeClock r (now (cells .exit)) ≡ stepWires (wholeClock k (now (cells .entry))) (wiresOf ports (shownLevel (k .phase))) (wiresOf (portsWritten register value ports) (shownLevel (k .phase))) ⌝ }
-{
-    if (register != 0) & (register != 2) {
-        return k;
-    }
-    let p = k.phase;
-    let line = clock_phase::shown_line(p);
-    let before = machine_pins::wires_of(ports, line);
-    let after = machine_pins::wires_of(ports_written(ports, register, value), line);
-    clock_parts::step(engine, k, before, after, cells)
-}
-
-// What a write to a VIA register changes, from these ports.
-fn via_change(ports: Ports, register: u8, value: u8) -> Change
+// What these values change, written to a VIA register, from these ports.
+fn via_change(ports: Ports, register: u8, values: &[u8]) -> Change
     requires { ⌜ register < 16 ⌝ }
-    ensures { λ r. ⌜ ((b : Board) → b .via .ports ≡ ports → boardChange r b ≡ boardVia b (viaWritten register value (b .via))) ⌝ }
+    requires { ⌜ 0 < length (now values) ⌝ }
+    ensures { λ r. ⌜ ((b : Board) → b .via .ports ≡ ports → boardChange r (now (values .entry)) b ≡ boardVia b (viaAfter register (now (values .entry)) (b .via))) ⌝ }
     ensures { λ r. ⌜ ((s : List ℕ) → senseChange r s ≡ s) ⌝ }
     ensures { λ r. ⌜ ChangeInRange r ⌝ }
 {
     if (register != 0) & (register != 2) {
-        return Change::Register(register, value);
+        return Change::Register(register);
     }
-    Change::Ports(ports_written(ports, register, value))
+    Change::Ports(machine_write::ports_after(ports, register, values))
 }
 
 // The place of a sense register among the 32.
@@ -188,20 +155,20 @@ fn sense_index(drive: u8, register: u8) -> usize
     (16 * drive + register) as usize
 }
 
-// What an item does, its wait having passed, and the clock's look at its wires.
+// What an item with these values does, its wait having passed, and the clock's look at its wires.
 pub fn act(
     engine: Engine,
     b: Board,
     k: Core,
     d: Drives,
     item: Item,
+    values: &[u8],
     sense: &[u8; 32],
     cells: &mut [u8; 256],
 ) -> Acted
-    requires { ⌜ ItemInRange item ⌝ }
-    requires { ⌜ Levels (wholeMachine b k (now cells) d (now sense)) ⌝ }
-    requires { ⌜ PhaseAccepted (wholeMachine b k (now cells) d (now sense)) ⌝ }
-    ensures { λ r. ⌜ machineAfter r b (now (cells .exit)) (now (sense .entry)) ≡ clockedOf (wholeMachine b k (now (cells .entry)) d (now (sense .entry))) item ⌝ }
+    requires { ⌜ ItemInRange item × (0 < length (now values)) ⌝ }
+    requires { ⌜ Levels (wholeMachine b k (now cells) d (now sense)) × PhaseAccepted (wholeMachine b k (now cells) d (now sense)) ⌝ }
+    ensures { λ r. ⌜ machineAfter r b (now (values .entry)) (now (cells .exit)) (now (sense .entry)) ≡ clockedBy (wholeMachine b k (now (cells .entry)) d (now (sense .entry))) item (now (values .entry)) ⌝ }
     ensures { λ r. ⌜ r .value ≡ actedOf (wholeMachine b k (now (cells .entry)) d (now (sense .entry))) item .value ⌝ }
     ensures { λ r. ⌜ ChangeInRange (r .change) ⌝ }
 {
@@ -219,13 +186,9 @@ pub fn act(
             disk = b.disk.access(location);
             value = iwm_value(disk, d, location, b.via.ports, sense);
         }
-        Item::WriteVia {
-            register,
-            value,
-            ..
-        } => {
-            core = clocked(engine, k, b.via.ports, register, value, cells);
-            change = via_change(b.via.ports, register, value);
+        Item::WriteVia { register, .. } => {
+            core = machine_write::clocked(engine, k, b.via.ports, register, values, cells);
+            change = via_change(b.via.ports, register, values);
         }
         Item::WriteIwm { location, .. } => disk = b.disk.access(location),
         Item::Blank { .. } => change = Change::Flags(b.via.flags | 2),
@@ -239,9 +202,7 @@ pub fn act(
             register,
             level,
             ..
-        } => {
-            change = Change::Sense(sense_index(drive, register), level);
-        }
+        } => change = Change::Sense(sense_index(drive, register), level),
         Item::Reset { .. } => {
             disk = disk_lines::off();
             core = clock_parts::idle(k);
@@ -259,9 +220,7 @@ pub fn act(
             locked,
             sides,
             ..
-        } => {
-            drives = disk_drives::place(d, drive == 1, insert == 1, locked == 1, sides == 1);
-        }
+        } => drives = disk_drives::place(d, drive == 1, insert == 1, locked == 1, sides == 1),
         Item::Pulse { level, .. } => {
             let p = b.via.pulse(level);
             value = p.value;
@@ -274,5 +233,42 @@ pub fn act(
         core: core,
         drives: drives,
         change: change,
+    }
+}
+
+// The VIA with these values in register 10, the flags and the count of pulses.
+pub fn with_shift(mut via: Via, sr: u8, flags: u8, pulses: u8) -> Via
+    ensures { λ r. ⌜ r ≡ withPulses (withFlags (withSr via sr) flags) pulses ⌝ }
+{
+    via.sr = sr;
+    via.flags = flags;
+    via.pulses = pulses;
+    via
+}
+
+// The drives after an item with these values, whose wait and action are over: the levels before and after it, and the ports after it. SEL may have moved between.
+pub fn strobed(
+    d: Drives,
+    before: Watched,
+    after: Watched,
+    item: Item,
+    values: &[u8],
+    ports: Ports,
+) -> Drives
+    ensures { λ r. ⌜ r ≡ spoiltIf (selMoved (registerWritten item) (now (values .entry)) ports (before .sel)) (drivesAfter before after d) ⌝ }
+{
+    let next = disk_drives::after(d, before, after);
+    match item {
+        Item::WriteVia { register, .. } => {
+            if machine_write::moves_sel(ports, register, values, before.sel) {
+                let spoilt = disk_strobe::off();
+                return Drives {
+                    strobe: spoilt,
+                    ..next
+                };
+            }
+            next
+        }
+        _ => next,
     }
 }

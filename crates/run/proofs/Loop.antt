@@ -8,6 +8,7 @@ use native.Mathlib.Nat.{le-of-eq, add-zero, sub-zero, sub-add-eq}
 use lib.ListN.{length, take, drop, length-append, length-drop, take-append-drop, drop-of-length-le}
 use lib.Seq.{take-all, length-take-le, take-at, drop-at, drop-drop}
 use Rattle.octets.specs.Octets.{putAt}
+use Rattle.item_decode.specs.Values.{firstValue, valuesIn}
 use Rattle.item_spec.specs.Record.{frameOf, answerBytes, noOf}
 use Rattle.item_spec.specs.declared.Framed.{Framed}
 use Rattle.item_spec.specs.declared.Framed.the-variants.{Whole, Cut}
@@ -25,6 +26,16 @@ use Rattle.run_spec.proofs.Pieces.{pieces-broken, pieces-whole, bytes-left, ont
 -- what a slice from `at` on is
 pub at-rest : (l : List ℕ) (at : ℕ) → take (length l - at) (drop at l) ≡ drop at l
 at-rest l at = take-all (length l - at) (drop at l) (le-of-eq (length-drop at l))
+
+-- a record's bytes after the length, of the slice from `at` on; and those of them from f on, where its values are
+abbrev pub recordAt : List ℕ → ℕ → ℕ → List ℕ
+recordAt l at n = take (n - 2) (drop 2 (take (length l - at) (drop at l)))
+
+abbrev pub valuesAt : List ℕ → ℕ → ℕ → ℕ → List ℕ
+valuesAt l at n f = take (length (recordAt l at n) - f) (drop f (recordAt l at n))
+
+pub values-are : (s : List ℕ) (f : ℕ) → f ≡ firstValue s → take (length s - f) (drop f s) ≡ valuesIn s
+values-are s f e = at-rest s f ∙ ap (λ (k : ℕ). drop k s) e
 
 pub frame-rest : (l : List ℕ) (at : ℕ) {f g : Framed} → f ≡ frameOf (take (length l - at) (drop at l)) → f ≡ g → frameOf (drop at l) ≡ g
 frame-rest l at p q = sym (p ∙ ap frameOf (at-rest l at)) ∙ q

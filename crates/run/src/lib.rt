@@ -9,6 +9,7 @@ use clock_command::Engine;
 use item_spec::Decoded;
 use item_spec::Framed;
 use machine_act::Change;
+use machine_act::act;
 use machine_spec::Machine;
 use run_spec::Ran;
 
@@ -53,68 +54,47 @@ pub fn run_accepted(engine: Engine, m: Machine, list: &[u8], answers: &mut [u8])
             stop = 1;
             break;
         };
-        let d = run_record::judge(drives, &rest[2..n]);
+        let record = &rest[2..n];
+        let d = run_record::judge(drives, record);
         let mut answer = item_record::no(item_plain::refusal(d));
-        match d {
-            Decoded::Done(item) => {
-                let before = machine_pins::watched(board);
-                let wait = machine_act::wait_of(item);
-                if board.via.only_counts(wait) {
-                    board.via = board.via.count(wait);
-                } else {
-                    board.via = board.via.wait(wait);
-                }
-                if disk_drives::busy(drives) {
-                    drives = disk_drives::wait(drives, wait);
-                }
-                let a = machine_act::act(engine, board, core, drives, item, &sense, &mut cells);
-                let disk = a.disk;
-                board.disk = disk;
-                core = a.core;
-                drives = a.drives;
-                let change = a.change;
-                match change {
-                    Change::Nothing => {}
-                    Change::Flags(f) => board.via.flags = f,
-                    Change::Ports(p) => {
-                        let mut v = board.via;
-                        v.ports = p;
-                        board.via = v;
-                    }
-                    Change::Register(r, b) => board.via = board.via.write(r, b),
-                    Change::Line(i, level) => board.inputs[i] = level,
-                    Change::Sense(i, level) => sense[i] = level,
-                    Change::Reset => board.via = board.via.reset(),
-                    Change::Fresh => board.via = via::fresh(),
-                    Change::Shift(s, f, n) => {
-                        board.via.sr = s;
-                        board.via.flags = f;
-                        board.via.pulses = n;
-                    }
-                }
-                let after = machine_pins::watched(board);
-                if before.lstrb | after.lstrb {
-                    drives = disk_drives::after(drives, before, after);
-                }
-                answer = machine_answer::answer(board, a.value);
+        if let Decoded::Done(item) = d {
+            let from = item_decode::first_value(record);
+            let bytes = &record[from..];
+            let before = machine_pins::watched(board);
+            let wait = machine_act::wait_of(item);
+            if board.via.only_counts(wait) {
+                board.via = board.via.count(wait);
+            } else {
+                board.via = board.via.wait(wait);
             }
-            Decoded::Many(x) => {
-                let w = machine_many::write(
-                    engine,
-                    board,
-                    core,
-                    drives,
-                    x,
-                    &rest[11..n],
-                    &mut cells,
-                );
-                let b = w.board;
-                board = b;
-                core = w.core;
-                drives = w.drives;
-                answer = machine_answer::answer(board, 0);
+            if disk_drives::busy(drives) {
+                drives = disk_drives::wait(drives, wait);
             }
-            Decoded::Refused(_) => {}
+            let a = act(engine, board, core, drives, item, bytes, &sense, &mut cells);
+            board.disk.lines = a.disk.lines;
+            core = a.core;
+            drives = a.drives;
+            let change = a.change;
+            match change {
+                Change::Nothing => {}
+                Change::Flags(f) => board.via.flags = f,
+                Change::Ports(p) => {
+                    let mut v = board.via;
+                    v.ports = p;
+                    board.via = v;
+                }
+                Change::Register(r) => board.via = machine_write::via_after(board.via, r, bytes),
+                Change::Line(i, level) => board.inputs[i] = level,
+                Change::Sense(i, level) => sense[i] = level,
+                Change::Reset => board.via = board.via.reset(),
+                Change::Fresh => board.via = via::fresh(),
+                Change::Shift(s, f, n) => board.via = machine_act::with_shift(board.via, s, f, n),
+            }
+            let after = machine_pins::watched(board);
+            if before.lstrb | after.lstrb {
+                drives = machine_act::strobed(drives, before, after, item, bytes, board.via.ports);
+            }
+            answer = machine_answer::answer(board, a.value);
         }
         item_record::put(answers, out, item_record::answer_bytes(answer));
         at += n;

@@ -4,15 +4,16 @@ ghost use Prim.Native.Nat.{_≤_};
 ghost use lib.ListN.{length};
 ghost use Rattle.machine_spec.specs.declared.Machine.{Machine};
 ghost use Rattle.run_spec.specs.Turn.{turnOf};
+ghost use Rattle.item_decode.specs.Values.{valuesIn};
 ghost use Rattle.run_record.specs.Judged.{turnJudged, JudgedInRange};
 use disk_spec::Drives;
 use item_spec::Decoded;
 
-// The item or the many writes of a record's bytes after the length, or the number of its refusal by the bytes or by a state with these drives.
+// The item of a record's bytes after the length, or the number of its refusal by the bytes or by a state with these drives.
 pub fn judge(d: Drives, s: &[u8]) -> Decoded
     requires { ⌜ 2 ≤ length (now s) ⌝ }
-    ensures { λ r. ⌜ ((m : Machine) → m .drives ≡ d → turnOf m (now (s .entry)) ≡ turnJudged m (now (s .entry)) r) ⌝ }
-    ensures { λ r. ⌜ JudgedInRange (now (s .entry)) r ⌝ }
+    ensures { λ r. ⌜ ((m : Machine) → m .drives ≡ d → turnOf m (now (s .entry)) ≡ turnJudged m (now (s .entry)) (valuesIn (now (s .entry))) r) ⌝ }
+    ensures { λ r. ⌜ JudgedInRange (valuesIn (now (s .entry))) r ⌝ }
 {
     let x = item_decode::decode(s);
     match x {

@@ -84,10 +84,14 @@ fn run_by(
 {
     *consumed = 0;
     *written = 0;
-    if !image::valid(image) {
+    if !image::exact(image) {
         return 7;
     }
-    let r = run::run_accepted(engine, image::load(image), list, answers);
+    let m = image::load(image);
+    if !machine::accepted_cleared(m) {
+        return 7;
+    }
+    let r = run::run_accepted(engine, m, list, answers);
     *consumed = r.consumed as u64;
     *written = r.written as u64;
     image::save(image, r.machine);

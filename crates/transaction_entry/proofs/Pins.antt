@@ -5,7 +5,7 @@ use mathlib.Core.Bool.{Bool, true, false, cond}
 use mathlib.Core.List.{List, [], _∷_}
 use lib.ListN.{length}
 use Rattle.machine_spec.specs.declared.Machine.{Machine}
-use Rattle.image_spec.specs.Image.{machineOf, validImage}
+use Rattle.image_spec.specs.Image.{machineOf, exactImage, validImage}
 use Rattle.transaction_spec.specs.declared.Ask.{Ask}
 use Rattle.transaction_spec.specs.declared.Ask.the-variants.{WriteCell, WriteSeconds, WriteProtect, ReadCell, ReadSeconds}
 use Rattle.transaction_spec.specs.Asked.{transactionOf}
@@ -33,7 +33,7 @@ pub record Sampled : Type 0 where
   pub counts : (stopOf (Wrote 396) ≡ 0) × (writtenOf (Wrote 396) ≡ 396) × (stopOf (Refused 10) ≡ 10) × (writtenOf (Refused 10) ≡ 0)
 
 pub sampled : Sampled
-unfolding requestOf placedOf resultOf answerOf stopOf writtenOf validImage
+unfolding requestOf placedOf resultOf answerOf stopOf writtenOf validImage exactImage
 sampled =
     record {
       write-cell = refl;

@@ -99,10 +99,14 @@ pub fn transaction(
     ensures { λ r. ⌜ (r ≡ 0 → CallDoes (now (image .entry)) (requestOf ask number value) (now (written .exit)) (now (out .exit))) ⌝ }
 {
     *written = 0;
-    if !image::valid(image) {
+    if !image::exact(image) {
         return 7;
     }
-    let r = answer(image::load(image), request_of(ask, number, value), out);
+    let m = image::load(image);
+    if !machine::accepted_cleared(m) {
+        return 7;
+    }
+    let r = answer(m, request_of(ask, number, value), out);
     *written = size(r) as u64;
     stop(r)
 }

@@ -18,11 +18,11 @@ use Rattle.image_layout.proofs.chip_of.Reads as chip-of-reads
 chip-of-requires : tie.Need-chip-of-requires
 chip-of-requires c κs = search needs
 
+clock-requires : tie.Need-clock-requires
+clock-requires c κs = le-of-eq (ap imageLength (c .chip-of .ensures) ∙ sym (c .before .before .pre))
+
 via-requires : tie.Need-via-requires
 via-requires c κs = search needs
-
-clock-requires : tie.Need-clock-requires
-clock-requires c κs = le-of-eq (ap imageLength (c .before .chip-of .ensures) ∙ sym (c .before .before .before .pre))
 
 lines-requires : tie.Need-lines-requires
 lines-requires c κs = search needs
@@ -41,15 +41,15 @@ drives-requires c κs = search needs
 
 returns : tie.Need-returns
 unfolding machineOf
-returns c = simp (c .before .before .before .before .before .before .via .ensures, c .before .before .before .before .before .clock .ensures, c .before .before .before .before .before .before .before .chip-of .ensures, c .before .before .before .lines-of .ensures, c .before .before .before .before .lines .ensures, c .before .before .inputs .ensures, c .before .sense .ensures, c .drives .ensures)
+returns c = simp (c .before .before .before .before .before .via .ensures, c .before .before .before .before .before .before .clock .ensures, c .before .before .before .before .before .before .before .chip-of .ensures, c .before .before .before .lines-of .ensures, c .before .before .before .before .lines .ensures, c .before .before .inputs .ensures, c .before .sense .ensures, c .drives .ensures)
 
 pub load-spec : {M : Type 1} → statement M
 load-spec =
     tie.close
     (tie.spec
     chip-of-requires
-    via-requires
     clock-requires
+    via-requires
     lines-requires
     lines-of-requires
     inputs-requires

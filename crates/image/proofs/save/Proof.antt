@@ -26,6 +26,9 @@ levels c = (search needs, search needs, search needs)
 levels-requires : tie.Need-levels-requires
 levels-requires c κs = search needs
 
+put-tail-requires : tie.Need-put-tail-requires
+put-tail-requires c κs = search needs
+
 put-head-requires : tie.Need-put-head-requires
 put-head-requires c κs = search needs
 
@@ -41,21 +44,18 @@ put-levels-requires c κs = search needs
 put-drives-requires : tie.Need-put-drives-requires
 put-drives-requires c κs = search needs
 
-put-tail-requires : tie.Need-put-tail-requires
-put-tail-requires c κs = search needs
-
 same-length : tie.Need-same-length
 same-length c = search needs
 
 returns : tie.Need-returns
 returns c =
-    let z = c .before .before in
-    let d = z .before .before .before .before in
+    let d = c .before .before in
     let l = d .before .before .before .before in
     let k = l .before .before .before .before in
     let v = k .before .before .before .before in
     let h = v .before .before .before .before in
-    let lines = h .before .before .before .before .before .before in
+    let z = h .before .before .before .before in
+    let lines = z .before .before .before .before .before .before in
     let start = lines .before .before in
     let a = start .args in
     let t : Typed (a .m) =
@@ -68,9 +68,9 @@ returns c =
       sense = levels start .2;
       drives = d .put-drives .ensures .1;
     } in
-    let e : z .put-tail .last .0 ≡ imageOf (a .m) =
-    image-saved (now (a .image)) (h .put-head .last .0) (v .put-via .last .0) (k .put-clock .last .0) (l .put-levels .last .0) (d .put-drives .last .0) (z .put-tail .last .0)
-    (a .m) (start .pre) t (h .put-head .ensures) (v .put-via .ensures .0) (k .put-clock .ensures .0) (l .put-levels .ensures ∙ ap (λ (x : List ℕ). putAt (putAt (putAt (k .put-clock .last .0) linesAt x) inputsAt (a .m .inputs)) senseAt (a .m .sense)) (lines .levels .ensures)) (d .put-drives .ensures .0) (z .put-tail .ensures) in
+    let e : d .put-drives .last .0 ≡ imageOf (a .m) =
+    image-saved (now (a .image)) (z .put-tail .last .0) (h .put-head .last .0) (v .put-via .last .0) (k .put-clock .last .0) (l .put-levels .last .0) (d .put-drives .last .0)
+    (a .m) (start .pre) t (z .put-tail .ensures) (h .put-head .ensures) (v .put-via .ensures .0) (k .put-clock .ensures .0) (l .put-levels .ensures ∙ ap (λ (x : List ℕ). putAt (putAt (putAt (k .put-clock .last .0) linesAt x) inputsAt (a .m .inputs)) senseAt (a .m .sense)) (lines .levels .ensures)) (d .put-drives .ensures .0) in
     (e, (λ ok. ap machineOf e ∙ restore-saved (a .m) t ok, λ ok. ap validImage e ∙ saved-valid (a .m) t ok))
 
 pub save-spec : {M : Type 1} → statement M
@@ -78,11 +78,11 @@ save-spec =
     tie.close
     (tie.spec
     levels-requires
+    put-tail-requires
     put-head-requires
     put-via-requires
     put-clock-requires
     put-levels-requires
     put-drives-requires
-    put-tail-requires
     same-length
     returns)

@@ -1,34 +1,16 @@
-use Prim.Native.Nat.{ℕ, _-_, _/_, _%_}
-use mathlib.Core.Path.{ap₂, _∙_}
-use mathlib.Core.List.{List, [], _∷_}
-use lib.ListN.{getD}
+use mathlib.Core.Path.{ap, _∙_}
 use denote.Ref.{now}
 use Rattle.octets.specs.Octets.{putAt}
-use Rattle.image_spec.specs.Layout.{headBytes}
 use borrow.Author.Needs.{needs}
 use Rattle.image_layout.proofs.put_head.Statement.{statement}
 use Rattle.image_layout.proofs.put_head.Tie as tie
+use Rattle.image_layout.proofs.put_head.Reads as reads
+use Rattle.image_layout.proofs.put_head.Lts as lts
+use Rattle.image_layout.proofs.head.Reads as head-reads
+use Rattle.octets.proofs.copy.Reads as copy-reads
 
-image-length-requires : tie.Need-image-length-requires
-image-length-requires c κs = search needs
-
-sub-n : tie.Need-sub-n
-sub-n c = search needs
-
-kind-requires : tie.Need-kind-requires
-kind-requires c κs = search needs
-
-cast-t8 : tie.Need-cast-t8
-cast-t8 c = search needs
-
-cast-t11 : tie.Need-cast-t11
-cast-t11 c = search needs
-
-array-read-t14 : tie.Need-array-read-t14
-array-read-t14 c = search needs
-
-array-read-t17 : tie.Need-array-read-t17
-array-read-t17 c = search needs
+head-requires : tie.Need-head-requires
+head-requires c κs = search needs
 
 slice-aggregate-copy : tie.Need-slice-aggregate-copy
 slice-aggregate-copy c = search needs
@@ -40,25 +22,10 @@ same-length : tie.Need-same-length
 same-length c = search needs
 
 returns : tie.Need-returns
-unfolding headBytes
 returns c =
-    let start = c .before .before .before .before .before .before .before .before in
-    c .before .before .copy .ensures
-    ∙ ap₂ (λ (n : ℕ) (k : List ℕ). putAt (now (start .args .image)) 0 ((n - 2) % 256 ∷ (n - 2) / 256 % 256 ∷ getD k 0 0 ∷ getD k 1 0 ∷ []))
-    (c .before .before .before .before .before .before .image-length .ensures) (c .before .before .before .before .before .kind .ensures)
+    let b = c .before .before .before .before .before in
+    c .before .before .copy .ensures ∙ ap (putAt (now (b .before .before .args .image)) 0) (b .head .ensures)
 
 pub put-head-spec : {M : Type 1} → statement M
 put-head-spec =
-    tie.close
-    (tie.spec
-    image-length-requires
-    sub-n
-    kind-requires
-    cast-t8
-    cast-t11
-    array-read-t14
-    array-read-t17
-    slice-aggregate-copy
-    copy-requires
-    same-length
-    returns)
+    tie.close (tie.spec head-requires slice-aggregate-copy copy-requires same-length returns)

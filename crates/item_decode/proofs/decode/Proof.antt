@@ -1,20 +1,9 @@
 use borrow.Author.Needs.{needs}
-use borrow.Author.Tests.{lt-ltb, le-ltb, le-leb, lt-leb, eq-eqb, ne-eqb}
+use mathlib.Core.Path.{_∙_}
 use Rattle.item_spec.specs.Kinds.{decodedOf}
+use Rattle.item_many.proofs.LastWrites.{read-same, write-same, plain-same, line-same, sense-same, power-same, disk-same, pulse-same}
 use Rattle.item_decode.proofs.decode.Statement.{statement}
 use Rattle.item_decode.proofs.decode.Tie as tie
-use Rattle.item_decode.proofs.decode.Reads as reads
-use Rattle.item_decode.proofs.decode.Lts as lts
-use Rattle.item_ranged.proofs.disk_item.Reads as disk-item-reads
-use Rattle.item_decode.proofs.is.Reads as is-reads
-use Rattle.item_ranged.proofs.line_item.Reads as line-item-reads
-use Rattle.item_plain.proofs.plain_item.Reads as plain-item-reads
-use Rattle.item_plain.proofs.power_item.Reads as power-item-reads
-use Rattle.item_plain.proofs.read_item.Reads as read-item-reads
-use Rattle.item_ranged.proofs.sense_item.Reads as sense-item-reads
-use Rattle.item_plain.proofs.write_item.Reads as write-item-reads
-use Rattle.item_many.proofs.many_item.Reads as many-item-reads
-use Rattle.item_ranged.proofs.pulse_item.Reads as pulse-item-reads
 
 is-requires : tie.Need-is-requires
 is-requires c κs = search needs
@@ -24,7 +13,7 @@ read-item-requires c κs = search needs
 
 returns : tie.Need-returns
 unfolding decodedOf
-returns c = simp (← c .before .before .is .ensures, c .before .if1 .taken, ← c .read-item .ensures)
+returns c = simp (← c .before .before .is .ensures, c .before .if1 .taken) (c .read-item .ensures ∙ read-same _)
 
 is-requires-2 : tie.Need-is-requires-2
 is-requires-2 c κs = search needs
@@ -34,7 +23,7 @@ write-item-requires c κs = search needs
 
 returns-2 : tie.Need-returns-2
 unfolding decodedOf
-returns-2 c = simp (← c .before .before .before .before .before .is .ensures, c .before .before .before .before .if1 .left, ← c .before .before .is2 .ensures, c .before .if2 .taken, ← c .write-item .ensures)
+returns-2 c = simp (← c .before .before .before .before .before .is .ensures, c .before .before .before .before .if1 .left, ← c .before .before .is2 .ensures, c .before .if2 .taken) (c .write-item .ensures ∙ write-same _)
 
 is-requires-3 : tie.Need-is-requires-3
 is-requires-3 c κs = search needs
@@ -44,7 +33,7 @@ plain-item-requires c κs = search needs
 
 returns-3 : tie.Need-returns-3
 unfolding decodedOf
-returns-3 c = simp (← c .before .before .before .before .before .before .before .before .is .ensures, c .before .before .before .before .before .before .before .if1 .left, ← c .before .before .before .before .before .is2 .ensures, c .before .before .before .before .if2 .left, ← c .before .before .is3 .ensures, c .before .if3 .taken, ← c .plain-item .ensures)
+returns-3 c = simp (← c .before .before .before .before .before .before .before .before .is .ensures, c .before .before .before .before .before .before .before .if1 .left, ← c .before .before .before .before .before .is2 .ensures, c .before .before .before .before .if2 .left, ← c .before .before .is3 .ensures, c .before .if3 .taken) (c .plain-item .ensures ∙ plain-same _ _)
 
 is-requires-4 : tie.Need-is-requires-4
 is-requires-4 c κs = search needs
@@ -54,7 +43,7 @@ plain-item-requires-2 c κs = search needs
 
 returns-4 : tie.Need-returns-4
 unfolding decodedOf
-returns-4 c = simp (← c .before .before .before .before .before .before .before .before .before .before .before .is .ensures, c .before .before .before .before .before .before .before .before .before .before .if1 .left, ← c .before .before .before .before .before .before .before .before .is2 .ensures, c .before .before .before .before .before .before .before .if2 .left, ← c .before .before .before .before .before .is3 .ensures, c .before .before .before .before .if3 .left, ← c .before .before .is4 .ensures, c .before .if4 .taken, ← c .plain-item2 .ensures)
+returns-4 c = simp (← c .before .before .before .before .before .before .before .before .before .before .before .is .ensures, c .before .before .before .before .before .before .before .before .before .before .if1 .left, ← c .before .before .before .before .before .before .before .before .is2 .ensures, c .before .before .before .before .before .before .before .if2 .left, ← c .before .before .before .before .before .is3 .ensures, c .before .before .before .before .if3 .left, ← c .before .before .is4 .ensures, c .before .if4 .taken) (c .plain-item2 .ensures ∙ plain-same _ _)
 
 is-requires-5 : tie.Need-is-requires-5
 is-requires-5 c κs = search needs
@@ -64,7 +53,7 @@ line-item-requires c κs = search needs
 
 returns-5 : tie.Need-returns-5
 unfolding decodedOf
-returns-5 c = simp (← c .before .before .before .before .before .before .before .before .before .before .before .before .before .before .is .ensures, c .before .before .before .before .before .before .before .before .before .before .before .before .before .if1 .left, ← c .before .before .before .before .before .before .before .before .before .before .before .is2 .ensures, c .before .before .before .before .before .before .before .before .before .before .if2 .left, ← c .before .before .before .before .before .before .before .before .is3 .ensures, c .before .before .before .before .before .before .before .if3 .left, ← c .before .before .before .before .before .is4 .ensures, c .before .before .before .before .if4 .left, ← c .before .before .is5 .ensures, c .before .if5 .taken, ← c .line-item .ensures)
+returns-5 c = simp (← c .before .before .before .before .before .before .before .before .before .before .before .before .before .before .is .ensures, c .before .before .before .before .before .before .before .before .before .before .before .before .before .if1 .left, ← c .before .before .before .before .before .before .before .before .before .before .before .is2 .ensures, c .before .before .before .before .before .before .before .before .before .before .if2 .left, ← c .before .before .before .before .before .before .before .before .is3 .ensures, c .before .before .before .before .before .before .before .if3 .left, ← c .before .before .before .before .before .is4 .ensures, c .before .before .before .before .if4 .left, ← c .before .before .is5 .ensures, c .before .if5 .taken) (c .line-item .ensures ∙ line-same _)
 
 is-requires-6 : tie.Need-is-requires-6
 is-requires-6 c κs = search needs
@@ -74,7 +63,7 @@ sense-item-requires c κs = search needs
 
 returns-6 : tie.Need-returns-6
 unfolding decodedOf
-returns-6 c = simp (← c .before .before .before .before .before .before .before .before .before .before .before .before .before .before .before .before .before .is .ensures, c .before .before .before .before .before .before .before .before .before .before .before .before .before .before .before .before .if1 .left, ← c .before .before .before .before .before .before .before .before .before .before .before .before .before .before .is2 .ensures, c .before .before .before .before .before .before .before .before .before .before .before .before .before .if2 .left, ← c .before .before .before .before .before .before .before .before .before .before .before .is3 .ensures, c .before .before .before .before .before .before .before .before .before .before .if3 .left, ← c .before .before .before .before .before .before .before .before .is4 .ensures, c .before .before .before .before .before .before .before .if4 .left, ← c .before .before .before .before .before .is5 .ensures, c .before .before .before .before .if5 .left, ← c .before .before .is6 .ensures, c .before .if6 .taken, ← c .sense-item .ensures)
+returns-6 c = simp (← c .before .before .before .before .before .before .before .before .before .before .before .before .before .before .before .before .before .is .ensures, c .before .before .before .before .before .before .before .before .before .before .before .before .before .before .before .before .if1 .left, ← c .before .before .before .before .before .before .before .before .before .before .before .before .before .before .is2 .ensures, c .before .before .before .before .before .before .before .before .before .before .before .before .before .if2 .left, ← c .before .before .before .before .before .before .before .before .before .before .before .is3 .ensures, c .before .before .before .before .before .before .before .before .before .before .if3 .left, ← c .before .before .before .before .before .before .before .before .is4 .ensures, c .before .before .before .before .before .before .before .if4 .left, ← c .before .before .before .before .before .is5 .ensures, c .before .before .before .before .if5 .left, ← c .before .before .is6 .ensures, c .before .if6 .taken) (c .sense-item .ensures ∙ sense-same _)
 
 is-requires-7 : tie.Need-is-requires-7
 is-requires-7 c κs = search needs
@@ -84,7 +73,7 @@ plain-item-requires-3 c κs = search needs
 
 returns-7 : tie.Need-returns-7
 unfolding decodedOf
-returns-7 c = simp (← c .before .before .before .before .before .before .before .before .before .before .before .before .before .before .before .before .before .before .before .before .is .ensures, c .before .before .before .before .before .before .before .before .before .before .before .before .before .before .before .before .before .before .before .if1 .left, ← c .before .before .before .before .before .before .before .before .before .before .before .before .before .before .before .before .before .is2 .ensures, c .before .before .before .before .before .before .before .before .before .before .before .before .before .before .before .before .if2 .left, ← c .before .before .before .before .before .before .before .before .before .before .before .before .before .before .is3 .ensures, c .before .before .before .before .before .before .before .before .before .before .before .before .before .if3 .left, ← c .before .before .before .before .before .before .before .before .before .before .before .is4 .ensures, c .before .before .before .before .before .before .before .before .before .before .if4 .left, ← c .before .before .before .before .before .before .before .before .is5 .ensures, c .before .before .before .before .before .before .before .if5 .left, ← c .before .before .before .before .before .is6 .ensures, c .before .before .before .before .if6 .left, ← c .before .before .is7 .ensures, c .before .if7 .taken, ← c .plain-item3 .ensures)
+returns-7 c = simp (← c .before .before .before .before .before .before .before .before .before .before .before .before .before .before .before .before .before .before .before .before .is .ensures, c .before .before .before .before .before .before .before .before .before .before .before .before .before .before .before .before .before .before .before .if1 .left, ← c .before .before .before .before .before .before .before .before .before .before .before .before .before .before .before .before .before .is2 .ensures, c .before .before .before .before .before .before .before .before .before .before .before .before .before .before .before .before .if2 .left, ← c .before .before .before .before .before .before .before .before .before .before .before .before .before .before .is3 .ensures, c .before .before .before .before .before .before .before .before .before .before .before .before .before .if3 .left, ← c .before .before .before .before .before .before .before .before .before .before .before .is4 .ensures, c .before .before .before .before .before .before .before .before .before .before .if4 .left, ← c .before .before .before .before .before .before .before .before .is5 .ensures, c .before .before .before .before .before .before .before .if5 .left, ← c .before .before .before .before .before .is6 .ensures, c .before .before .before .before .if6 .left, ← c .before .before .is7 .ensures, c .before .if7 .taken) (c .plain-item3 .ensures ∙ plain-same _ _)
 
 is-requires-8 : tie.Need-is-requires-8
 is-requires-8 c κs = search needs
@@ -94,7 +83,7 @@ power-item-requires c κs = search needs
 
 returns-8 : tie.Need-returns-8
 unfolding decodedOf
-returns-8 c = simp (← c .before .before .before .before .before .before .before .before .before .before .before .before .before .before .before .before .before .before .before .before .before .before .before .is .ensures, c .before .before .before .before .before .before .before .before .before .before .before .before .before .before .before .before .before .before .before .before .before .before .if1 .left, ← c .before .before .before .before .before .before .before .before .before .before .before .before .before .before .before .before .before .before .before .before .is2 .ensures, c .before .before .before .before .before .before .before .before .before .before .before .before .before .before .before .before .before .before .before .if2 .left, ← c .before .before .before .before .before .before .before .before .before .before .before .before .before .before .before .before .before .is3 .ensures, c .before .before .before .before .before .before .before .before .before .before .before .before .before .before .before .before .if3 .left, ← c .before .before .before .before .before .before .before .before .before .before .before .before .before .before .is4 .ensures, c .before .before .before .before .before .before .before .before .before .before .before .before .before .if4 .left, ← c .before .before .before .before .before .before .before .before .before .before .before .is5 .ensures, c .before .before .before .before .before .before .before .before .before .before .if5 .left, ← c .before .before .before .before .before .before .before .before .is6 .ensures, c .before .before .before .before .before .before .before .if6 .left, ← c .before .before .before .before .before .is7 .ensures, c .before .before .before .before .if7 .left, ← c .before .before .is8 .ensures, c .before .if8 .taken, ← c .power-item .ensures)
+returns-8 c = simp (← c .before .before .before .before .before .before .before .before .before .before .before .before .before .before .before .before .before .before .before .before .before .before .before .is .ensures, c .before .before .before .before .before .before .before .before .before .before .before .before .before .before .before .before .before .before .before .before .before .before .if1 .left, ← c .before .before .before .before .before .before .before .before .before .before .before .before .before .before .before .before .before .before .before .before .is2 .ensures, c .before .before .before .before .before .before .before .before .before .before .before .before .before .before .before .before .before .before .before .if2 .left, ← c .before .before .before .before .before .before .before .before .before .before .before .before .before .before .before .before .before .is3 .ensures, c .before .before .before .before .before .before .before .before .before .before .before .before .before .before .before .before .if3 .left, ← c .before .before .before .before .before .before .before .before .before .before .before .before .before .before .is4 .ensures, c .before .before .before .before .before .before .before .before .before .before .before .before .before .if4 .left, ← c .before .before .before .before .before .before .before .before .before .before .before .is5 .ensures, c .before .before .before .before .before .before .before .before .before .before .if5 .left, ← c .before .before .before .before .before .before .before .before .is6 .ensures, c .before .before .before .before .before .before .before .if6 .left, ← c .before .before .before .before .before .is7 .ensures, c .before .before .before .before .if7 .left, ← c .before .before .is8 .ensures, c .before .if8 .taken) (c .power-item .ensures ∙ power-same _)
 
 is-requires-9 : tie.Need-is-requires-9
 is-requires-9 c κs = search needs
@@ -104,7 +93,7 @@ disk-item-requires c κs = search needs
 
 returns-9 : tie.Need-returns-9
 unfolding decodedOf
-returns-9 c = simp (← c .before .before .before .before .before .before .before .before .before .before .before .before .before .before .before .before .before .before .before .before .before .before .before .before .before .before .is .ensures, c .before .before .before .before .before .before .before .before .before .before .before .before .before .before .before .before .before .before .before .before .before .before .before .before .before .if1 .left, ← c .before .before .before .before .before .before .before .before .before .before .before .before .before .before .before .before .before .before .before .before .before .before .before .is2 .ensures, c .before .before .before .before .before .before .before .before .before .before .before .before .before .before .before .before .before .before .before .before .before .before .if2 .left, ← c .before .before .before .before .before .before .before .before .before .before .before .before .before .before .before .before .before .before .before .before .is3 .ensures, c .before .before .before .before .before .before .before .before .before .before .before .before .before .before .before .before .before .before .before .if3 .left, ← c .before .before .before .before .before .before .before .before .before .before .before .before .before .before .before .before .before .is4 .ensures, c .before .before .before .before .before .before .before .before .before .before .before .before .before .before .before .before .if4 .left, ← c .before .before .before .before .before .before .before .before .before .before .before .before .before .before .is5 .ensures, c .before .before .before .before .before .before .before .before .before .before .before .before .before .if5 .left, ← c .before .before .before .before .before .before .before .before .before .before .before .is6 .ensures, c .before .before .before .before .before .before .before .before .before .before .if6 .left, ← c .before .before .before .before .before .before .before .before .is7 .ensures, c .before .before .before .before .before .before .before .if7 .left, ← c .before .before .before .before .before .is8 .ensures, c .before .before .before .before .if8 .left, ← c .before .before .is9 .ensures, c .before .if9 .taken, ← c .disk-item .ensures)
+returns-9 c = simp (← c .before .before .before .before .before .before .before .before .before .before .before .before .before .before .before .before .before .before .before .before .before .before .before .before .before .before .is .ensures, c .before .before .before .before .before .before .before .before .before .before .before .before .before .before .before .before .before .before .before .before .before .before .before .before .before .if1 .left, ← c .before .before .before .before .before .before .before .before .before .before .before .before .before .before .before .before .before .before .before .before .before .before .before .is2 .ensures, c .before .before .before .before .before .before .before .before .before .before .before .before .before .before .before .before .before .before .before .before .before .before .if2 .left, ← c .before .before .before .before .before .before .before .before .before .before .before .before .before .before .before .before .before .before .before .before .is3 .ensures, c .before .before .before .before .before .before .before .before .before .before .before .before .before .before .before .before .before .before .before .if3 .left, ← c .before .before .before .before .before .before .before .before .before .before .before .before .before .before .before .before .before .is4 .ensures, c .before .before .before .before .before .before .before .before .before .before .before .before .before .before .before .before .if4 .left, ← c .before .before .before .before .before .before .before .before .before .before .before .before .before .before .is5 .ensures, c .before .before .before .before .before .before .before .before .before .before .before .before .before .if5 .left, ← c .before .before .before .before .before .before .before .before .before .before .before .is6 .ensures, c .before .before .before .before .before .before .before .before .before .before .if6 .left, ← c .before .before .before .before .before .before .before .before .is7 .ensures, c .before .before .before .before .before .before .before .if7 .left, ← c .before .before .before .before .before .is8 .ensures, c .before .before .before .before .if8 .left, ← c .before .before .is9 .ensures, c .before .if9 .taken) (c .disk-item .ensures ∙ disk-same _)
 
 is-requires-10 : tie.Need-is-requires-10
 is-requires-10 c κs = search needs
@@ -124,7 +113,7 @@ pulse-item-requires c κs = c .before .before .before .before .before .before .b
 
 returns-11 : tie.Need-returns-11
 unfolding decodedOf
-returns-11 c = simp (← c .before .before .before .before .before .before .before .before .before .before .before .before .before .before .before .before .before .before .before .before .before .before .before .before .before .before .before .before .before .before .before .before .is .ensures, c .before .before .before .before .before .before .before .before .before .before .before .before .before .before .before .before .before .before .before .before .before .before .before .before .before .before .before .before .before .before .before .if1 .left, ← c .before .before .before .before .before .before .before .before .before .before .before .before .before .before .before .before .before .before .before .before .before .before .before .before .before .before .before .before .before .is2 .ensures, c .before .before .before .before .before .before .before .before .before .before .before .before .before .before .before .before .before .before .before .before .before .before .before .before .before .before .before .before .if2 .left, ← c .before .before .before .before .before .before .before .before .before .before .before .before .before .before .before .before .before .before .before .before .before .before .before .before .before .before .is3 .ensures, c .before .before .before .before .before .before .before .before .before .before .before .before .before .before .before .before .before .before .before .before .before .before .before .before .before .if3 .left, ← c .before .before .before .before .before .before .before .before .before .before .before .before .before .before .before .before .before .before .before .before .before .before .before .is4 .ensures, c .before .before .before .before .before .before .before .before .before .before .before .before .before .before .before .before .before .before .before .before .before .before .if4 .left, ← c .before .before .before .before .before .before .before .before .before .before .before .before .before .before .before .before .before .before .before .before .is5 .ensures, c .before .before .before .before .before .before .before .before .before .before .before .before .before .before .before .before .before .before .before .if5 .left, ← c .before .before .before .before .before .before .before .before .before .before .before .before .before .before .before .before .before .is6 .ensures, c .before .before .before .before .before .before .before .before .before .before .before .before .before .before .before .before .if6 .left, ← c .before .before .before .before .before .before .before .before .before .before .before .before .before .before .is7 .ensures, c .before .before .before .before .before .before .before .before .before .before .before .before .before .if7 .left, ← c .before .before .before .before .before .before .before .before .before .before .before .is8 .ensures, c .before .before .before .before .before .before .before .before .before .before .if8 .left, ← c .before .before .before .before .before .before .before .before .is9 .ensures, c .before .before .before .before .before .before .before .if9 .left, ← c .before .before .before .before .before .is10 .ensures, c .before .before .before .before .if10 .left, ← c .before .before .is11 .ensures, c .before .if11 .taken, ← c .pulse-item .ensures)
+returns-11 c = simp (← c .before .before .before .before .before .before .before .before .before .before .before .before .before .before .before .before .before .before .before .before .before .before .before .before .before .before .before .before .before .before .before .before .is .ensures, c .before .before .before .before .before .before .before .before .before .before .before .before .before .before .before .before .before .before .before .before .before .before .before .before .before .before .before .before .before .before .before .if1 .left, ← c .before .before .before .before .before .before .before .before .before .before .before .before .before .before .before .before .before .before .before .before .before .before .before .before .before .before .before .before .before .is2 .ensures, c .before .before .before .before .before .before .before .before .before .before .before .before .before .before .before .before .before .before .before .before .before .before .before .before .before .before .before .before .if2 .left, ← c .before .before .before .before .before .before .before .before .before .before .before .before .before .before .before .before .before .before .before .before .before .before .before .before .before .before .is3 .ensures, c .before .before .before .before .before .before .before .before .before .before .before .before .before .before .before .before .before .before .before .before .before .before .before .before .before .if3 .left, ← c .before .before .before .before .before .before .before .before .before .before .before .before .before .before .before .before .before .before .before .before .before .before .before .is4 .ensures, c .before .before .before .before .before .before .before .before .before .before .before .before .before .before .before .before .before .before .before .before .before .before .if4 .left, ← c .before .before .before .before .before .before .before .before .before .before .before .before .before .before .before .before .before .before .before .before .is5 .ensures, c .before .before .before .before .before .before .before .before .before .before .before .before .before .before .before .before .before .before .before .if5 .left, ← c .before .before .before .before .before .before .before .before .before .before .before .before .before .before .before .before .before .is6 .ensures, c .before .before .before .before .before .before .before .before .before .before .before .before .before .before .before .before .if6 .left, ← c .before .before .before .before .before .before .before .before .before .before .before .before .before .before .is7 .ensures, c .before .before .before .before .before .before .before .before .before .before .before .before .before .if7 .left, ← c .before .before .before .before .before .before .before .before .before .before .before .is8 .ensures, c .before .before .before .before .before .before .before .before .before .before .if8 .left, ← c .before .before .before .before .before .before .before .before .is9 .ensures, c .before .before .before .before .before .before .before .if9 .left, ← c .before .before .before .before .before .is10 .ensures, c .before .before .before .before .if10 .left, ← c .before .before .is11 .ensures, c .before .if11 .taken) (c .pulse-item .ensures ∙ pulse-same _)
 
 returns-12 : tie.Need-returns-12
 unfolding decodedOf

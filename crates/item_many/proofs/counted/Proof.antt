@@ -1,7 +1,8 @@
 use borrow.Author.Needs.{needs}
 use borrow.Author.Tests.{lt-ltb, le-ltb, eq-eqb, ne-eqb}
-use native.Mathlib.Omega.{arith}
+use mathlib.Core.Bool.{true, false}
 use Rattle.item_spec.specs.Many.{countedRecord}
+use Rattle.item_many.proofs.LastWrites.{last-write}
 use Rattle.item_many.proofs.counted.Statement.{statement}
 use Rattle.item_many.proofs.counted.Tie as tie
 
@@ -26,10 +27,29 @@ returns-3 : tie.Need-returns-3
 unfolding countedRecord
 returns-3 c = simp (ne-eqb _ _ (c .before .before .if1 .left), le-ltb _ _ (c .before .if2 .left), ne-eqb _ _ (c .if3 .taken))
 
+sub-value : tie.Need-sub-value
+sub-value c = search needs
+
+shared-slice-read-value : tie.Need-shared-slice-read-value
+shared-slice-read-value c = search needs
+
 returns-4 : tie.Need-returns-4
-unfolding countedRecord
-returns-4 c = simp (ne-eqb _ _ (c .before .before .if1 .left), le-ltb _ _ (c .before .if2 .left), eq-eqb _ _ (c .if3 .left))
+returns-4 c = last-write _ _ true (c .before .before .before .before .before .if1 .left) (c .before .before .before .before .if2 .left) (c .before .before .before .if3 .left) (c .if4 .taken)
+
+returns-5 : tie.Need-returns-5
+returns-5 c = last-write _ _ false (c .before .before .before .before .before .if1 .left) (c .before .before .before .before .if2 .left) (c .before .before .before .if3 .left) (c .if4 .left)
 
 pub counted-spec : {M : Type 1} → statement M
 counted-spec =
-    tie.close (tie.spec shared-slice-read-count returns returns-2 cast-if3 add-if3 returns-3 returns-4)
+    tie.close
+    (tie.spec
+    shared-slice-read-count
+    returns
+    returns-2
+    cast-if3
+    add-if3
+    returns-3
+    sub-value
+    shared-slice-read-value
+    returns-4
+    returns-5)

@@ -1,65 +1,27 @@
-use mathlib.Core.Path.{_≡_, ap, _∙_}
-use Rattle.machine_spec.specs.Machine.{acceptedOf, strobeLevels}
+use mathlib.Core.Path.{sym, _∙_}
+use mathlib.Core.Bool.{and-false}
+use Rattle.machine_spec.specs.Machine.{acceptedOf}
 use borrow.Author.Needs.{needs}
 use Rattle.machine.proofs.accepted.Statement.{statement}
 use Rattle.machine.proofs.accepted.Tie as tie
-
-wires-requires : tie.Need-wires-requires
-wires-requires c κs = search needs
-
-slice-aggregate-all-levels : tie.Need-slice-aggregate-all-levels
-slice-aggregate-all-levels c = search needs
-
-all-levels-requires : tie.Need-all-levels-requires
-all-levels-requires c κs = search needs
-
-slice-aggregate-all-levels-2 : tie.Need-slice-aggregate-all-levels-2
-slice-aggregate-all-levels-2 c = search needs
-
-all-levels-requires-2 : tie.Need-all-levels-requires-2
-all-levels-requires-2 c κs = search needs
-
-accepted-requires : tie.Need-accepted-requires
-accepted-requires c κs = search needs
-
-accepted-phase-requires : tie.Need-accepted-phase-requires
-accepted-phase-requires c κs = search needs
+use Rattle.machine.proofs.accepted.Reads as reads
+use Rattle.machine.proofs.accepted.Lts as lts
+use Rattle.clock_store.proofs.unused_clear.Reads as unused-clear-reads
+use Rattle.machine.proofs.accepted_cleared.Reads as accepted-cleared-reads
 
 unused-clear-requires : tie.Need-unused-clear-requires
 unused-clear-requires c κs = search needs
 
-board-of-requires : tie.Need-board-of-requires
-board-of-requires c κs = search needs
-
-watched-requires : tie.Need-watched-requires
-watched-requires c κs = search needs
-
-accepted-requires-2 : tie.Need-accepted-requires-2
-accepted-requires-2 c κs = search needs
+accepted-cleared-requires : tie.Need-accepted-cleared-requires
+accepted-cleared-requires c κs = sym (c .before .unused-clear .ensures) ∙ c .if1 .taken
 
 returns : tie.Need-returns
+returns c = search needs
+
+returns-2 : tie.Need-returns-2
 unfolding acceptedOf
-returns c =
-    let a = c .before .before .before .before in
-    let b = a .before .before in
-    let w = b .before .before .before .before in
-    let m = w .before .before .before .before .before .args .m in
-    let levels : c .before .watched .result ≡ strobeLevels m = c .before .watched .ensures (m .clock) (m .sense) (m .drives) ∙ ap strobeLevels (c .before .before .board-of .ensures) in
-    simp (c .accepted2 .ensures, levels, c .before .before .before .unused-clear .ensures, a .accepted-phase .ensures, a .before .accepted .ensures, b .all-levels2 .ensures, b .before .before .all-levels .ensures, w .wires .ensures)
+returns-2 c = simp (sym (c .before .unused-clear .ensures) ∙ c .if1 .left, and-false)
 
 pub accepted-spec : {M : Type 1} → statement M
 accepted-spec =
-    tie.close
-    (tie.spec
-    wires-requires
-    slice-aggregate-all-levels
-    all-levels-requires
-    slice-aggregate-all-levels-2
-    all-levels-requires-2
-    accepted-requires
-    accepted-phase-requires
-    unused-clear-requires
-    board-of-requires
-    watched-requires
-    accepted-requires-2
-    returns)
+    tie.close (tie.spec unused-clear-requires accepted-cleared-requires returns returns-2)

@@ -15,18 +15,18 @@ use Rattle.machine_spec.specs.Machine.{acceptedOf}
 use Rattle.machine_spec.specs.Stages.{itemWait}
 use Rattle.machine_spec.specs.declared.Machine.{Machine}
 use Rattle.machine_spec.specs.declared.Did.{Did}
-use Rattle.machine_spec.specs.Step.{stepOf}
 use Rattle.machine_spec.proofs.MachineLaws.{parts}
-use Rattle.machine_spec.proofs.Keeps.{step-keeps}
-use Rattle.run_spec.specs.Turn.{turnOf, manyTurn}
+use Rattle.run_spec.specs.Turn.{turnOf, doneTurn}
+use Rattle.run_spec.specs.declared.Turn.{Turn}
+use Rattle.run_spec.proofs.Keeps.{turn-keeps}
 use Rattle.run_spec.specs.declared.Ran.{Ran}
 use Rattle.run_record.specs.Judged.{turnJudged, JudgedInRange}
 use Rattle.run.proofs.Turns as turns
 use borrow.Author.Needs.{needs}
 use Prim.Native.Nat.{ℕ, _+_, _-_, _≤_, _<_}
 use lib.ListN.{length, drop, length-drop}
-use mathlib.Core.Path.{_≡_, refl, sym, ap, ap₂, subst, _∙_}
-use mathlib.Core.Logic.{⊎-elim}
+use mathlib.Core.Path.{_≡_, refl, sym, ap, ap₂, subst, subst⁻¹, _∙_}
+use mathlib.Core.Logic.{inl, inr, ⊎-elim}
 use native.Mathlib.Omega.{arith}
 use denote.Ref.{now}
 use Rattle.item_spec.specs.Record.{frameOf}
@@ -35,39 +35,15 @@ use Rattle.clock.specs.declared.Clock.{Clock}
 use Rattle.clock_parts.specs.Parts.{wholeClock}
 use Rattle.machine_pins.specs.Board.{onBoard}
 use Rattle.machine_act.specs.Parts.{wholeMachine, boardVia, boardDisk, boardChange, senseChange, ChangeInRange}
-use Rattle.run.proofs.Turns.{strobeOf}
+use Rattle.machine_write.specs.Values.{spoiltIf, registerWritten, stepWith}
+use Rattle.machine_act.specs.Parts.{selMoved}
+use Rattle.item_decode.specs.Values.{valuesIn}
+use Rattle.run.proofs.Turns.{strobeOf, Struck}
+use Rattle.run.proofs.Refused.{refused}
 use Rattle.run.proofs.Loop as loop
-use Rattle.run.proofs.Loop.{Head, at-rest}
-use Rattle.item_spec.specs.Many.{ManyInRange}
-use Rattle.machine_many.proofs.Laws.{parts-accepted}
-use Rattle.run.proofs.Many.{recordAt, valuesAt, twelve, values-are, some-values, many-levels, many-did}
+use Rattle.run.proofs.Loop.{Head, at-rest, recordAt, valuesAt, values-are}
 use Rattle.run.proofs.run_accepted.Statement.{statement}
 use Rattle.run.proofs.run_accepted.Tie as tie
-use Rattle.run.proofs.run_accepted.Reads as reads
-use Rattle.run.proofs.run_accepted.Lts as lts
-use Rattle.disk_drives.proofs.after.Reads as after-reads
-use Rattle.disk_drives.proofs.wait.Reads as wait-reads
-use Rattle.item_plain.proofs.refusal.Reads as refusal-reads
-use Rattle.machine_act.proofs.act.Reads as act-reads
-use Rattle.machine_pins.proofs.board_of.Reads as board-of-reads
-use Rattle.clock_parts.proofs.cells_of.Reads as cells-of-reads
-use Rattle.clock_parts.proofs.core_of.Reads as core-of-reads
-use Rattle.machine_pins.proofs.watched.Reads as watched-reads
-use Rattle.item_record.proofs.answer_bytes.Reads as answer-bytes-reads
-use Rattle.item_record.proofs.frame.Reads as frame-reads
-use Rattle.item_record.proofs.no.Reads as no-reads
-use Rattle.machine_answer.proofs.answer.Reads as answer-reads
-use Rattle.run_record.proofs.judge.Reads as judge-reads
-use Rattle.machine_act.proofs.whole_machine.Reads as whole-machine-reads
-use Rattle.item_record.proofs.put.Reads as put-reads
-use Rattle.machine_act.proofs.wait_of.Reads as wait-of-reads
-use Rattle.via.proofs.Via.reset.Reads as reset-reads
-use Rattle.via.proofs.Via.wait.Reads as Via-wait-reads
-use Rattle.via.proofs.Via.write.Reads as write-reads
-use Rattle.via.proofs.fresh.Reads as fresh-reads
-use Rattle.disk_drives.proofs.busy.Reads as busy-reads
-use Rattle.via.proofs.Via.count.Reads as count-reads
-use Rattle.via.proofs.Via.only_counts.Reads as only-counts-reads
 
 abbrev Inv-loop : tie.InvT-loop
 Inv-loop engine list answers₀ board₀ core₀ cells₀ drives₀ sense₀ stop₀ at₀ out₀ answers board core cells drives sense stop at out = Head list answers₀ (wholeMachine board₀ core₀ cells₀ drives₀ sense₀) answers (wholeMachine board core cells drives sense) at out × (stop ≡ 0)
@@ -99,24 +75,24 @@ fits : (c : tie.After-known-told Inv-loop μ-loop) → (4 ≤ c .before .n .give
 fits c = loop.fit (now (c .before .before .before .before .before .before .before .before .before .before .before .before .before .before .before .before .args .list)) (c .before .before .before .before .before .before .before .loop .at) (c .before .n .given .0 .0) (found c)
 
 -- where the ways of the VIA's wait meet
-counted : (c : tie.Joined2 Inv-loop μ-loop) → c .if2 .board ≡ boardVia (c .before .before .before .before .before .before .before .before .before .before .before .before .before .before .before .before .before .before .before .loop .board) (ticks (itemWait (c .before .before .before .before .before .before .d .given .0 .0)) (c .before .before .before .before .before .before .before .before .before .before .before .before .before .before .before .before .before .before .before .loop .board .via))
+counted : (c : tie.Joined2 Inv-loop μ-loop) → c .if2 .board ≡ boardVia (c .before .before .before .before .before .before .before .before .before .before .before .before .before .before .before .before .before .before .before .before .before .loop .board) (ticks (itemWait (c .before .before .before .before .before .before .before .before .d .given .0 .0)) (c .before .before .before .before .before .before .before .before .before .before .before .before .before .before .before .before .before .before .before .before .before .loop .board .via))
 counted c =
-    let l = c .before .before .before .before .before .before .before .before .before .before .before .before .before .before .before .before .before .before .before .loop in
+    let l = c .before .before .before .before .before .before .before .before .before .before .before .before .before .before .before .before .before .before .before .before .before .loop in
     let n = c .before .before .before .wait-of .ensures in
     ⊎-elim (λ w. w .3 ∙ ap (boardVia (l .board)) (w .2 .ensures ∙ ap (λ (n : ℕ). ticks n (l .board .via)) n))
     (λ w. w .3 ∙ ap (boardVia (l .board)) (w .2 .ensures ∙ ap (λ (n : ℕ). ticks n (l .board .via)) n)) (c .if2 .came)
 
 -- and those of the drives'
-passed : (c : tie.Joined3 Inv-loop μ-loop) → c .if3 .drives ≡ drivesTicks (itemWait (c .before .before .before .before .before .before .before .before .d .given .0 .0)) (c .before .before .before .before .before .before .before .before .before .before .before .before .before .before .before .before .before .before .before .before .before .loop .drives)
+passed : (c : tie.Joined3 Inv-loop μ-loop) → c .if3 .drives ≡ drivesTicks (itemWait (c .before .before .before .before .before .before .before .before .before .before .d .given .0 .0)) (c .before .before .before .before .before .before .before .before .before .before .before .before .before .before .before .before .before .before .before .before .before .before .before .loop .drives)
 passed c =
-    let d = c .before .before .before .before .before .before .before .before .before .before .before .before .before .before .before .before .before .before .before .before .before .loop .drives in
+    let d = c .before .before .before .before .before .before .before .before .before .before .before .before .before .before .before .before .before .before .before .before .before .before .before .loop .drives in
     ⊎-elim (λ w. w .2 ∙ w .1 .ensures ∙ ap (λ (n : ℕ). drivesTicks n d) (c .before .before .before .before .before .wait-of .ensures))
-    (λ w. w .1 ∙ sym (idle-drives (itemWait (c .before .before .before .before .before .before .before .before .d .given .0 .0)) d (sym (c .before .busy .ensures) ∙ w .0 .left))) (c .if3 .came)
+    (λ w. w .1 ∙ sym (idle-drives (itemWait (c .before .before .before .before .before .before .before .before .before .before .d .given .0 .0)) d (sym (c .before .busy .ensures) ∙ w .0 .left))) (c .if3 .came)
 
 -- where the ways of the change meet
 stored : (c : tie.At-match3-came Inv-loop μ-loop)
-    → (c .match3 .board ≡ boardChange (c .before .before .before .before .act .result .change) (boardDisk (c .before .before .before .before .before .before .before .before .before .if2 .board) (c .before .before .before .before .act .result .disk)))
-    × (c .match3 .sense ≡ senseChange (c .before .before .before .before .act .result .change) (c .before .before .before .before .before .before .before .before .before .before .before .before .before .before .before .before .before .before .before .before .before .before .before .before .before .before .before .before .loop .sense))
+    → (c .match3 .board ≡ boardChange (c .before .before .before .before .act .result .change) (valuesAt (now (c .before .before .before .before .before .before .before .before .before .before .before .before .before .before .before .before .before .before .before .before .before .before .before .before .before .before .before .before .before .before .before .before .before .before .before .before .before .before .before .args .list)) (c .before .before .before .before .before .before .before .before .before .before .before .before .before .before .before .before .before .before .before .before .before .before .before .before .before .before .before .before .before .before .loop .at) (c .before .before .before .before .before .before .before .before .before .before .before .before .before .before .before .before .before .before .before .before .before .before .before .before .n .given .0 .0) (c .before .before .before .before .before .before .before .before .before .before .before .before .before .before .before .first-value .result)) (boardDisk (c .before .before .before .before .before .before .before .before .before .if2 .board) (c .before .before .before .before .act .result .disk)))
+    × (c .match3 .sense ≡ senseChange (c .before .before .before .before .act .result .change) (c .before .before .before .before .before .before .before .before .before .before .before .before .before .before .before .before .before .before .before .before .before .before .before .before .before .before .before .before .before .before .loop .sense))
 unfolding boardChange senseChange
 stored c =
     ⊎-elim (λ w. (simp (w .2, w .1 .given .1), simp (w .3, w .1 .given .1)))
@@ -127,66 +103,57 @@ stored c =
     (⊎-elim (λ w. (simp (w .3, w .1 .given .1), simp (w .4, w .1 .given .1)))
     (⊎-elim (λ w. (simp (w .4, w .1 .given .1, w .3 .ensures), simp (w .5, w .1 .given .1)))
     (⊎-elim (λ w. (simp (w .3, w .1 .given .1, w .2 .ensures), simp (w .4, w .1 .given .1)))
-    (λ w. (simp (w .6, w .1 .given .1), simp (w .7, w .1 .given .1))))))))))
+    (λ w. (simp (w .5, w .1 .given .1, w .4 .ensures), simp (w .6, w .1 .given .1))))))))))
     (c .match3 .came)
+
+-- the values of the record: its item, and what its turn is
+from-is : (c : tie.After-bytes Inv-loop μ-loop) → (valuesAt (now (c .before .before .before .before .before .before .before .before .before .before .before .before .before .before .before .before .before .before .before .before .before .before .before .before .before .args .list)) (c .before .before .before .before .before .before .before .before .before .before .before .before .before .before .before .before .loop .at) (c .before .before .before .before .before .before .before .before .before .before .n .given .0 .0) (c .before .first-value .result)) ≡ valuesIn (recordAt (now (c .before .before .before .before .before .before .before .before .before .before .before .before .before .before .before .before .before .before .before .before .before .before .before .before .before .args .list)) (c .before .before .before .before .before .before .before .before .before .before .before .before .before .before .before .before .loop .at) (c .before .before .before .before .before .before .before .before .before .before .n .given .0 .0))
+from-is c = values-are (recordAt (now (c .before .before .before .before .before .before .before .before .before .before .before .before .before .before .before .before .before .before .before .before .before .before .before .before .before .args .list)) (c .before .before .before .before .before .before .before .before .before .before .before .before .before .before .before .before .loop .at) (c .before .before .before .before .before .before .before .before .before .before .n .given .0 .0)) (c .before .first-value .result) (c .before .first-value .ensures)
+
+range : (c : tie.After-bytes Inv-loop μ-loop) → ItemInRange (c .before .before .before .d .given .0 .0) × (0 < length (valuesAt (now (c .before .before .before .before .before .before .before .before .before .before .before .before .before .before .before .before .before .before .before .before .before .before .before .before .before .args .list)) (c .before .before .before .before .before .before .before .before .before .before .before .before .before .before .before .before .loop .at) (c .before .before .before .before .before .before .before .before .before .before .n .given .0 .0) (c .before .first-value .result)))
+range c =
+    let h = subst (JudgedInRange _) (c .before .before .before .d .given .1) (c .before .before .before .before .before .before .before .judge .ensures .1) in
+    (h .0, subst (λ (l : List ℕ). 0 < length l) (sym (from-is c)) (h .1))
+
+judged : (c : tie.After-bytes Inv-loop μ-loop) → turnOf (wholeMachine (c .before .before .before .before .before .before .before .before .before .before .before .before .before .before .before .before .loop .board) (c .before .before .before .before .before .before .before .before .before .before .before .before .before .before .before .before .loop .core) (c .before .before .before .before .before .before .before .before .before .before .before .before .before .before .before .before .loop .cells) (c .before .before .before .before .before .before .before .before .before .before .before .before .before .before .before .before .loop .drives) (c .before .before .before .before .before .before .before .before .before .before .before .before .before .before .before .before .loop .sense)) (recordAt (now (c .before .before .before .before .before .before .before .before .before .before .before .before .before .before .before .before .before .before .before .before .before .before .before .before .before .args .list)) (c .before .before .before .before .before .before .before .before .before .before .before .before .before .before .before .before .loop .at) (c .before .before .before .before .before .before .before .before .before .before .n .given .0 .0)) ≡ doneTurn (stepWith (wholeMachine (c .before .before .before .before .before .before .before .before .before .before .before .before .before .before .before .before .loop .board) (c .before .before .before .before .before .before .before .before .before .before .before .before .before .before .before .before .loop .core) (c .before .before .before .before .before .before .before .before .before .before .before .before .before .before .before .before .loop .cells) (c .before .before .before .before .before .before .before .before .before .before .before .before .before .before .before .before .loop .drives) (c .before .before .before .before .before .before .before .before .before .before .before .before .before .before .before .before .loop .sense)) (c .before .before .before .d .given .0 .0) (valuesAt (now (c .before .before .before .before .before .before .before .before .before .before .before .before .before .before .before .before .before .before .before .before .before .before .before .before .before .args .list)) (c .before .before .before .before .before .before .before .before .before .before .before .before .before .before .before .before .loop .at) (c .before .before .before .before .before .before .before .before .before .before .n .given .0 .0) (c .before .first-value .result)))
+unfolding turnJudged
+judged c =
+    c .before .before .before .before .before .before .before .judge .ensures .0 (wholeMachine (c .before .before .before .before .before .before .before .before .before .before .before .before .before .before .before .before .loop .board) (c .before .before .before .before .before .before .before .before .before .before .before .before .before .before .before .before .loop .core) (c .before .before .before .before .before .before .before .before .before .before .before .before .before .before .before .before .loop .cells) (c .before .before .before .before .before .before .before .before .before .before .before .before .before .before .before .before .loop .drives) (c .before .before .before .before .before .before .before .before .before .before .before .before .before .before .before .before .loop .sense)) refl ∙ ap (turnJudged (wholeMachine (c .before .before .before .before .before .before .before .before .before .before .before .before .before .before .before .before .loop .board) (c .before .before .before .before .before .before .before .before .before .before .before .before .before .before .before .before .loop .core) (c .before .before .before .before .before .before .before .before .before .before .before .before .before .before .before .before .loop .cells) (c .before .before .before .before .before .before .before .before .before .before .before .before .before .before .before .before .loop .drives) (c .before .before .before .before .before .before .before .before .before .before .before .before .before .before .before .before .loop .sense)) _ _) (c .before .before .before .d .given .1)
+    ∙ ap (λ (l : List ℕ). doneTurn (stepWith (wholeMachine (c .before .before .before .before .before .before .before .before .before .before .before .before .before .before .before .before .loop .board) (c .before .before .before .before .before .before .before .before .before .before .before .before .before .before .before .before .loop .core) (c .before .before .before .before .before .before .before .before .before .before .before .before .before .before .before .before .loop .cells) (c .before .before .before .before .before .before .before .before .before .before .before .before .before .before .before .before .loop .drives) (c .before .before .before .before .before .before .before .before .before .before .before .before .before .before .before .before .loop .sense)) (c .before .before .before .d .given .0 .0) l)) (sym (from-is c))
 
 -- where the ways of the strobe meet
 struck : (c : tie.Joined4 Inv-loop μ-loop)
-    → c .if4 .drives ≡ drivesAfter (strobeOf (c .before .before .before .before .before .before .before .before .before .before .before .before .before .before .before .before .before .before .before .before .before .before .before .before .before .before .before .before .before .before .before .before .loop .board)) (strobeOf (c .before .before .before .before .match3 .board)) (c .before .before .before .before .before .before .before .before .act .result .drives)
+    → Struck (registerWritten (c .before .before .before .before .before .before .before .before .before .before .before .before .before .before .before .before .before .before .before .before .before .d .given .0 .0)) (valuesAt (now (c .before .before .before .before .before .before .before .before .before .before .before .before .before .before .before .before .before .before .before .before .before .before .before .before .before .before .before .before .before .before .before .before .before .before .before .before .before .before .before .before .before .before .before .args .list)) (c .before .before .before .before .before .before .before .before .before .before .before .before .before .before .before .before .before .before .before .before .before .before .before .before .before .before .before .before .before .before .before .before .before .before .loop .at) (c .before .before .before .before .before .before .before .before .before .before .before .before .before .before .before .before .before .before .before .before .before .before .before .before .before .before .before .before .n .given .0 .0) (c .before .before .before .before .before .before .before .before .before .before .before .before .before .before .before .before .before .before .before .first-value .result)) (c .if4 .drives) (strobeOf (c .before .before .before .before .before .before .before .before .before .before .before .before .before .before .before .before .before .before .before .before .before .before .before .before .before .before .before .before .before .before .before .before .before .before .loop .board)) (strobeOf (c .before .before .before .before .match3 .board)) (c .before .before .before .before .match3 .board .via .ports) (c .before .before .before .before .before .before .before .before .act .result .drives)
 struck c =
-    let l = c .before .before .before .before .before .before .before .before .before .before .before .before .before .before .before .before .before .before .before .before .before .before .before .before .before .before .before .before .before .before .before .before .loop in
+    let l = c .before .before .before .before .before .before .before .before .before .before .before .before .before .before .before .before .before .before .before .before .before .before .before .before .before .before .before .before .before .before .before .before .before .before .loop in
     let k = wholeClock (l .core) (l .cells) in
     let before = c .before .before .before .before .before .before .before .before .before .before .before .before .before .before .before .before .before .watched .ensures k (l .sense) (l .drives) in
     let after = c .before .before .before .watched2 .ensures k (l .sense) (l .drives) in
-    ⊎-elim (λ w. w .2 ∙ w .1 .ensures ∙ ap₂ (λ (x y : Watched). drivesAfter x y (c .before .before .before .before .before .before .before .before .act .result .drives)) before after)
-    (λ w. w .1 ∙ turns.dark (c .before .before .before .before .before .before .before .before .before .before .before .before .before .before .before .before .before .before .before .before .before .before .before .before .before .before .before .before .before .before .before .before .loop .board) (c .before .before .before .before .before .before .before .before .before .before .before .before .before .before .before .before .before .before .before .before .before .before .before .before .before .before .before .before .before .before .before .before .loop .core) (c .before .before .before .before .before .before .before .before .before .before .before .before .before .before .before .before .before .before .before .before .before .before .before .before .before .before .before .before .before .before .before .before .loop .cells) (c .before .before .before .before .before .before .before .before .before .before .before .before .before .before .before .before .before .before .before .before .before .before .before .before .before .before .before .before .before .before .before .before .loop .drives) (c .before .before .before .before .before .before .before .before .before .before .before .before .before .before .before .before .before .before .before .before .before .before .before .before .before .before .before .before .before .before .before .before .loop .sense) (c .before .before .before .before .before .before .before .before .before .before .before .before .before .before .before .before .before .before .before .d .given .0 .0) (c .before .before .before .before .before .before .before .before .before .before .before .before .before .if2 .board) (counted (c .before .before .before .before .before .before .before .before .before .before .before .before .before)) (c .before .before .before .before .before .before .before .before .before .before .before .if3 .drives) (passed (c .before .before .before .before .before .before .before .before .before .before .before)) (c .before .before .before .before .before .before .before .before .act .result) (c .before .before .before .before .before .before .before .before .act .last .1 .1 .1 .1 .1 .1 .0) (c .before .before .before .before .before .before .before .before .act .ensures .0) (c .before .before .before .before .match3 .board) (c .before .before .before .before .before .before .before .before .before .before .before .before .before .before .before .before .before .before .before .before .before .before .before .before .before .before .before .before .before .before .before .before .loop .inv .0 .ok)
-    (sym (ap₂ (λ (x y : Watched). x .lstrb || y .lstrb) before after) ∙ w .0 .left)) (c .if4 .came)
+    let lit = sym (ap₂ (λ (x y : Watched). x .lstrb || y .lstrb) before after) in
+    ⊎-elim (λ w. inl (lit ∙ w .0 .taken, w .3 ∙ w .2 .ensures ∙ ap₂ (λ (x y : Watched). spoiltIf (selMoved (registerWritten (c .before .before .before .before .before .before .before .before .before .before .before .before .before .before .before .before .before .before .before .before .before .d .given .0 .0)) (valuesAt (now (c .before .before .before .before .before .before .before .before .before .before .before .before .before .before .before .before .before .before .before .before .before .before .before .before .before .before .before .before .before .before .before .before .before .before .before .before .before .before .before .before .before .before .before .args .list)) (c .before .before .before .before .before .before .before .before .before .before .before .before .before .before .before .before .before .before .before .before .before .before .before .before .before .before .before .before .before .before .before .before .before .before .loop .at) (c .before .before .before .before .before .before .before .before .before .before .before .before .before .before .before .before .before .before .before .before .before .before .before .before .before .before .before .before .n .given .0 .0) (c .before .before .before .before .before .before .before .before .before .before .before .before .before .before .before .before .before .before .before .first-value .result)) (c .before .before .before .before .match3 .board .via .ports) (x .sel)) (drivesAfter x y (c .before .before .before .before .before .before .before .before .act .result .drives))) before after))
+    (λ w. inr (lit ∙ w .0 .left, w .1)) (c .if4 .came)
 
 -- the item carried out
 stepped : (c : tie.Joined4 Inv-loop μ-loop)
-    → record { machine = wholeMachine (c .before .before .before .before .match3 .board) (c .before .before .before .before .before .before .before .before .act .result .core) (c .before .before .before .before .before .before .before .before .act .last .1 .1 .1 .1 .1 .1 .0) (c .if4 .drives) (c .before .before .before .before .match3 .sense); value = c .before .before .before .before .before .before .before .before .act .result .value }
-    ≡ stepOf (wholeMachine (c .before .before .before .before .before .before .before .before .before .before .before .before .before .before .before .before .before .before .before .before .before .before .before .before .before .before .before .before .before .before .before .before .loop .board) (c .before .before .before .before .before .before .before .before .before .before .before .before .before .before .before .before .before .before .before .before .before .before .before .before .before .before .before .before .before .before .before .before .loop .core) (c .before .before .before .before .before .before .before .before .before .before .before .before .before .before .before .before .before .before .before .before .before .before .before .before .before .before .before .before .before .before .before .before .loop .cells) (c .before .before .before .before .before .before .before .before .before .before .before .before .before .before .before .before .before .before .before .before .before .before .before .before .before .before .before .before .before .before .before .before .loop .drives) (c .before .before .before .before .before .before .before .before .before .before .before .before .before .before .before .before .before .before .before .before .before .before .before .before .before .before .before .before .before .before .before .before .loop .sense)) (c .before .before .before .before .before .before .before .before .before .before .before .before .before .before .before .before .before .before .before .d .given .0 .0)
+    → record { machine = wholeMachine (c .before .before .before .before .match3 .board) (c .before .before .before .before .before .before .before .before .act .result .core) (c .before .before .before .before .before .before .before .before .act .last .1 .1 .1 .1 .1 .1 .1 .0) (c .if4 .drives) (c .before .before .before .before .match3 .sense); value = c .before .before .before .before .before .before .before .before .act .result .value }
+    ≡ stepWith (wholeMachine (c .before .before .before .before .before .before .before .before .before .before .before .before .before .before .before .before .before .before .before .before .before .before .before .before .before .before .before .before .before .before .before .before .before .before .loop .board) (c .before .before .before .before .before .before .before .before .before .before .before .before .before .before .before .before .before .before .before .before .before .before .before .before .before .before .before .before .before .before .before .before .before .before .loop .core) (c .before .before .before .before .before .before .before .before .before .before .before .before .before .before .before .before .before .before .before .before .before .before .before .before .before .before .before .before .before .before .before .before .before .before .loop .cells) (c .before .before .before .before .before .before .before .before .before .before .before .before .before .before .before .before .before .before .before .before .before .before .before .before .before .before .before .before .before .before .before .before .before .before .loop .drives) (c .before .before .before .before .before .before .before .before .before .before .before .before .before .before .before .before .before .before .before .before .before .before .before .before .before .before .before .before .before .before .before .before .before .before .loop .sense)) (c .before .before .before .before .before .before .before .before .before .before .before .before .before .before .before .before .before .before .before .before .before .d .given .0 .0) (valuesAt (now (c .before .before .before .before .before .before .before .before .before .before .before .before .before .before .before .before .before .before .before .before .before .before .before .before .before .before .before .before .before .before .before .before .before .before .before .before .before .before .before .before .before .before .before .args .list)) (c .before .before .before .before .before .before .before .before .before .before .before .before .before .before .before .before .before .before .before .before .before .before .before .before .before .before .before .before .before .before .before .before .before .before .loop .at) (c .before .before .before .before .before .before .before .before .before .before .before .before .before .before .before .before .before .before .before .before .before .before .before .before .before .before .before .before .n .given .0 .0) (c .before .before .before .before .before .before .before .before .before .before .before .before .before .before .before .before .before .before .before .first-value .result))
 stepped c =
-    turns.stepped (c .before .before .before .before .before .before .before .before .before .before .before .before .before .before .before .before .before .before .before .before .before .before .before .before .before .before .before .before .before .before .before .before .loop .board) (c .before .before .before .before .before .before .before .before .before .before .before .before .before .before .before .before .before .before .before .before .before .before .before .before .before .before .before .before .before .before .before .before .loop .core) (c .before .before .before .before .before .before .before .before .before .before .before .before .before .before .before .before .before .before .before .before .before .before .before .before .before .before .before .before .before .before .before .before .loop .cells) (c .before .before .before .before .before .before .before .before .before .before .before .before .before .before .before .before .before .before .before .before .before .before .before .before .before .before .before .before .before .before .before .before .loop .drives) (c .before .before .before .before .before .before .before .before .before .before .before .before .before .before .before .before .before .before .before .before .before .before .before .before .before .before .before .before .before .before .before .before .loop .sense) (c .before .before .before .before .before .before .before .before .before .before .before .before .before .before .before .before .before .before .before .d .given .0 .0) (c .before .before .before .before .before .before .before .before .before .before .before .before .before .if2 .board) (counted (c .before .before .before .before .before .before .before .before .before .before .before .before .before)) (c .before .before .before .before .before .before .before .before .before .before .before .if3 .drives) (passed (c .before .before .before .before .before .before .before .before .before .before .before)) (c .before .before .before .before .before .before .before .before .act .result) (c .before .before .before .before .before .before .before .before .act .last .1 .1 .1 .1 .1 .1 .0) (c .before .before .before .before .before .before .before .before .act .ensures .0) (c .before .before .before .before .before .before .before .before .act .ensures .1 .0) (c .before .before .before .before .match3 .board) (c .before .before .before .before .match3 .sense) (stored (c .before .before .before .before) .0) (stored (c .before .before .before .before) .1) (c .if4 .drives) (struck c)
-
-range : (c : tie.After-known-told2 Inv-loop μ-loop) → ItemInRange (c .before .d .given .0 .0)
-range c = subst (JudgedInRange _) (c .before .d .given .1) (c .before .before .before .before .before .judge .ensures .1)
+    turns.stepped (c .before .before .before .before .before .before .before .before .before .before .before .before .before .before .before .before .before .before .before .before .before .before .before .before .before .before .before .before .before .before .before .before .before .before .loop .board) (c .before .before .before .before .before .before .before .before .before .before .before .before .before .before .before .before .before .before .before .before .before .before .before .before .before .before .before .before .before .before .before .before .before .before .loop .core) (c .before .before .before .before .before .before .before .before .before .before .before .before .before .before .before .before .before .before .before .before .before .before .before .before .before .before .before .before .before .before .before .before .before .before .loop .cells) (c .before .before .before .before .before .before .before .before .before .before .before .before .before .before .before .before .before .before .before .before .before .before .before .before .before .before .before .before .before .before .before .before .before .before .loop .drives) (c .before .before .before .before .before .before .before .before .before .before .before .before .before .before .before .before .before .before .before .before .before .before .before .before .before .before .before .before .before .before .before .before .before .before .loop .sense) (valuesAt (now (c .before .before .before .before .before .before .before .before .before .before .before .before .before .before .before .before .before .before .before .before .before .before .before .before .before .before .before .before .before .before .before .before .before .before .before .before .before .before .before .before .before .before .before .args .list)) (c .before .before .before .before .before .before .before .before .before .before .before .before .before .before .before .before .before .before .before .before .before .before .before .before .before .before .before .before .before .before .before .before .before .before .loop .at) (c .before .before .before .before .before .before .before .before .before .before .before .before .before .before .before .before .before .before .before .before .before .before .before .before .before .before .before .before .n .given .0 .0) (c .before .before .before .before .before .before .before .before .before .before .before .before .before .before .before .before .before .before .before .first-value .result)) (c .before .before .before .before .before .before .before .before .before .before .before .before .before .before .before .before .before .before .before .before .before .d .given .0 .0) (c .before .before .before .before .before .before .before .before .before .before .before .before .before .before .before .before .before .before .before .before .before .before .before .before .before .before .before .before .before .before .before .before .before .before .loop .inv .0 .ok) (c .before .before .before .before .before .before .before .before .before .before .before .before .before .if2 .board) (counted (c .before .before .before .before .before .before .before .before .before .before .before .before .before)) (c .before .before .before .before .before .before .before .before .before .before .before .if3 .drives) (passed (c .before .before .before .before .before .before .before .before .before .before .before)) (c .before .before .before .before .before .before .before .before .act .result) (c .before .before .before .before .before .before .before .before .act .last .1 .1 .1 .1 .1 .1 .1 .0) (c .before .before .before .before .before .before .before .before .act .ensures .0) (c .before .before .before .before .before .before .before .before .act .ensures .1 .0) (c .before .before .before .before .match3 .board) (c .before .before .before .before .match3 .sense) (stored (c .before .before .before .before) .0) (stored (c .before .before .before .before) .1) (c .if4 .drives) (struck c) (range (c .before .before .before .before .before .before .before .before .before .before .before .before .before .before .before .before .before .before) .0) (range (c .before .before .before .before .before .before .before .before .before .before .before .before .before .before .before .before .before .before) .1)
 
 -- its record
 did : (c : tie.After-answer Inv-loop μ-loop)
-    → record { machine = wholeMachine (c .before .before .before .before .before .match3 .board) (c .before .before .before .before .before .before .before .before .before .act .result .core) (c .before .before .before .before .before .before .before .before .before .act .last .1 .1 .1 .1 .1 .1 .0) (c .before .if4 .drives) (c .before .before .before .before .before .match3 .sense); answer = c .answer .result }
-    ≡ turnOf (wholeMachine (c .before .before .before .before .before .before .before .before .before .before .before .before .before .before .before .before .before .before .before .before .before .before .before .before .before .before .before .before .before .before .before .before .before .loop .board) (c .before .before .before .before .before .before .before .before .before .before .before .before .before .before .before .before .before .before .before .before .before .before .before .before .before .before .before .before .before .before .before .before .before .loop .core) (c .before .before .before .before .before .before .before .before .before .before .before .before .before .before .before .before .before .before .before .before .before .before .before .before .before .before .before .before .before .before .before .before .before .loop .cells) (c .before .before .before .before .before .before .before .before .before .before .before .before .before .before .before .before .before .before .before .before .before .before .before .before .before .before .before .before .before .before .before .before .before .loop .drives) (c .before .before .before .before .before .before .before .before .before .before .before .before .before .before .before .before .before .before .before .before .before .before .before .before .before .before .before .before .before .before .before .before .before .loop .sense)) (take (c .before .before .before .before .before .before .before .before .before .before .before .before .before .before .before .before .before .before .before .before .before .before .before .before .before .before .before .n .given .0 .0 - 2) (drop 2 (take (length (now (c .before .before .before .before .before .before .before .before .before .before .before .before .before .before .before .before .before .before .before .before .before .before .before .before .before .before .before .before .before .before .before .before .before .before .before .before .before .before .before .before .before .before .args .list)) - c .before .before .before .before .before .before .before .before .before .before .before .before .before .before .before .before .before .before .before .before .before .before .before .before .before .before .before .before .before .before .before .before .before .loop .at) (drop (c .before .before .before .before .before .before .before .before .before .before .before .before .before .before .before .before .before .before .before .before .before .before .before .before .before .before .before .before .before .before .before .before .before .loop .at) (now (c .before .before .before .before .before .before .before .before .before .before .before .before .before .before .before .before .before .before .before .before .before .before .before .before .before .before .before .before .before .before .before .before .before .before .before .before .before .before .before .before .before .before .args .list))))))
-unfolding turnJudged
+    → record { machine = wholeMachine (c .before .before .before .before .before .match3 .board) (c .before .before .before .before .before .before .before .before .before .act .result .core) (c .before .before .before .before .before .before .before .before .before .act .last .1 .1 .1 .1 .1 .1 .1 .0) (c .before .if4 .drives) (c .before .before .before .before .before .match3 .sense); answer = c .answer .result }
+    ≡ turnOf (wholeMachine (c .before .before .before .before .before .before .before .before .before .before .before .before .before .before .before .before .before .before .before .before .before .before .before .before .before .before .before .before .before .before .before .before .before .before .before .loop .board) (c .before .before .before .before .before .before .before .before .before .before .before .before .before .before .before .before .before .before .before .before .before .before .before .before .before .before .before .before .before .before .before .before .before .before .before .loop .core) (c .before .before .before .before .before .before .before .before .before .before .before .before .before .before .before .before .before .before .before .before .before .before .before .before .before .before .before .before .before .before .before .before .before .before .before .loop .cells) (c .before .before .before .before .before .before .before .before .before .before .before .before .before .before .before .before .before .before .before .before .before .before .before .before .before .before .before .before .before .before .before .before .before .before .before .loop .drives) (c .before .before .before .before .before .before .before .before .before .before .before .before .before .before .before .before .before .before .before .before .before .before .before .before .before .before .before .before .before .before .before .before .before .before .before .loop .sense)) (recordAt (now (c .before .before .before .before .before .before .before .before .before .before .before .before .before .before .before .before .before .before .before .before .before .before .before .before .before .before .before .before .before .before .before .before .before .before .before .before .before .before .before .before .before .before .before .before .args .list)) (c .before .before .before .before .before .before .before .before .before .before .before .before .before .before .before .before .before .before .before .before .before .before .before .before .before .before .before .before .before .before .before .before .before .before .before .loop .at) (c .before .before .before .before .before .before .before .before .before .before .before .before .before .before .before .before .before .before .before .before .before .before .before .before .before .before .before .before .before .n .given .0 .0))
 did c =
-    turns.done (c .before .before .before .before .before .before .before .before .before .before .before .before .before .before .before .before .before .before .before .before .before .before .before .before .before .before .before .before .before .before .before .before .before .loop .board) (c .before .before .before .before .before .before .before .before .before .before .before .before .before .before .before .before .before .before .before .before .before .before .before .before .before .before .before .before .before .before .before .before .before .loop .core) (c .before .before .before .before .before .before .before .before .before .before .before .before .before .before .before .before .before .before .before .before .before .before .before .before .before .before .before .before .before .before .before .before .before .loop .cells) (c .before .before .before .before .before .before .before .before .before .before .before .before .before .before .before .before .before .before .before .before .before .before .before .before .before .before .before .before .before .before .before .before .before .loop .drives) (c .before .before .before .before .before .before .before .before .before .before .before .before .before .before .before .before .before .before .before .before .before .before .before .before .before .before .before .before .before .before .before .before .before .loop .sense) (c .before .before .before .before .before .before .before .before .before .before .before .before .before .before .before .before .before .before .before .before .d .given .0 .0) (c .before .before .before .before .before .before .before .before .before .before .before .before .before .before .if2 .board) (counted (c .before .before .before .before .before .before .before .before .before .before .before .before .before .before)) (c .before .before .before .before .before .before .before .before .before .before .before .before .if3 .drives) (passed (c .before .before .before .before .before .before .before .before .before .before .before .before)) (c .before .before .before .before .before .before .before .before .before .act .result) (c .before .before .before .before .before .before .before .before .before .act .last .1 .1 .1 .1 .1 .1 .0) (c .before .before .before .before .before .before .before .before .before .act .ensures .0) (c .before .before .before .before .before .before .before .before .before .act .ensures .1 .0) (c .before .before .before .before .before .match3 .board) (c .before .before .before .before .before .match3 .sense) (stored (c .before .before .before .before .before) .0) (stored (c .before .before .before .before .before) .1) (c .before .if4 .drives) (struck (c .before)) _
-    (c .before .before .before .before .before .before .before .before .before .before .before .before .before .before .before .before .before .before .before .before .before .before .before .before .judge .ensures .0 (wholeMachine (c .before .before .before .before .before .before .before .before .before .before .before .before .before .before .before .before .before .before .before .before .before .before .before .before .before .before .before .before .before .before .before .before .before .loop .board) (c .before .before .before .before .before .before .before .before .before .before .before .before .before .before .before .before .before .before .before .before .before .before .before .before .before .before .before .before .before .before .before .before .before .loop .core) (c .before .before .before .before .before .before .before .before .before .before .before .before .before .before .before .before .before .before .before .before .before .before .before .before .before .before .before .before .before .before .before .before .before .loop .cells) (c .before .before .before .before .before .before .before .before .before .before .before .before .before .before .before .before .before .before .before .before .before .before .before .before .before .before .before .before .before .before .before .before .before .loop .drives) (c .before .before .before .before .before .before .before .before .before .before .before .before .before .before .before .before .before .before .before .before .before .before .before .before .before .before .before .before .before .before .before .before .before .loop .sense)) refl ∙ ap (turnJudged (wholeMachine (c .before .before .before .before .before .before .before .before .before .before .before .before .before .before .before .before .before .before .before .before .before .before .before .before .before .before .before .before .before .before .before .before .before .loop .board) (c .before .before .before .before .before .before .before .before .before .before .before .before .before .before .before .before .before .before .before .before .before .before .before .before .before .before .before .before .before .before .before .before .before .loop .core) (c .before .before .before .before .before .before .before .before .before .before .before .before .before .before .before .before .before .before .before .before .before .before .before .before .before .before .before .before .before .before .before .before .before .loop .cells) (c .before .before .before .before .before .before .before .before .before .before .before .before .before .before .before .before .before .before .before .before .before .before .before .before .before .before .before .before .before .before .before .before .before .loop .drives) (c .before .before .before .before .before .before .before .before .before .before .before .before .before .before .before .before .before .before .before .before .before .before .before .before .before .before .before .before .before .before .before .before .before .loop .sense)) _) (c .before .before .before .before .before .before .before .before .before .before .before .before .before .before .before .before .before .before .before .before .d .given .1)) _ (c .answer .ensures _ _ _)
-
--- where the record is an MW: what is known of it
-many : (c : tie.After-known-told9 Inv-loop μ-loop) → ManyInRange (recordAt (now (c .before .before .before .before .before .before .before .before .before .before .before .before .before .before .before .before .before .before .before .before .before .before .before .args .list)) (c .before .before .before .before .before .before .before .before .before .before .before .before .before .before .loop .at) (c .before .before .before .before .before .before .before .before .n .given .0 .0)) (c .before .d2 .given .0 .0)
-many c = subst (JudgedInRange _) (c .before .d2 .given .1) (c .before .before .before .before .before .judge .ensures .1)
-
-long : (c : tie.After-known-told9 Inv-loop μ-loop) → 12 ≤ c .before .before .before .before .before .before .before .before .n .given .0 .0
-long c = twelve (now (c .before .before .before .before .before .before .before .before .before .before .before .before .before .before .before .before .before .before .before .before .before .before .before .args .list)) (c .before .before .before .before .before .before .before .before .before .before .before .before .before .before .loop .at) (c .before .before .before .before .before .before .before .before .n .given .0 .0) (found (c .before .before .before .before .before .before .before)) (many c .least)
-
-judged : (c : tie.After-known-told9 Inv-loop μ-loop) → turnOf (wholeMachine (c .before .before .before .before .before .before .before .before .before .before .before .before .before .before .loop .board) (c .before .before .before .before .before .before .before .before .before .before .before .before .before .before .loop .core) (c .before .before .before .before .before .before .before .before .before .before .before .before .before .before .loop .cells) (c .before .before .before .before .before .before .before .before .before .before .before .before .before .before .loop .drives) (c .before .before .before .before .before .before .before .before .before .before .before .before .before .before .loop .sense)) (recordAt (now (c .before .before .before .before .before .before .before .before .before .before .before .before .before .before .before .before .before .before .before .before .before .before .before .args .list)) (c .before .before .before .before .before .before .before .before .before .before .before .before .before .before .loop .at) (c .before .before .before .before .before .before .before .before .n .given .0 .0)) ≡ manyTurn (wholeMachine (c .before .before .before .before .before .before .before .before .before .before .before .before .before .before .loop .board) (c .before .before .before .before .before .before .before .before .before .before .before .before .before .before .loop .core) (c .before .before .before .before .before .before .before .before .before .before .before .before .before .before .loop .cells) (c .before .before .before .before .before .before .before .before .before .before .before .before .before .before .loop .drives) (c .before .before .before .before .before .before .before .before .before .before .before .before .before .before .loop .sense)) (c .before .d2 .given .0 .0) (recordAt (now (c .before .before .before .before .before .before .before .before .before .before .before .before .before .before .before .before .before .before .before .before .before .before .before .args .list)) (c .before .before .before .before .before .before .before .before .before .before .before .before .before .before .loop .at) (c .before .before .before .before .before .before .before .before .n .given .0 .0))
-unfolding turnJudged
-judged c = c .before .before .before .before .before .judge .ensures .0 (wholeMachine (c .before .before .before .before .before .before .before .before .before .before .before .before .before .before .loop .board) (c .before .before .before .before .before .before .before .before .before .before .before .before .before .before .loop .core) (c .before .before .before .before .before .before .before .before .before .before .before .before .before .before .loop .cells) (c .before .before .before .before .before .before .before .before .before .before .before .before .before .before .loop .drives) (c .before .before .before .before .before .before .before .before .before .before .before .before .before .before .loop .sense)) refl ∙ ap (turnJudged (wholeMachine (c .before .before .before .before .before .before .before .before .before .before .before .before .before .before .loop .board) (c .before .before .before .before .before .before .before .before .before .before .before .before .before .before .loop .core) (c .before .before .before .before .before .before .before .before .before .before .before .before .before .before .loop .cells) (c .before .before .before .before .before .before .before .before .before .before .before .before .before .before .loop .drives) (c .before .before .before .before .before .before .before .before .before .before .before .before .before .before .loop .sense)) _) (c .before .d2 .given .1)
-
--- and its turn
-wrote : (c : tie.After-answer2 Inv-loop μ-loop)
-    → record { machine = wholeMachine (c .before .before .before .before .write2 .result .board) (c .before .before .before .before .write2 .result .core) (c .before .before .before .before .write2 .last .1 .1 .1 .1 .1 .1 .0) (c .before .before .before .before .write2 .result .drives) (c .before .before .before .before .before .before .before .before .before .before .before .before .before .before .before .before .before .before .before .before .before .loop .sense); answer = c .answer2 .result }
-    ≡ turnOf (wholeMachine (c .before .before .before .before .before .before .before .before .before .before .before .before .before .before .before .before .before .before .before .before .before .loop .board) (c .before .before .before .before .before .before .before .before .before .before .before .before .before .before .before .before .before .before .before .before .before .loop .core) (c .before .before .before .before .before .before .before .before .before .before .before .before .before .before .before .before .before .before .before .before .before .loop .cells) (c .before .before .before .before .before .before .before .before .before .before .before .before .before .before .before .before .before .before .before .before .before .loop .drives) (c .before .before .before .before .before .before .before .before .before .before .before .before .before .before .before .before .before .before .before .before .before .loop .sense)) (recordAt (now (c .before .before .before .before .before .before .before .before .before .before .before .before .before .before .before .before .before .before .before .before .before .before .before .before .before .before .before .before .before .before .args .list)) (c .before .before .before .before .before .before .before .before .before .before .before .before .before .before .before .before .before .before .before .before .before .loop .at) (c .before .before .before .before .before .before .before .before .before .before .before .before .before .before .before .n .given .0 .0))
-wrote c =
-    many-did (wholeMachine (c .before .before .before .before .before .before .before .before .before .before .before .before .before .before .before .before .before .before .before .before .before .loop .board) (c .before .before .before .before .before .before .before .before .before .before .before .before .before .before .before .before .before .before .before .before .before .loop .core) (c .before .before .before .before .before .before .before .before .before .before .before .before .before .before .before .before .before .before .before .before .before .loop .cells) (c .before .before .before .before .before .before .before .before .before .before .before .before .before .before .before .before .before .before .before .before .before .loop .drives) (c .before .before .before .before .before .before .before .before .before .before .before .before .before .before .before .before .before .before .before .before .before .loop .sense)) (recordAt (now (c .before .before .before .before .before .before .before .before .before .before .before .before .before .before .before .before .before .before .before .before .before .before .before .before .before .before .before .before .before .before .args .list)) (c .before .before .before .before .before .before .before .before .before .before .before .before .before .before .before .before .before .before .before .before .before .loop .at) (c .before .before .before .before .before .before .before .before .before .before .before .before .before .before .before .n .given .0 .0)) (c .before .before .before .before .before .before .before .before .d2 .given .0 .0) (judged (c .before .before .before .before .before .before .before)) (valuesAt (now (c .before .before .before .before .before .before .before .before .before .before .before .before .before .before .before .before .before .before .before .before .before .before .before .before .before .before .before .before .before .before .args .list)) (c .before .before .before .before .before .before .before .before .before .before .before .before .before .before .before .before .before .before .before .before .before .loop .at) (c .before .before .before .before .before .before .before .before .before .before .before .before .before .before .before .n .given .0 .0)) (values-are (now (c .before .before .before .before .before .before .before .before .before .before .before .before .before .before .before .before .before .before .before .before .before .before .before .before .before .before .before .before .before .before .args .list)) (c .before .before .before .before .before .before .before .before .before .before .before .before .before .before .before .before .before .before .before .before .before .loop .at) (c .before .before .before .before .before .before .before .before .before .before .before .before .before .before .before .n .given .0 .0) (long (c .before .before .before .before .before .before .before))) _ (c .before .before .before .before .write2 .ensures (c .before .before .before .before .before .before .before .before .before .before .before .before .before .before .before .before .before .before .before .before .before .loop .sense)) (c .answer2 .result) (c .answer2 .ensures _ _ _)
+    ap (λ (y : Answer). record { machine = wholeMachine (c .before .before .before .before .before .match3 .board) (c .before .before .before .before .before .before .before .before .before .act .result .core) (c .before .before .before .before .before .before .before .before .before .act .last .1 .1 .1 .1 .1 .1 .1 .0) (c .before .if4 .drives) (c .before .before .before .before .before .match3 .sense); answer = y }) (c .answer .ensures _ _ _)
+    ∙ ap doneTurn (stepped (c .before)) ∙ sym (judged (c .before .before .before .before .before .before .before .before .before .before .before .before .before .before .before .before .before .before .before))
 
 -- where the ways of the record meet: the parts together are the turn's machine
-met : (c : tie.At-match2-came Inv-loop μ-loop) → record { machine = wholeMachine (c .match2 .board) (c .match2 .core) (c .match2 .cells) (c .match2 .drives) (c .match2 .sense); answer = c .match2 .answer } ≡ turnOf (wholeMachine (c .before .before .before .before .before .before .before .before .before .before .before .before .loop .board) (c .before .before .before .before .before .before .before .before .before .before .before .before .loop .core) (c .before .before .before .before .before .before .before .before .before .before .before .before .loop .cells) (c .before .before .before .before .before .before .before .before .before .before .before .before .loop .drives) (c .before .before .before .before .before .before .before .before .before .before .before .before .loop .sense)) (take (c .before .before .before .before .before .before .n .given .0 .0 - 2) (drop 2 (take (length (now (c .before .before .before .before .before .before .before .before .before .before .before .before .before .before .before .before .before .before .before .before .before .args .list)) - c .before .before .before .before .before .before .before .before .before .before .before .before .loop .at) (drop (c .before .before .before .before .before .before .before .before .before .before .before .before .loop .at) (now (c .before .before .before .before .before .before .before .before .before .before .before .before .before .before .before .before .before .before .before .before .before .args .list))))))
-unfolding turnJudged
+met : (c : tie.At-match2-came Inv-loop μ-loop) → record { machine = wholeMachine (c .match2 .board) (c .match2 .core) (c .match2 .cells) (c .match2 .drives) (c .match2 .sense); answer = c .match2 .answer } ≡ turnOf (wholeMachine (c .before .before .before .before .before .before .before .before .before .before .before .before .loop .board) (c .before .before .before .before .before .before .before .before .before .before .before .before .loop .core) (c .before .before .before .before .before .before .before .before .before .before .before .before .loop .cells) (c .before .before .before .before .before .before .before .before .before .before .before .before .loop .drives) (c .before .before .before .before .before .before .before .before .before .before .before .before .loop .sense)) (recordAt (now (c .before .before .before .before .before .before .before .before .before .before .before .before .before .before .before .before .before .before .before .before .before .args .list)) (c .before .before .before .before .before .before .before .before .before .before .before .before .loop .at) (c .before .before .before .before .before .before .n .given .0 .0))
 met c =
-    ⊎-elim (λ w. simp (w .22, w .23, w .24, w .25, w .26, w .27) (did (record { before = record { before = record { before = record { before = record { before = record { before = record { before = record { before = record { before = record { before = record { before = record { before = record { before = record { before = record { before = record { before = record { before = record { before = record { before = record { before = record { before = record { before = c .before; match2 = w .0 }; d = w .1 }; known-told2 = w .2 }; watched = w .3 }; wait-of = w .4 }; only-counts-arg = w .5 }; only-counts = w .6 }; if2 = w .7 }; busy = w .8 }; if3 = w .9 }; sense2 = w .10 }; cells = w .11 }; act = w .12 }; disk = w .13 }; core = w .14 }; drives2 = w .15 }; match3 = w .16 }; watched2 = w .17 }; struct-known = w .18 }; struct-known2 = w .19 }; if4 = w .20 }; answer = w .21 })))
-    (⊎-elim (λ w. simp (w .10, w .11, w .12, w .13, w .14, w .15) (wrote (record { before = record { before = record { before = record { before = record { before = record { before = record { before = record { before = record { before = record { before = c .before; match2 = w .0 }; d2 = w .1 }; known-told9 = w .2 }; write-arg2 = w .3 }; cells2 = w .4 }; write2 = w .5 }; b = w .6 }; core2 = w .7 }; drives3 = w .8 }; answer2 = w .9 })))
-    (λ w. simp (w .2, w .3, w .4, w .5, w .6, w .7) (sym (c .before .before .before .judge .ensures .0 (wholeMachine (c .before .before .before .before .before .before .before .before .before .before .before .before .loop .board) (c .before .before .before .before .before .before .before .before .before .before .before .before .loop .core) (c .before .before .before .before .before .before .before .before .before .before .before .before .loop .cells) (c .before .before .before .before .before .before .before .before .before .before .before .before .loop .drives) (c .before .before .before .before .before .before .before .before .before .before .before .before .loop .sense)) refl ∙ ap (turnJudged (wholeMachine (c .before .before .before .before .before .before .before .before .before .before .before .before .loop .board) (c .before .before .before .before .before .before .before .before .before .before .before .before .loop .core) (c .before .before .before .before .before .before .before .before .before .before .before .before .loop .cells) (c .before .before .before .before .before .before .before .before .before .before .before .before .loop .drives) (c .before .before .before .before .before .before .before .before .before .before .before .before .loop .sense)) _) (w .1 .given .1)
-    ∙ ap (λ (y : Answer). record { machine = (wholeMachine (c .before .before .before .before .before .before .before .before .before .before .before .before .loop .board) (c .before .before .before .before .before .before .before .before .before .before .before .before .loop .core) (c .before .before .before .before .before .before .before .before .before .before .before .before .loop .cells) (c .before .before .before .before .before .before .before .before .before .before .before .before .loop .drives) (c .before .before .before .before .before .before .before .before .before .before .before .before .loop .sense)); answer = y }) (sym (c .before .no2 .ensures ∙ ap noOf (c .before .before .refusal .ensures ∙ simp (w .1 .given .1)))))))) (c .match2 .came)
+    ⊎-elim (λ w. simp (w .24, w .25, w .26, w .27, w .28, w .29) (did (record { before = record { before = record { before = record { before = record { before = record { before = record { before = record { before = record { before = record { before = record { before = record { before = record { before = record { before = record { before = record { before = record { before = record { before = record { before = record { before = record { before = record { before = record { before = record { before = c .before; match2 = w .0 }; d = w .1 }; known-told2 = w .2 }; first-value = w .3 }; bytes = w .4 }; watched = w .5 }; wait-of = w .6 }; only-counts-arg = w .7 }; only-counts = w .8 }; if2 = w .9 }; busy = w .10 }; if3 = w .11 }; sense2 = w .12 }; cells = w .13 }; act = w .14 }; board = w .15 }; core = w .16 }; drives2 = w .17 }; match3 = w .18 }; watched2 = w .19 }; struct-known = w .20 }; struct-known2 = w .21 }; if4 = w .22 }; answer = w .23 })))
+    (λ w. simp (w .1, w .2, w .3, w .4, w .5, w .6) (sym (c .before .before .before .judge .ensures .0 (wholeMachine (c .before .before .before .before .before .before .before .before .before .before .before .before .loop .board) (c .before .before .before .before .before .before .before .before .before .before .before .before .loop .core) (c .before .before .before .before .before .before .before .before .before .before .before .before .loop .cells) (c .before .before .before .before .before .before .before .before .before .before .before .before .loop .drives) (c .before .before .before .before .before .before .before .before .before .before .before .before .loop .sense)) refl ∙ refused (wholeMachine (c .before .before .before .before .before .before .before .before .before .before .before .before .loop .board) (c .before .before .before .before .before .before .before .before .before .before .before .before .loop .core) (c .before .before .before .before .before .before .before .before .before .before .before .before .loop .cells) (c .before .before .before .before .before .before .before .before .before .before .before .before .loop .drives) (c .before .before .before .before .before .before .before .before .before .before .before .before .loop .sense)) _ _ (c .before .before .before .judge .result) (w .0 .keys2) (c .before .before .before .judge .ensures .1)
+    ∙ ap (λ (y : Answer). record { machine = (wholeMachine (c .before .before .before .before .before .before .before .before .before .before .before .before .loop .board) (c .before .before .before .before .before .before .before .before .before .before .before .before .loop .core) (c .before .before .before .before .before .before .before .before .before .before .before .before .loop .cells) (c .before .before .before .before .before .before .before .before .before .before .before .before .loop .drives) (c .before .before .before .before .before .before .before .before .before .before .before .before .loop .sense)); answer = y }) (sym (c .before .no2 .ensures ∙ ap noOf (c .before .before .refusal .ensures)))))) (c .match2 .came)
 
 -- the buffer keeps its length
 lengths : (c : tie.Left-loop Inv-loop μ-loop) → length (c .loop-test .answers) ≡ length (now (c .before .before .before .before .before .before .before .before .before .before .args .answers))
@@ -248,14 +215,14 @@ put-requires c κs = search needs
 add-out : tie.Need-add-out Inv-loop μ-loop
 add-out c = omega (arith, c .before .before .before .before .before .before .before .before .before .before .if1 .left, c .before .before .before .before .before .before .before .before .before .before .before .before .loop .inv .0, c .before .before .before .before .before .before .before .before .before .before .before .before .before .before .before .before .before .before .before .before .before .good)
 
-sub-judge : tie.Need-sub-judge Inv-loop μ-loop
-sub-judge c = omega (arith, fits c)
+sub-record : tie.Need-sub-record Inv-loop μ-loop
+sub-record c = omega (arith, fits c)
 
-part-judge-start : tie.Need-part-judge-start Inv-loop μ-loop
-part-judge-start c = omega (arith, fits c)
+part-record-start : tie.Need-part-record-start Inv-loop μ-loop
+part-record-start c = omega (arith, fits c)
 
-part-judge-end : tie.Need-part-judge-end Inv-loop μ-loop
-part-judge-end c = simp at-rest (simp length-drop (omega (arith, fits c)))
+part-record-end : tie.Need-part-record-end Inv-loop μ-loop
+part-record-end c = simp at-rest (simp length-drop (omega (arith, fits c)))
 
 judge-requires : tie.Need-judge-requires Inv-loop μ-loop
 judge-requires c κs = loop.body-long (now (c .before .before .before .before .before .before .before .before .before .before .before .before .before .before .before .before .before .args .list)) (c .before .before .before .before .before .before .before .before .loop .at) (c .before .before .n .given .0 .0) (found (c .before))
@@ -268,6 +235,25 @@ no-requires-2 c κs = search needs
 
 enum-known-d : tie.Need-enum-known-d Inv-loop μ-loop
 enum-known-d c = search needs
+
+first-value-requires : tie.Need-first-value-requires Inv-loop μ-loop
+first-value-requires c κs = loop.body-long (now (c .before .before .before .before .before .before .before .before .before .before .before .before .before .before .before .before .before .before .before .before .before .before .before .args .list)) (c .before .before .before .before .before .before .before .before .before .before .before .before .before .before .loop .at) (c .before .before .before .before .before .before .before .before .n .given .0 .0) (found (c .before .before .before .before .before .before .before))
+
+-- the values begin within the record
+within : (c : tie.After-first-value Inv-loop μ-loop) → c .first-value .result < length (recordAt (now (c .before .before .before .before .before .before .before .before .before .before .before .before .before .before .before .before .before .before .before .before .before .before .before .before .args .list)) (c .before .before .before .before .before .before .before .before .before .before .before .before .before .before .before .loop .at) (c .before .before .before .before .before .before .before .before .before .n .given .0 .0))
+within c = reaches (recordAt (now (c .before .before .before .before .before .before .before .before .before .before .before .before .before .before .before .before .before .before .before .before .before .before .before .before .args .list)) (c .before .before .before .before .before .before .before .before .before .before .before .before .before .before .before .loop .at) (c .before .before .before .before .before .before .before .before .before .n .given .0 .0)) _ (subst⁻¹ (λ (k : ℕ). 0 < length (drop k (recordAt (now (c .before .before .before .before .before .before .before .before .before .before .before .before .before .before .before .before .before .before .before .before .before .before .before .before .args .list)) (c .before .before .before .before .before .before .before .before .before .before .before .before .before .before .before .loop .at) (c .before .before .before .before .before .before .before .before .before .n .given .0 .0)))) (c .first-value .ensures) ((subst (JudgedInRange _) (c .before .before .d .given .1) (c .before .before .before .before .before .before .judge .ensures .1)) .1))
+  where
+    reaches : (l : List ℕ) (k : ℕ) → 0 < length (drop k l) → k < length l
+    reaches l k h = omega (arith, length-drop k l)
+
+sub-bytes : tie.Need-sub-bytes Inv-loop μ-loop
+sub-bytes c = omega (arith, within c)
+
+part-bytes-start : tie.Need-part-bytes-start Inv-loop μ-loop
+part-bytes-start c = omega (arith, within c)
+
+part-bytes-end : tie.Need-part-bytes-end Inv-loop μ-loop
+part-bytes-end c = omega arith
 
 watched-requires : tie.Need-watched-requires Inv-loop μ-loop
 watched-requires c κs = search needs
@@ -291,7 +277,7 @@ wait-requires-2 : tie.Need-wait-requires-2 Inv-loop μ-loop
 wait-requires-2 c κs = search needs
 
 act-requires : tie.Need-act-requires Inv-loop μ-loop
-act-requires c κs = (range (c .before .before .before .before .before .before .before .before .before), turns.ready (c .before .before .before .before .before .before .before .before .before .before .before .before .before .before .before .before .before .before .before .before .before .before .before .loop .board) (c .before .before .before .before .before .before .before .before .before .before .before .before .before .before .before .before .before .before .before .before .before .before .before .loop .core) (c .before .before .before .before .before .before .before .before .before .before .before .before .before .before .before .before .before .before .before .before .before .before .before .loop .cells) (c .before .before .before .before .before .before .before .before .before .before .before .before .before .before .before .before .before .before .before .before .before .before .before .loop .drives) (c .before .before .before .before .before .before .before .before .before .before .before .before .before .before .before .before .before .before .before .before .before .before .before .loop .sense) (c .before .before .before .before .before .before .before .before .before .before .d .given .0 .0) (c .before .before .before .before .if2 .board) (counted (c .before .before .before .before)) (c .before .before .if3 .drives) (c .before .before .before .before .before .before .before .before .before .before .before .before .before .before .before .before .before .before .before .before .before .before .before .loop .inv .0 .ok))
+act-requires c κs = (range (c .before .before .before .before .before .before .before .before .before), turns.ready (c .before .before .before .before .before .before .before .before .before .before .before .before .before .before .before .before .before .before .before .before .before .before .before .before .before .loop .board) (c .before .before .before .before .before .before .before .before .before .before .before .before .before .before .before .before .before .before .before .before .before .before .before .before .before .loop .core) (c .before .before .before .before .before .before .before .before .before .before .before .before .before .before .before .before .before .before .before .before .before .before .before .before .before .loop .cells) (c .before .before .before .before .before .before .before .before .before .before .before .before .before .before .before .before .before .before .before .before .before .before .before .before .before .loop .drives) (c .before .before .before .before .before .before .before .before .before .before .before .before .before .before .before .before .before .before .before .before .before .before .before .before .before .loop .sense) (valuesAt (now (c .before .before .before .before .before .before .before .before .before .before .before .before .before .before .before .before .before .before .before .before .before .before .before .before .before .before .before .before .before .before .before .before .before .before .args .list)) (c .before .before .before .before .before .before .before .before .before .before .before .before .before .before .before .before .before .before .before .before .before .before .before .before .before .loop .at) (c .before .before .before .before .before .before .before .before .before .before .before .before .before .before .before .before .before .before .before .n .given .0 .0) (c .before .before .before .before .before .before .before .before .before .before .first-value .result)) (c .before .before .before .before .before .before .before .before .before .before .before .before .d .given .0 .0) (c .before .before .before .before .before .before .before .before .before .before .before .before .before .before .before .before .before .before .before .before .before .before .before .before .before .loop .inv .0 .ok) (c .before .before .before .before .if2 .board) (counted (c .before .before .before .before)) (c .before .before .if3 .drives))
 
 enum-told-2 : tie.Need-enum-told-2 Inv-loop μ-loop
 enum-told-2 c = search needs
@@ -302,8 +288,11 @@ enum-known-change c = search needs
 enum-known-change-2 : tie.Need-enum-known-change-2 Inv-loop μ-loop
 enum-known-change-2 c = search needs
 
-write-requires : tie.Need-write-requires Inv-loop μ-loop
-write-requires c κs = subst ChangeInRange (c .before .before .change3 .given .1) (c .before .before .before .before .before .before .before .act .ensures .1 .1)
+via-after-requires : tie.Need-via-after-requires Inv-loop μ-loop
+via-after-requires c κs = subst ChangeInRange (c .before .before .change3 .given .1) (c .before .before .before .before .before .before .before .act .ensures .1 .1)
+
+with-shift-requires : tie.Need-with-shift-requires Inv-loop μ-loop
+with-shift-requires c κs = search needs
 
 enum-known-change-3 : tie.Need-enum-known-change-3 Inv-loop μ-loop
 enum-known-change-3 c = search needs
@@ -338,32 +327,13 @@ enum-known-change-6 c = c .match3 .keys9
 watched-requires-2 : tie.Need-watched-requires-2 Inv-loop μ-loop
 watched-requires-2 c κs = search needs
 
-after-requires : tie.Need-after-requires Inv-loop μ-loop
-after-requires c κs = search needs
+strobed-requires : tie.Need-strobed-requires Inv-loop μ-loop
+strobed-requires c κs = search needs
 
 answer-requires : tie.Need-answer-requires Inv-loop μ-loop
-answer-requires c κs = ap (λ (y : Did). allLevels (y .machine .inputs)) (stepped c) ∙ parts _ (step-keeps (wholeMachine (c .before .before .before .before .before .before .before .before .before .before .before .before .before .before .before .before .before .before .before .before .before .before .before .before .before .before .before .before .before .before .before .before .loop .board) (c .before .before .before .before .before .before .before .before .before .before .before .before .before .before .before .before .before .before .before .before .before .before .before .before .before .before .before .before .before .before .before .before .loop .core) (c .before .before .before .before .before .before .before .before .before .before .before .before .before .before .before .before .before .before .before .before .before .before .before .before .before .before .before .before .before .before .before .before .loop .cells) (c .before .before .before .before .before .before .before .before .before .before .before .before .before .before .before .before .before .before .before .before .before .before .before .before .before .before .before .before .before .before .before .before .loop .drives) (c .before .before .before .before .before .before .before .before .before .before .before .before .before .before .before .before .before .before .before .before .before .before .before .before .before .before .before .before .before .before .before .before .loop .sense)) (c .before .before .before .before .before .before .before .before .before .before .before .before .before .before .before .before .before .before .before .d .given .0 .0) (range (c .before .before .before .before .before .before .before .before .before .before .before .before .before .before .before .before .before .before)) (c .before .before .before .before .before .before .before .before .before .before .before .before .before .before .before .before .before .before .before .before .before .before .before .before .before .before .before .before .before .before .before .before .loop .inv .0 .ok)) .levels .0
-
-enum-known-d-2 : tie.Need-enum-known-d-2 Inv-loop μ-loop
-enum-known-d-2 c = search needs
-
-sub-write : tie.Need-sub-write Inv-loop μ-loop
-sub-write c = omega (arith, long c)
-
-part-write-start : tie.Need-part-write-start Inv-loop μ-loop
-part-write-start c = omega (arith, long c)
-
-part-write-end : tie.Need-part-write-end Inv-loop μ-loop
-part-write-end c = simp at-rest (simp length-drop (omega (arith, fits (c .before .before .before .before .before .before .before))))
-
-write-requires-2 : tie.Need-write-requires-2 Inv-loop μ-loop
-write-requires-2 c κs = (many (c .before .before) .number, (some-values (now (c .before .before .before .before .before .before .before .before .before .before .before .before .before .before .before .before .before .before .before .before .before .before .before .before .before .args .list)) (c .before .before .before .before .before .before .before .before .before .before .before .before .before .before .before .before .loop .at) (c .before .before .before .before .before .before .before .before .before .before .n .given .0 .0) (long (c .before .before)) (many (c .before .before) .least), parts-accepted (c .before .before .before .before .before .before .before .before .before .before .before .before .before .before .before .before .loop .board) (c .before .before .before .before .before .before .before .before .before .before .before .before .before .before .before .before .loop .core) (c .before .before .before .before .before .before .before .before .before .before .before .before .before .before .before .before .loop .cells) (c .before .before .before .before .before .before .before .before .before .before .before .before .before .before .before .before .loop .drives) (c .before .before .before .before .before .before .before .before .before .before .before .before .before .before .before .before .loop .sense) (c .before .before .before .before .before .before .before .before .before .before .before .before .before .before .before .before .loop .inv .0 .ok)))
-
-answer-requires-2 : tie.Need-answer-requires-2 Inv-loop μ-loop
-answer-requires-2 c κs = many-levels (wholeMachine (c .before .before .before .before .before .before .before .before .before .before .before .before .before .before .before .before .before .before .before .before .loop .board) (c .before .before .before .before .before .before .before .before .before .before .before .before .before .before .before .before .before .before .before .before .loop .core) (c .before .before .before .before .before .before .before .before .before .before .before .before .before .before .before .before .before .before .before .before .loop .cells) (c .before .before .before .before .before .before .before .before .before .before .before .before .before .before .before .before .before .before .before .before .loop .drives) (c .before .before .before .before .before .before .before .before .before .before .before .before .before .before .before .before .before .before .before .before .loop .sense)) (recordAt (now (c .before .before .before .before .before .before .before .before .before .before .before .before .before .before .before .before .before .before .before .before .before .before .before .before .before .before .before .before .before .args .list)) (c .before .before .before .before .before .before .before .before .before .before .before .before .before .before .before .before .before .before .before .before .loop .at) (c .before .before .before .before .before .before .before .before .before .before .before .before .before .before .n .given .0 .0)) (c .before .before .before .before .before .before .before .d2 .given .0 .0) (judged (c .before .before .before .before .before .before)) (valuesAt (now (c .before .before .before .before .before .before .before .before .before .before .before .before .before .before .before .before .before .before .before .before .before .before .before .before .before .before .before .before .before .args .list)) (c .before .before .before .before .before .before .before .before .before .before .before .before .before .before .before .before .before .before .before .before .loop .at) (c .before .before .before .before .before .before .before .before .before .before .before .before .before .before .n .given .0 .0)) (values-are (now (c .before .before .before .before .before .before .before .before .before .before .before .before .before .before .before .before .before .before .before .before .before .before .before .before .before .before .before .before .before .args .list)) (c .before .before .before .before .before .before .before .before .before .before .before .before .before .before .before .before .before .before .before .before .loop .at) (c .before .before .before .before .before .before .before .before .before .before .before .before .before .before .n .given .0 .0) (long (c .before .before .before .before .before .before))) _ (c .before .before .before .write2 .ensures (c .before .before .before .before .before .before .before .before .before .before .before .before .before .before .before .before .before .before .before .before .loop .sense)) (c .before .before .before .before .before .before .before .before .before .before .before .before .before .before .before .before .before .before .before .before .loop .inv .0 .ok)
-
-enum-told-5 : tie.Need-enum-told-5 Inv-loop μ-loop
-enum-told-5 c = search needs
+answer-requires c κs =
+    ap (λ (y : Did). allLevels (y .machine .inputs)) (stepped c)
+    ∙ parts (stepWith (wholeMachine (c .before .before .before .before .before .before .before .before .before .before .before .before .before .before .before .before .before .before .before .before .before .before .before .before .before .before .before .before .before .before .before .before .before .before .loop .board) (c .before .before .before .before .before .before .before .before .before .before .before .before .before .before .before .before .before .before .before .before .before .before .before .before .before .before .before .before .before .before .before .before .before .before .loop .core) (c .before .before .before .before .before .before .before .before .before .before .before .before .before .before .before .before .before .before .before .before .before .before .before .before .before .before .before .before .before .before .before .before .before .before .loop .cells) (c .before .before .before .before .before .before .before .before .before .before .before .before .before .before .before .before .before .before .before .before .before .before .before .before .before .before .before .before .before .before .before .before .before .before .loop .drives) (c .before .before .before .before .before .before .before .before .before .before .before .before .before .before .before .before .before .before .before .before .before .before .before .before .before .before .before .before .before .before .before .before .before .before .loop .sense)) (c .before .before .before .before .before .before .before .before .before .before .before .before .before .before .before .before .before .before .before .before .before .d .given .0 .0) (valuesAt (now (c .before .before .before .before .before .before .before .before .before .before .before .before .before .before .before .before .before .before .before .before .before .before .before .before .before .before .before .before .before .before .before .before .before .before .before .before .before .before .before .before .before .before .before .args .list)) (c .before .before .before .before .before .before .before .before .before .before .before .before .before .before .before .before .before .before .before .before .before .before .before .before .before .before .before .before .before .before .before .before .before .before .loop .at) (c .before .before .before .before .before .before .before .before .before .before .before .before .before .before .before .before .before .before .before .before .before .before .before .before .before .before .before .before .n .given .0 .0) (c .before .before .before .before .before .before .before .before .before .before .before .before .before .before .before .before .before .before .before .first-value .result)) .machine) (ap (λ (y : Turn). acceptedOf (y .machine)) (sym (judged (c .before .before .before .before .before .before .before .before .before .before .before .before .before .before .before .before .before .before))) ∙ turn-keeps (wholeMachine (c .before .before .before .before .before .before .before .before .before .before .before .before .before .before .before .before .before .before .before .before .before .before .before .before .before .before .before .before .before .before .before .before .before .before .loop .board) (c .before .before .before .before .before .before .before .before .before .before .before .before .before .before .before .before .before .before .before .before .before .before .before .before .before .before .before .before .before .before .before .before .before .before .loop .core) (c .before .before .before .before .before .before .before .before .before .before .before .before .before .before .before .before .before .before .before .before .before .before .before .before .before .before .before .before .before .before .before .before .before .before .loop .cells) (c .before .before .before .before .before .before .before .before .before .before .before .before .before .before .before .before .before .before .before .before .before .before .before .before .before .before .before .before .before .before .before .before .before .before .loop .drives) (c .before .before .before .before .before .before .before .before .before .before .before .before .before .before .before .before .before .before .before .before .before .before .before .before .before .before .before .before .before .before .before .before .before .before .loop .sense)) (recordAt (now (c .before .before .before .before .before .before .before .before .before .before .before .before .before .before .before .before .before .before .before .before .before .before .before .before .before .before .before .before .before .before .before .before .before .before .before .before .before .before .before .before .before .before .before .args .list)) (c .before .before .before .before .before .before .before .before .before .before .before .before .before .before .before .before .before .before .before .before .before .before .before .before .before .before .before .before .before .before .before .before .before .before .loop .at) (c .before .before .before .before .before .before .before .before .before .before .before .before .before .before .before .before .before .before .before .before .before .before .before .before .before .before .before .before .n .given .0 .0)) (c .before .before .before .before .before .before .before .before .before .before .before .before .before .before .before .before .before .before .before .before .before .before .before .before .before .before .before .before .before .before .before .before .before .before .loop .inv .0 .ok)) .levels .0
 
 answer-bytes-requires-2 : tie.Need-answer-bytes-requires-2 Inv-loop μ-loop
 answer-bytes-requires-2 c κs = search needs
@@ -418,13 +388,17 @@ run-accepted-spec =
     answer-bytes-requires
     put-requires
     add-out
-    sub-judge
-    part-judge-start
-    part-judge-end
+    sub-record
+    part-record-start
+    part-record-end
     judge-requires
     refusal-requires
     no-requires-2
     enum-known-d
+    first-value-requires
+    sub-bytes
+    part-bytes-start
+    part-bytes-end
     watched-requires
     wait-of-requires
     only-counts-requires
@@ -437,7 +411,7 @@ run-accepted-spec =
     enum-known-change
     enum-known-change-2
     enum-known-change-3
-    write-requires
+    via-after-requires
     enum-known-change-4
     element-write-board
     enum-known-change-5
@@ -447,16 +421,10 @@ run-accepted-spec =
     enum-told-4
     fresh-requires
     enum-known-change-6
+    with-shift-requires
     watched-requires-2
-    after-requires
+    strobed-requires
     answer-requires
-    enum-known-d-2
-    sub-write
-    part-write-start
-    part-write-end
-    write-requires-2
-    answer-requires-2
-    enum-told-5
     answer-bytes-requires-2
     put-requires-2
     add-at
