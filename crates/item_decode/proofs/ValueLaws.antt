@@ -22,7 +22,7 @@ use Rattle.item_spec.specs.declared.Plain.{Plain}
 use Rattle.item_spec.specs.declared.Decoded.{Decoded}
 use Rattle.item_spec.specs.declared.Decoded.the-variants.{Done, Refused}
 use Rattle.units.specs.declared.WaitTicks.{WaitTicks}
-use Rattle.item_spec.proofs.ItemRange.{Good, good-cond, good-sized, good-upTo, good-placed, good-many}
+use Rattle.item_spec.proofs.ItemRange.{Good, plainKind, good-cond, good-sized, good-upTo, good-placed, good-many, good-all}
 use Rattle.item_decode.specs.Values.{firstValue, valuesIn}
 
 -- The values are a write's own one; of many writes, those of the record.
@@ -72,10 +72,6 @@ module _ (s : List ℕ) (long : 2 ≤ length s) where
   abbrev All : Many → Type 0
   All x = AllValues s x × (0 < length (valuesIn s))
 
-  one-if : (t : Bool) (x y : Decoded) → (t ≡ true → Good One All x) → Good One All y → Good One All (cond t x y)
-  one-if true x y g h = g refl
-  one-if false x y g h = h
-
   -- a kind that does not begin with M has its last byte there
   ends : (k : List ℕ) → eqb (getD k 0 0) 77 ≡ false → isKind s k ≡ true → 0 < length (valuesIn s)
   ends k e h = some-at s (valuesIn s) (length s - 1) (values-at s k false h e) (omega arith)
@@ -96,31 +92,30 @@ module _ (s : List ℕ) (long : 2 ≤ length s) where
           good-placed One All (le32Of s 4) via iwm (λ r h. v) (λ k h. v)
       go false e = tt
 
-  plain : (k : Plain) → 0 < length (valuesIn s) → Good One All (plainRecord s k)
+  plain : (k : Plain) → isKind s (plainKind k) ≡ true → Good One All (plainRecord s k)
   unfolding plainRecord
-  plain k h = good-sized One All s 4 _ (plain-none (valuesIn s) k (recordWait s), h)
+  plain k kind = good-sized One All s 4 _ (plain-none (valuesIn s) k (recordWait s), ends (plainKind k) (other k) kind)
+    where
+      other : (k : Plain) → eqb (getD (plainKind k) 0 0) 77 ≡ false
+      other Plain.Blank = refl
+      other Plain.Second = refl
+      other Plain.Reset = refl
 
   pub values-right : Good (λ i. OneValue (valuesIn s) i × (0 < length (valuesIn s))) (λ x. AllValues s x × (0 < length (valuesIn s))) (decodedOf s)
-  unfolding decodedOf readRecord lineRecord senseRecord powerRecord diskRecord pulseRecord
+  unfolding readRecord lineRecord senseRecord powerRecord diskRecord pulseRecord
   values-right =
-      one-if (isKind s (82 ∷ 68 ∷ [])) _ _
-      (λ k. good-sized One All s 8 _
-      (good-placed One All (le32Of s 4) (λ r. Done (ReadVia (recordWait s) r)) (λ k. Done (ReadIwm (recordWait s) k)) (λ r h. (tt, ends (82 ∷ 68 ∷ []) refl k)) (λ l h. (tt, ends (82 ∷ 68 ∷ []) refl k))))
-      (one-if (isKind s (87 ∷ 82 ∷ [])) _ _ written
-      (one-if (isKind s (86 ∷ 66 ∷ [])) _ _ (λ k. plain Plain.Blank (ends (86 ∷ 66 ∷ []) refl k))
-      (one-if (isKind s (83 ∷ 69 ∷ [])) _ _ (λ k. plain Plain.Second (ends (83 ∷ 69 ∷ []) refl k))
-      (one-if (isKind s (73 ∷ 78 ∷ [])) _ _
-      (λ k. good-sized One All s 6 _ (good-upTo One All (getD s 4 0) 6 _ (λ a. good-upTo One All (getD s 5 0) 1 _ (λ b. (tt, ends (73 ∷ 78 ∷ []) refl k)))))
-      (one-if (isKind s (83 ∷ 78 ∷ [])) _ _
-      (λ k. good-sized One All s 7 _
+      good-all One All s
+      (λ kind. good-sized One All s 8 _
+      (good-placed One All (le32Of s 4) (λ r. Done (ReadVia (recordWait s) r)) (λ k. Done (ReadIwm (recordWait s) k)) (λ r h. (tt, ends (82 ∷ 68 ∷ []) refl kind)) (λ k h. (tt, ends (82 ∷ 68 ∷ []) refl kind))))
+      written
+      plain
+      (λ kind. good-sized One All s 6 _ (good-upTo One All (getD s 4 0) 6 _ (λ a. good-upTo One All (getD s 5 0) 1 _ (λ b. (tt, ends (73 ∷ 78 ∷ []) refl kind)))))
+      (λ kind. good-sized One All s 7 _
       (good-upTo One All (getD s 4 0) 1 _
-      (λ a. good-upTo One All (getD s 5 0) 15 _ (λ b. good-upTo One All (getD s 6 0) 1 _ (λ c. good-cond One All (isRetired (getD s 5 0)) _ _ tt (tt, ends (83 ∷ 78 ∷ []) refl k))))))
-      (one-if (isKind s (82 ∷ 83 ∷ [])) _ _ (λ k. plain Plain.Reset (ends (82 ∷ 83 ∷ []) refl k))
-      (one-if (isKind s (80 ∷ 87 ∷ [])) _ _ (λ k. good-sized One All s 8 _ (tt, ends (80 ∷ 87 ∷ []) refl k))
-      (one-if (isKind s (68 ∷ 73 ∷ [])) _ _
-      (λ k. good-sized One All s 8 _
+      (λ a. good-upTo One All (getD s 5 0) 15 _ (λ b. good-upTo One All (getD s 6 0) 1 _ (λ c. good-cond One All (isRetired (getD s 5 0)) _ _ tt (tt, ends (83 ∷ 78 ∷ []) refl kind))))))
+      (λ kind. good-sized One All s 8 _ (tt, ends (80 ∷ 87 ∷ []) refl kind))
+      (λ kind. good-sized One All s 8 _
       (good-upTo One All (getD s 4 0) 1 _
-      (λ a. good-upTo One All (getD s 5 0) 1 _ (λ b. good-upTo One All (getD s 6 0) 1 _ (λ c. good-upTo One All (getD s 7 0) 1 _ (λ d. (tt, ends (68 ∷ 73 ∷ []) refl k)))))))
-      (one-if (isKind s (77 ∷ 87 ∷ [])) _ _
-      (λ k. good-many One All s (λ b n e h l u. let v = values-at s (77 ∷ 87 ∷ []) true k refl in (v, some-at s (valuesIn s) 9 v (omega arith))))
-      (one-if (isKind s (75 ∷ 67 ∷ [])) _ _ (λ k. good-sized One All s 5 _ (good-upTo One All (getD s 4 0) 1 _ (λ a. (tt, ends (75 ∷ 67 ∷ []) refl k)))) tt))))))))))
+      (λ a. good-upTo One All (getD s 5 0) 1 _ (λ b. good-upTo One All (getD s 6 0) 1 _ (λ c. good-upTo One All (getD s 7 0) 1 _ (λ d. (tt, ends (68 ∷ 73 ∷ []) refl kind)))))))
+      (λ kind. good-many One All s (λ b n e h l u. let v = values-at s (77 ∷ 87 ∷ []) true kind refl in (v, some-at s (valuesIn s) 9 v (omega arith))))
+      (λ kind. good-sized One All s 5 _ (good-upTo One All (getD s 4 0) 1 _ (λ a. (tt, ends (75 ∷ 67 ∷ []) refl kind))))

@@ -31,6 +31,12 @@ Good P Q (Done x) = P x
 Good P Q (Decoded.Many x) = Q x
 Good P Q (Refused n) = Unit {0}
 
+-- the two bytes of VB, SE and RS
+abbrev pub plainKind : Plain → List ℕ
+plainKind Plain.Blank = 86 ∷ 66 ∷ []
+plainKind Plain.Second = 83 ∷ 69 ∷ []
+plainKind Plain.Reset = 82 ∷ 83 ∷ []
+
 module _ (P : Item → Type 0) (Q : Many → Type 0) where
   pub good-cond : (t : Bool) (x y : Decoded) → Good P Q x → Good P Q y → Good P Q (cond t x y)
   good-cond true x y g h = g
@@ -79,22 +85,29 @@ module _ (P : Item → Type 0) (Q : Many → Type 0) where
       go (Iwm k) e = good-counted s (manyAt s true k) (q true k e (found-iwm (le32Of s 4) k e .0))
       go Nowhere e = tt
 
+  -- of a record known to be of the kind
+  good-kind : (t : Bool) (x y : Decoded) → (t ≡ true → Good P Q x) → Good P Q y → Good P Q (cond t x y)
+  good-kind true x y g h = g refl
+  good-kind false x y g h = h
+
   -- the table of kinds, once for every P and Q
-  pub good-all : (s : List ℕ) → Good P Q (readRecord s) → Good P Q (writeRecord s) → ((k : Plain) → Good P Q (plainRecord s k)) → Good P Q (lineRecord s) → Good P Q (senseRecord s) → Good P Q (powerRecord s)
-      → Good P Q (diskRecord s) → Good P Q (manyRecord s) → Good P Q (pulseRecord s) → Good P Q (decodedOf s)
+  pub good-all : (s : List ℕ) → (isKind s (82 ∷ 68 ∷ []) ≡ true → Good P Q (readRecord s)) → (isKind s (87 ∷ 82 ∷ []) ≡ true → Good P Q (writeRecord s))
+      → ((k : Plain) → isKind s (plainKind k) ≡ true → Good P Q (plainRecord s k)) → (isKind s (73 ∷ 78 ∷ []) ≡ true → Good P Q (lineRecord s)) → (isKind s (83 ∷ 78 ∷ []) ≡ true → Good P Q (senseRecord s))
+      → (isKind s (80 ∷ 87 ∷ []) ≡ true → Good P Q (powerRecord s)) → (isKind s (68 ∷ 73 ∷ []) ≡ true → Good P Q (diskRecord s)) → (isKind s (77 ∷ 87 ∷ []) ≡ true → Good P Q (manyRecord s))
+      → (isKind s (75 ∷ 67 ∷ []) ≡ true → Good P Q (pulseRecord s)) → Good P Q (decodedOf s)
   unfolding decodedOf
   good-all s rd wr plain line sn pw di mw kc =
-      good-cond (isKind s (82 ∷ 68 ∷ [])) _ _ rd
-      (good-cond (isKind s (87 ∷ 82 ∷ [])) _ _ wr
-      (good-cond (isKind s (86 ∷ 66 ∷ [])) _ _ (plain Plain.Blank)
-      (good-cond (isKind s (83 ∷ 69 ∷ [])) _ _ (plain Plain.Second)
-      (good-cond (isKind s (73 ∷ 78 ∷ [])) _ _ line
-      (good-cond (isKind s (83 ∷ 78 ∷ [])) _ _ sn
-      (good-cond (isKind s (82 ∷ 83 ∷ [])) _ _ (plain Plain.Reset)
-      (good-cond (isKind s (80 ∷ 87 ∷ [])) _ _ pw
-      (good-cond (isKind s (68 ∷ 73 ∷ [])) _ _ di
-      (good-cond (isKind s (77 ∷ 87 ∷ [])) _ _ mw
-      (good-cond (isKind s (75 ∷ 67 ∷ [])) _ _ kc tt))))))))))
+      good-kind (isKind s (82 ∷ 68 ∷ [])) _ _ rd
+      (good-kind (isKind s (87 ∷ 82 ∷ [])) _ _ wr
+      (good-kind (isKind s (86 ∷ 66 ∷ [])) _ _ (plain Plain.Blank)
+      (good-kind (isKind s (83 ∷ 69 ∷ [])) _ _ (plain Plain.Second)
+      (good-kind (isKind s (73 ∷ 78 ∷ [])) _ _ line
+      (good-kind (isKind s (83 ∷ 78 ∷ [])) _ _ sn
+      (good-kind (isKind s (82 ∷ 83 ∷ [])) _ _ (plain Plain.Reset)
+      (good-kind (isKind s (80 ∷ 87 ∷ [])) _ _ pw
+      (good-kind (isKind s (68 ∷ 73 ∷ [])) _ _ di
+      (good-kind (isKind s (77 ∷ 87 ∷ [])) _ _ mw
+      (good-kind (isKind s (75 ∷ 67 ∷ [])) _ _ kc tt))))))))))
 
 plain-range : (k : Plain) (w : WaitTicks) → ItemInRange (plainItem k w)
 plain-range Plain.Blank w = tt
@@ -105,16 +118,16 @@ in-range : (s : List ℕ) → Good ItemInRange (ManyInRange s) (decodedOf s)
 unfolding readRecord writeRecord lineRecord senseRecord powerRecord diskRecord pulseRecord plainRecord
 in-range s =
     good-all ItemInRange (ManyInRange s) s
-    (good-sized ItemInRange (ManyInRange s) s 8 _ (good-placed ItemInRange (ManyInRange s) (le32Of s 4) (λ r. Done (ReadVia (recordWait s) r)) (λ k. Done (ReadIwm (recordWait s) k)) (λ r h. h) (λ k h. h)))
-    (good-sized ItemInRange (ManyInRange s) s 9 _ (good-placed ItemInRange (ManyInRange s) (le32Of s 4) (λ r. Done (WriteVia (recordWait s) r (getD s 8 0))) (λ k. Done (WriteIwm (recordWait s) k (getD s 8 0))) (λ r h. h) (λ k h. h)))
-    (λ k. good-sized ItemInRange (ManyInRange s) s 4 _ (plain-range k (recordWait s)))
-    (good-sized ItemInRange (ManyInRange s) s 6 _ (good-upTo ItemInRange (ManyInRange s) (getD s 4 0) 6 _ (λ a. good-upTo ItemInRange (ManyInRange s) (getD s 5 0) 1 _ (λ b. (omega arith, omega arith)))))
-    (good-sized ItemInRange (ManyInRange s) s 7 _ (good-upTo ItemInRange (ManyInRange s) (getD s 4 0) 1 _ (λ a. good-upTo ItemInRange (ManyInRange s) (getD s 5 0) 15 _ (λ b. good-upTo ItemInRange (ManyInRange s) (getD s 6 0) 1 _ (λ c. good-cond ItemInRange (ManyInRange s) (isRetired (getD s 5 0)) _ _ tt (omega arith, omega arith, omega arith))))))
-    (good-sized ItemInRange (ManyInRange s) s 8 _ tt)
-    (good-sized ItemInRange (ManyInRange s) s 8 _
+    (λ kind. good-sized ItemInRange (ManyInRange s) s 8 _ (good-placed ItemInRange (ManyInRange s) (le32Of s 4) (λ r. Done (ReadVia (recordWait s) r)) (λ k. Done (ReadIwm (recordWait s) k)) (λ r h. h) (λ k h. h)))
+    (λ kind. good-sized ItemInRange (ManyInRange s) s 9 _ (good-placed ItemInRange (ManyInRange s) (le32Of s 4) (λ r. Done (WriteVia (recordWait s) r (getD s 8 0))) (λ k. Done (WriteIwm (recordWait s) k (getD s 8 0))) (λ r h. h) (λ k h. h)))
+    (λ k kind. good-sized ItemInRange (ManyInRange s) s 4 _ (plain-range k (recordWait s)))
+    (λ kind. good-sized ItemInRange (ManyInRange s) s 6 _ (good-upTo ItemInRange (ManyInRange s) (getD s 4 0) 6 _ (λ a. good-upTo ItemInRange (ManyInRange s) (getD s 5 0) 1 _ (λ b. (omega arith, omega arith)))))
+    (λ kind. good-sized ItemInRange (ManyInRange s) s 7 _ (good-upTo ItemInRange (ManyInRange s) (getD s 4 0) 1 _ (λ a. good-upTo ItemInRange (ManyInRange s) (getD s 5 0) 15 _ (λ b. good-upTo ItemInRange (ManyInRange s) (getD s 6 0) 1 _ (λ c. good-cond ItemInRange (ManyInRange s) (isRetired (getD s 5 0)) _ _ tt (omega arith, omega arith, omega arith))))))
+    (λ kind. good-sized ItemInRange (ManyInRange s) s 8 _ tt)
+    (λ kind. good-sized ItemInRange (ManyInRange s) s 8 _
     (good-upTo ItemInRange (ManyInRange s) (getD s 4 0) 1 _ (λ a. good-upTo ItemInRange (ManyInRange s) (getD s 5 0) 1 _ (λ b. good-upTo ItemInRange (ManyInRange s) (getD s 6 0) 1 _ (λ c. good-upTo ItemInRange (ManyInRange s) (getD s 7 0) 1 _ (λ d. (omega arith, omega arith, omega arith, omega arith)))))))
-    (good-many ItemInRange (ManyInRange s) s (λ b n e h l u. record { wait = refl; found = e; number = h; least = l; most = u }))
-    (good-sized ItemInRange (ManyInRange s) s 5 _ (good-upTo ItemInRange (ManyInRange s) (getD s 4 0) 1 _ (λ a. omega arith)))
+    (λ kind. good-many ItemInRange (ManyInRange s) s (λ b n e h l u. record { wait = refl; found = e; number = h; least = l; most = u }))
+    (λ kind. good-sized ItemInRange (ManyInRange s) s 5 _ (good-upTo ItemInRange (ManyInRange s) (getD s 4 0) 1 _ (λ a. omega arith)))
 
 -- every item that the decoder lets through is in range
 pub decoded-range : (s : List ℕ) (x : Item) → decodedOf s ≡ Done x → ItemInRange x
@@ -134,16 +147,16 @@ unfolding readRecord writeRecord lineRecord senseRecord powerRecord diskRecord p
 in-width s bs =
     let w : recordWait s .0 < 65536 = le16-width s 2 bs in
     good-all ItemInWidth ManyInWidth s
-    (good-sized ItemInWidth ManyInWidth s 8 _ (good-placed ItemInWidth ManyInWidth (le32Of s 4) (λ r. Done (ReadVia (recordWait s) r)) (λ k. Done (ReadIwm (recordWait s) k)) (λ r h. w) (λ k h. w)))
-    (good-sized ItemInWidth ManyInWidth s 9 _ (good-placed ItemInWidth ManyInWidth (le32Of s 4) (λ r. Done (WriteVia (recordWait s) r (getD s 8 0))) (λ k. Done (WriteIwm (recordWait s) k (getD s 8 0))) (λ r h. (w, bs 8)) (λ k h. (w, bs 8))))
-    (λ k. good-sized ItemInWidth ManyInWidth s 4 _ (plain-width k (recordWait s) w))
-    (good-sized ItemInWidth ManyInWidth s 6 _ (good-upTo ItemInWidth ManyInWidth (getD s 4 0) 6 _ (λ a. good-upTo ItemInWidth ManyInWidth (getD s 5 0) 1 _ (λ b. w))))
-    (good-sized ItemInWidth ManyInWidth s 7 _ (good-upTo ItemInWidth ManyInWidth (getD s 4 0) 1 _ (λ a. good-upTo ItemInWidth ManyInWidth (getD s 5 0) 15 _ (λ b. good-upTo ItemInWidth ManyInWidth (getD s 6 0) 1 _ (λ c. good-cond ItemInWidth ManyInWidth (isRetired (getD s 5 0)) _ _ tt w)))))
-    (good-sized ItemInWidth ManyInWidth s 8 _ (w, le32-width s 4 bs))
-    (good-sized ItemInWidth ManyInWidth s 8 _
+    (λ kind. good-sized ItemInWidth ManyInWidth s 8 _ (good-placed ItemInWidth ManyInWidth (le32Of s 4) (λ r. Done (ReadVia (recordWait s) r)) (λ k. Done (ReadIwm (recordWait s) k)) (λ r h. w) (λ k h. w)))
+    (λ kind. good-sized ItemInWidth ManyInWidth s 9 _ (good-placed ItemInWidth ManyInWidth (le32Of s 4) (λ r. Done (WriteVia (recordWait s) r (getD s 8 0))) (λ k. Done (WriteIwm (recordWait s) k (getD s 8 0))) (λ r h. (w, bs 8)) (λ k h. (w, bs 8))))
+    (λ k kind. good-sized ItemInWidth ManyInWidth s 4 _ (plain-width k (recordWait s) w))
+    (λ kind. good-sized ItemInWidth ManyInWidth s 6 _ (good-upTo ItemInWidth ManyInWidth (getD s 4 0) 6 _ (λ a. good-upTo ItemInWidth ManyInWidth (getD s 5 0) 1 _ (λ b. w))))
+    (λ kind. good-sized ItemInWidth ManyInWidth s 7 _ (good-upTo ItemInWidth ManyInWidth (getD s 4 0) 1 _ (λ a. good-upTo ItemInWidth ManyInWidth (getD s 5 0) 15 _ (λ b. good-upTo ItemInWidth ManyInWidth (getD s 6 0) 1 _ (λ c. good-cond ItemInWidth ManyInWidth (isRetired (getD s 5 0)) _ _ tt w)))))
+    (λ kind. good-sized ItemInWidth ManyInWidth s 8 _ (w, le32-width s 4 bs))
+    (λ kind. good-sized ItemInWidth ManyInWidth s 8 _
     (good-upTo ItemInWidth ManyInWidth (getD s 4 0) 1 _ (λ a. good-upTo ItemInWidth ManyInWidth (getD s 5 0) 1 _ (λ b. good-upTo ItemInWidth ManyInWidth (getD s 6 0) 1 _ (λ c. good-upTo ItemInWidth ManyInWidth (getD s 7 0) 1 _ (λ d. w))))))
-    (good-many ItemInWidth ManyInWidth s (λ b n e h l u. w))
-    (good-sized ItemInWidth ManyInWidth s 5 _ (good-upTo ItemInWidth ManyInWidth (getD s 4 0) 1 _ (λ a. w)))
+    (λ kind. good-many ItemInWidth ManyInWidth s (λ b n e h l u. w))
+    (λ kind. good-sized ItemInWidth ManyInWidth s 5 _ (good-upTo ItemInWidth ManyInWidth (getD s 4 0) 1 _ (λ a. w)))
 
 -- of a record of bytes, the item's wait, value and seconds are within their widths
 pub decoded-width : (s : List ℕ) (x : Item) → Bytes s → decodedOf s ≡ Done x → ItemInWidth x

@@ -140,20 +140,20 @@ iwm-once m w k v (u ∷ vs) a h n =
 -- ---- an item with its values
 
 -- Where it writes to no VIA register, it is the item.
-pub one-step : (m : Machine) (i : Item) (vs : List ℕ) → registerWritten i ≡ none → acceptedOf m ≡ true → ItemInRange i → 0 < length vs → stepWith m i vs ≡ stepOf m i
+pub unwritten-step : (m : Machine) (i : Item) (vs : List ℕ) → registerWritten i ≡ none → acceptedOf m ≡ true → ItemInRange i → 0 < length vs → stepWith m i vs ≡ stepOf m i
 unfolding stepWith registerWritten
-one-step m (ReadVia w r) vs o a h n = refl
-one-step m (ReadIwm w k) vs o a h n = refl
-one-step m (WriteVia w r v) vs o a h n = absurd (Option·some-ne-none r o)
-one-step m (WriteIwm w k v) vs o a h n = ap (λ (x : Machine). record { machine = x; value = stepOf m (WriteIwm w k v) .value }) (iwm-once m w k v vs a h n)
-one-step m (Blank w) vs o a h n = refl
-one-step m (Second w) vs o a h n = refl
-one-step m (Line w l v) vs o a h n = refl
-one-step m (Sense w d r v) vs o a h n = refl
-one-step m (Reset w) vs o a h n = refl
-one-step m (Power w s) vs o a h n = refl
-one-step m (Disk w d i l b) vs o a h n = refl
-one-step m (Pulse w l) vs o a h n = refl
+unwritten-step m (ReadVia w r) vs o a h n = refl
+unwritten-step m (ReadIwm w k) vs o a h n = refl
+unwritten-step m (WriteVia w r v) vs o a h n = absurd (Option·some-ne-none r o)
+unwritten-step m (WriteIwm w k v) vs o a h n = ap (λ (x : Machine). record { machine = x; value = stepOf m (WriteIwm w k v) .value }) (iwm-once m w k v vs a h n)
+unwritten-step m (Blank w) vs o a h n = refl
+unwritten-step m (Second w) vs o a h n = refl
+unwritten-step m (Line w l v) vs o a h n = refl
+unwritten-step m (Sense w d r v) vs o a h n = refl
+unwritten-step m (Reset w) vs o a h n = refl
+unwritten-step m (Power w s) vs o a h n = refl
+unwritten-step m (Disk w d i l b) vs o a h n = refl
+unwritten-step m (Pulse w l) vs o a h n = refl
 
 -- Where it writes to one, its wait passes, and then each part goes its own way.
 pub written-step : (m : Machine) (i : Item) (vs : List ℕ) (r : ℕ) → registerWritten i ≡ some r → 0 < length vs → stepWith m i vs .machine ≡ apartOf r vs (afterWait (itemWait i) m)

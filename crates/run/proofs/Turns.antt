@@ -35,7 +35,7 @@ use Rattle.machine_pins.specs.declared.Board.{Board}
 use Rattle.machine_write.specs.Values.{portsAfter, spoiltIf, registerWritten, stepWith}
 use Rattle.machine_write.proofs.Values.{via-ports}
 use Rattle.machine_write.proofs.Strobes.{strobesAfter, strobes-by}
-use Rattle.machine_write.proofs.Apart.{apartOf, one-step, written-step}
+use Rattle.machine_write.proofs.Apart.{apartOf, unwritten-step, written-step}
 use Rattle.machine_act.specs.declared.Acted.{Acted}
 use Rattle.machine_act.specs.Parts.{wholeMachine, boardVia, boardDisk, boardChange, senseChange, machineAfter, clockedOf, clockedAt, clockedBy, selMoved, PhaseAccepted}
 
@@ -120,7 +120,7 @@ module _ (b : Board) (k : Core) (cells : List ℕ) (d : Drives) (sense vs : List
           ∙ ap (λ (w : Wires). afterStrobe (strobeOf b) (afterWires w (y .machine))) (waited-wires (itemWait i) from))
           ∙ ap (λ (n : ℕ). record { machine = afterStrobe (strobeOf b) (afterWires (wires from) (y .machine)); value = n })
           (worth ∙ ap (λ (z : Machine). actedOf z i .value) at-wait)
-          ∙ sym (one-step from i vs o ok in-range some-values)
+          ∙ sym (unwritten-step from i vs o ok in-range some-values)
 
     -- ---- values written to a VIA register
     module _ (r : ℕ) (o : registerWritten i ≡ some r) (some-values : 0 < length vs) where

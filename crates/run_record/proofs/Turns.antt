@@ -35,20 +35,20 @@ turnWith m s vs (Decoded.Many x) = manyTurn m x s
 turnWith m s vs (Refused n) = refusedTurn m n
 
 -- One value is a single step.
-one-step : (m : Machine) (i : Item) (vs : List ℕ) → OneValue vs i → stepOf m i ≡ stepWith m i vs
+single-step : (m : Machine) (i : Item) (vs : List ℕ) → OneValue vs i → stepOf m i ≡ stepWith m i vs
 unfolding stepWith
-one-step m (ReadVia w r) vs g = refl
-one-step m (ReadIwm w k) vs g = refl
-one-step m (WriteVia w r v) vs g = ap (stepWith m (WriteVia w r v)) (sym g)
-one-step m (WriteIwm w k v) vs g = ap (stepWith m (WriteIwm w k v)) (sym g)
-one-step m (Blank w) vs g = refl
-one-step m (Second w) vs g = refl
-one-step m (Line w l v) vs g = refl
-one-step m (Sense w d r v) vs g = refl
-one-step m (Reset w) vs g = refl
-one-step m (Power w t) vs g = refl
-one-step m (Disk w d i l b) vs g = refl
-one-step m (Pulse w l) vs g = refl
+single-step m (ReadVia w r) vs g = refl
+single-step m (ReadIwm w k) vs g = refl
+single-step m (WriteVia w r v) vs g = ap (stepWith m (WriteVia w r v)) (sym g)
+single-step m (WriteIwm w k v) vs g = ap (stepWith m (WriteIwm w k v)) (sym g)
+single-step m (Blank w) vs g = refl
+single-step m (Second w) vs g = refl
+single-step m (Line w l v) vs g = refl
+single-step m (Sense w d r v) vs g = refl
+single-step m (Reset w) vs g = refl
+single-step m (Power w t) vs g = refl
+single-step m (Disk w d i l b) vs g = refl
+single-step m (Pulse w l) vs g = refl
 
 -- An MW is never refused, and its answer has value 0.
 many-steps : (m : Machine) (s vs : List ℕ) (w : WaitTicks) (b : Bool) (n v : ℕ)
@@ -64,7 +64,7 @@ unfolding turnOf
 turn-with m s h = go (decodedOf s) (values-right s h)
   where
     go : (d : Decoded) → Good (λ i. OneValue (valuesIn s) i × (0 < length (valuesIn s))) (λ x. AllValues s x × (0 < length (valuesIn s))) d → turnBy m s d ≡ turnWith m s (valuesIn s) (asLastWrite s d)
-    go (Done i) g = ap (λ (d : Did). cond (eqb (refusesOf m i) 0) (doneTurn d) (refusedTurn m (refusesOf m i))) (one-step m i (valuesIn s) (g .0))
+    go (Done i) g = ap (λ (d : Did). cond (eqb (refusesOf m i) 0) (doneTurn d) (refusedTurn m (refusesOf m i))) (single-step m i (valuesIn s) (g .0))
     go (Decoded.Many x) g =
         ap (λ (vs : List ℕ). doneTurn (noValue (afterItems m (singlesAfter x (x .wait) vs)))) (sym (g .0))
         ∙ many-steps m s (valuesIn s) (x .wait) (x .iwm) (x .number) (getD s (length s - 1) 0)
