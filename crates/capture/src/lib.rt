@@ -1,4 +1,6 @@
 // An old capture turned over: measured first, then written, all of it or nothing.
+#![tactic(auto)]
+
 ghost use Rattle.std.specs.Prelude.{◌≡◌, ◌++◌, ◌≤◌, length, drop};
 ghost use Rattle.capture_spec.specs.Convert.{turned_of, converted_of, output_of};
 

@@ -1,4 +1,6 @@
 // What is written for one record of an old capture, and whether it is counted.
+#![tactic(auto)]
+
 ghost use Rattle.std.specs.Prelude.{◌≡◌, ◌++◌, ◌+◌, ◌≤◌, length};
 ghost use Rattle.octets.specs.Octets.{put_at};
 ghost use Rattle.capture_spec.specs.Convert.{insert_of, locked_of, sides_of, line_for, disk_for, changes_of, part_of, lone_of};

@@ -1,4 +1,6 @@
 // One record of an old capture: whether it is a valid retired SN, whether it is a valid IN on line 0, and the levels known after it.
+#![tactic(auto)]
+
 ghost use Rattle.std.specs.Prelude.{◌≡◌, ◌≤◌, length};
 ghost use Rattle.capture_spec.specs.Capture.{body_of, retired_of, line0_of};
 ghost use Rattle.capture_spec.specs.Levels.{first_levels, drive_sense_of, drive_of, sense_to, next_of};

@@ -1,4 +1,6 @@
 // The clock chip: its phase and its store, fresh, and its step by the three wires.
+#![tactic(auto)]
+
 ghost use Rattle.std.specs.Prelude.{◌≡◌, true};
 ghost use Rattle.clock_spec.specs.Phase.{counts, few_bits, hear, accepted_phase};
 ghost use Rattle.clock.specs.Step.{with_phase, fresh_clock, after_byte, after_edge, step_wires};
@@ -6,7 +8,7 @@ ghost use Rattle.clock.specs.Step.{with_phase, fresh_clock, after_byte, after_ed
 use clock_command::Engine;
 use clock_spec::{Bytes, Chip, Edge, Phase, Store, Verdict, Wires};
 
-#[derive(Drop)]
+#[derive(Clone, Copy)]
 pub struct Clock {
     pub phase: Phase,
     pub store: Store,

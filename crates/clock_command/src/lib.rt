@@ -1,4 +1,6 @@
 // The clock chip's commands: what a byte asks by its bit pattern, and what the whole bytes of a transaction come to.
+#![tactic(auto)]
+
 ghost use Rattle.std.specs.Prelude.{◌≡◌, ◌<◌};
 ghost use Rattle.clock_spec.specs.Command.{cells_of, either};
 ghost use Rattle.clock_spec.specs.Patterns.{meant, second_meant, extend};
@@ -43,7 +45,7 @@ fn either_way(z: bool, t: Target) -> Command
 }
 
 // How a first byte is looked up: by the table, or by the patterns one after the other. Both have one contract, which names neither.
-#[derive(Drop)]
+#[derive(Clone, Copy)]
 pub enum Engine {
     Table,
     Patterns,

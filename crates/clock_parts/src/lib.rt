@@ -1,4 +1,6 @@
 // The clock in two parts: its core, which goes by value, and its cells, which stay where they are.
+#![tactic(auto)]
+
 ghost use Rattle.std.specs.Prelude.{◌≡◌, true};
 ghost use Rattle.clock_spec.specs.Phase.{accepted_phase, counts};
 ghost use Rattle.clock_spec.specs.Shared.{advance, stops};
@@ -10,7 +12,7 @@ use clock_command::Engine;
 use clock_spec::{Bytes, Chip, Edge, Phase, Store, Wires};
 
 // The clock but for its cells. The phase's six bytes stand across a multiple of eight: within one, compiled code packs and unpacks them at every item.
-#[derive(Drop)]
+#[derive(Clone, Copy)]
 pub struct Core {
     pub chip: Chip,
     pub protect: bool,
@@ -84,7 +86,7 @@ pub fn idle(k: Core) -> Core
 }
 
 // What an edge makes of a phase.
-#[derive(Drop)]
+#[derive(Clone, Copy)]
 enum PhaseAfter {
     Known(Phase),
     // The last bit of a byte: the store may be read or written.

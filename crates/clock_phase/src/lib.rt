@@ -1,4 +1,6 @@
 // The phase of a transaction: the edges of the three wires, bits taken and sent, the bit shown, the phases accepted.
+#![tactic(auto)]
+
 ghost use Rattle.std.specs.Prelude.{◌≡◌, ◌<◌, ◌+◌, ◌*◌};
 ghost use Rattle.clock_spec.specs.Command.{bit_number};
 ghost use Rattle.clock_spec.specs.Phase.{between, with_byte, fall_phase, few_bits, is_more, more_follows, shown_level, accepted_phase};

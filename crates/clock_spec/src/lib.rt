@@ -1,15 +1,16 @@
 // The clock chip's commands, store and phases: types, what documents 01 and 02 say of them (specs/) and the laws of that (proofs/). The code is in
 // clock_command, clock_store and clock_phase; the chip itself and its step, with their definitions, are in clock.
+#![tactic(auto)]
 
 // Which chip it is: the first, or W-206's later one with more cells.
-#[derive(Drop)]
+#[derive(Clone, Copy)]
 pub enum Chip {
     First,
     Later,
 }
 
 // What a command names.
-#[derive(Drop)]
+#[derive(Clone, Copy)]
 pub enum Target {
     // A seconds byte, 0 the lowest.
     Seconds(u8),
@@ -19,7 +20,7 @@ pub enum Target {
 }
 
 // What a command byte asks.
-#[derive(Drop)]
+#[derive(Clone, Copy)]
 pub enum Command {
     Write(Target),
     Read(Target),
@@ -29,7 +30,7 @@ pub enum Command {
 }
 
 // What the chip keeps. Cells past those that the chip has are room not in use.
-#[derive(Drop)]
+#[derive(Clone, Copy)]
 pub struct Store {
     pub chip: Chip,
     pub cells: [u8; 256],
@@ -39,7 +40,7 @@ pub struct Store {
 }
 
 // The whole bytes of a transaction, in their order.
-#[derive(Drop)]
+#[derive(Clone, Copy)]
 pub enum Bytes {
     Nothing,
     One(u8),
@@ -47,7 +48,7 @@ pub enum Bytes {
 }
 
 // What the whole bytes of a transaction come to at the last bit of one.
-#[derive(Drop)]
+#[derive(Clone, Copy)]
 pub enum Verdict {
     // Another byte follows.
     More,
@@ -60,7 +61,7 @@ pub enum Verdict {
 }
 
 // Where a transaction stands.
-#[derive(Drop)]
+#[derive(Clone, Copy)]
 pub enum Phase {
     // Enable is 1.
     Idle,
@@ -73,7 +74,7 @@ pub enum Phase {
 }
 
 // What the wires do between two items.
-#[derive(Drop)]
+#[derive(Clone, Copy)]
 pub enum Edge {
     // Enable is 1 after.
     Up,
@@ -87,7 +88,7 @@ pub enum Edge {
 }
 
 // The levels of the three wires; true is 1. Enable is low active.
-#[derive(Drop)]
+#[derive(Clone, Copy)]
 pub struct Wires {
     pub enable: bool,
     pub dataclock: bool,

@@ -1,4 +1,6 @@
 // Cells, seconds, protect and test of the clock chip: what reads and writes do to them.
+#![tactic(auto)]
+
 ghost use Rattle.std.specs.Prelude.{◌≡◌, ◌≤◌, length, drop};
 ghost use Rattle.std.proofs.Math.Option.{some};
 ghost use Rattle.levels.specs.Levels.{all_below};

@@ -1,4 +1,6 @@
 // Prints the manual's table of the clock chip's 256 first command bytes, 16 by 16, from the table that a run looks them up in: docs/MANUAL.md says how to read it.
+#![tactic(auto)]
+
 ghost use Rattle.std.specs.Prelude.{◌≤◌};
 
 use clock_command::Engine;

@@ -1,4 +1,6 @@
 // One drive: disk in and out, power, its wait, and what is written to its registers.
+#![tactic(auto)]
+
 ghost use Rattle.std.specs.Prelude.{◌≡◌, true, false, ◌<◌};
 ghost use Rattle.disk_spec.specs.Drive.{fresh_drive, with_disk_in, with_disk_out, neighbour, drive_ticks, after_power_cut};
 ghost use Rattle.disk_spec.specs.Control.{disk_moved, register_written};

@@ -1,4 +1,6 @@
 // The two drives and their strobe: time, disks and power; what the disk lines write to them and show of them.
+#![tactic(auto)]
+
 ghost use Rattle.std.specs.Prelude.{◌≡◌};
 ghost use Rattle.disk_spec.specs.Drives.{fresh_drives, drives_ticks, drives_busy, drives_disk_moved, place_refused, drives_powered, drives_after, drives_shown, accepted_drives};
 

@@ -1,9 +1,11 @@
 // The IWM as eight lines and a sense bit; the lines are the byte of an answer.
+#![tactic(auto)]
+
 ghost use Rattle.std.specs.Prelude.{◌≡◌, true, ◌<◌, ◌+◌, ◌*◌, ◌%◌};
 ghost use Rattle.disk_lines.specs.Lines.{line_levels, lines_of, lines_off, with_level, after_access, read_line, sense_at};
 
 // CA0, CA1, CA2, LSTRB, ENABLE, SELECT, Q6, Q7 in bits 0 to 7: 0 is off, 1 is on.
-#[derive(Drop)]
+#[derive(Clone, Copy)]
 pub struct DiskLines {
     pub lines: u8,
 }

@@ -1,4 +1,6 @@
 // What a drive's sense registers show, and whether a drive is in its ranges.
+#![tactic(auto)]
+
 ghost use Rattle.std.specs.Prelude.{◌≡◌, false};
 ghost use Rattle.disk_spec.specs.Sense.{level, is_drive_sense, drive_sense, sense_shown, accepted_drive};
 

@@ -1,8 +1,9 @@
 // The drives behind the disk lines and their strobe: types, what request W-203 says of them (specs/) and the laws of that (proofs/). The code is in
 // disk_drive, disk_sense, disk_strobe and disk_drives; the lines themselves are in disk_lines.
+#![tactic(auto)]
 
 // The levels that a strobe goes by: SEL is the VIA's line, the others are the disk lines.
-#[derive(Drop)]
+#[derive(Clone, Copy)]
 pub struct Watched {
     pub lstrb: bool,
     pub enable: bool,
@@ -14,7 +15,7 @@ pub struct Watched {
 }
 
 // One drive.
-#[derive(Drop)]
+#[derive(Clone, Copy)]
 pub struct Drive {
     // 0 to 79
     pub track: u8,
@@ -34,7 +35,7 @@ pub struct Drive {
 }
 
 // The strobe LSTRB.
-#[derive(Drop)]
+#[derive(Clone, Copy)]
 pub struct Strobe {
     // VIA ticks since LSTRB rose, at most 391,680; 0 while LSTRB is off or the strobe is spoilt
     pub ticks: u32,
@@ -43,7 +44,7 @@ pub struct Strobe {
 }
 
 // The two drives and the strobe that writes to them.
-#[derive(Drop)]
+#[derive(Clone, Copy)]
 pub struct Drives {
     pub internal: Drive,
     pub external: Drive,

@@ -1,4 +1,6 @@
 // The levels that a strobe goes by, how long LSTRB was on, and which of its drops write.
+#![tactic(auto)]
+
 ghost use Rattle.std.specs.Prelude.{◌≡◌, false};
 ghost use Rattle.disk_spec.specs.Watched.{watched_of, register_of, unspoilt};
 ghost use Rattle.disk_spec.specs.Strobe.{no_strobe, strobe_ticks, strobe_after, long_enough, strobe_writes, accepted_strobe};

@@ -1,4 +1,6 @@
 // A state's image: one record of kind ST or SX, written from a state, read back, and judged.
+#![tactic(auto)]
+
 ghost use Rattle.std.specs.Prelude.{◌≡◌, true, ◌≤◌, length};
 ghost use Rattle.machine_spec.specs.Machine.{accepted_of};
 ghost use Rattle.image_spec.specs.Image.{image_length, image_of, machine_of, lines_exact, parts_exact, exact_image, valid_image};

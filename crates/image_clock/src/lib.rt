@@ -1,4 +1,6 @@
 // The clock in an image: the bytes of the half-made command and of the registers, and the cells, written in their places and read back.
+#![tactic(auto)]
+
 ghost use Rattle.std.specs.Prelude.{◌≡◌, ◌+◌, ◌≤◌, [], ◌∷◌, ◌++◌, length, take, drop};
 ghost use Rattle.octets.specs.Octets.{put_at};
 ghost use Rattle.clock_spec.specs.declared.Chip.{Chip};

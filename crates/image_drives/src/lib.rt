@@ -1,4 +1,6 @@
 // The drives in an image: the bytes of each drive and of the strobe, written in their places and read back.
+#![tactic(auto)]
+
 ghost use Rattle.std.specs.Prelude.{◌≡◌, ◌≤◌, length};
 ghost use Rattle.octets.specs.Octets.{put_at};
 ghost use Rattle.image_spec.specs.Layout.{tail_at, internal_at, external_at, strobe_at, drive_length, strobe_length, part};

@@ -1,4 +1,6 @@
 // The layout of a state's image: how long each part is and where it stands; the head, and the parts that are levels, put there and taken out.
+#![tactic(auto)]
+
 ghost use Rattle.std.specs.Prelude.{◌≡◌, ◌≤◌, length};
 ghost use Rattle.octets.specs.Octets.{put_at};
 ghost use Rattle.image_spec.specs.Layout.{lines_length, inputs_length, sense_length, lines_at, inputs_at, sense_at, tail_at, tail_length, image_length, part, kind_bytes, head_length, head_bytes, head_exact, chip_of, same_bytes};

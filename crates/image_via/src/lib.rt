@@ -1,4 +1,6 @@
 // The VIA in an image: its bytes, written in their place and read back.
+#![tactic(auto)]
+
 ghost use Rattle.std.specs.Prelude.{◌≡◌, ◌≤◌, length};
 ghost use Rattle.octets.specs.Octets.{put_at};
 ghost use Rattle.image_spec.specs.Layout.{tail_at, via_at, via_length, part};

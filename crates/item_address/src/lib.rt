@@ -1,4 +1,6 @@
 // The 32 addresses: sixteen VIA registers and sixteen IWM locations.
+#![tactic(auto)]
+
 ghost use Rattle.std.specs.Prelude.{◌≡◌};
 ghost use Rattle.item_spec.specs.Addresses.{place_from, found_of};
 

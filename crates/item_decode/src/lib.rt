@@ -1,4 +1,6 @@
 // The decoder: the bytes of one record, its kind first, are an item or a refusal.
+#![tactic(auto)]
+
 ghost use Rattle.std.specs.Prelude.{◌≡◌, ◌≤◌, length};
 ghost use Rattle.item_spec.specs.Kinds.{is_kind, decoded_of};
 ghost use Rattle.item_many.specs.LastWrite.{as_last_write};

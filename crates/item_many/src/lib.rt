@@ -1,4 +1,6 @@
 // MW, its body read: W-211's many writes to one address. It is handed on as the last of its single WR items, after its wait; the values stay in the record.
+#![tactic(auto)]
+
 ghost use Rattle.std.specs.Prelude.{◌≡◌, ◌≤◌, length};
 ghost use Rattle.item_spec.specs.Many.{counted_record, many_record};
 ghost use Rattle.item_many.specs.LastWrite.{as_last_write};

@@ -1,4 +1,6 @@
 // The items with no range to keep, their bodies read: RD, WR, VB, SE, RS, PW; and the number of a refusal.
+#![tactic(auto)]
+
 ghost use Rattle.std.specs.Prelude.{◌≡◌, ◌≤◌, length};
 ghost use Rattle.item_spec.specs.Items.{refusal_of, plain_record, read_record, write_record, power_record};
 

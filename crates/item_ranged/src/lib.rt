@@ -1,4 +1,6 @@
 // The items whose bytes have ranges, their bodies read: IN, SN, DI, KC.
+#![tactic(auto)]
+
 ghost use Rattle.std.specs.Prelude.{◌≡◌, ◌≤◌, length};
 ghost use Rattle.item_spec.specs.Ranged.{line_record, sense_record, is_retired, disk_record, pulse_record};
 

@@ -1,4 +1,6 @@
 // Records framed, and answers as bytes put into their eight bytes of room.
+#![tactic(auto)]
+
 ghost use Rattle.std.specs.Prelude.{◌≡◌, ◌+◌, ◌≤◌, length};
 ghost use Rattle.item_spec.specs.Record.{frame_of, answer_bytes, no_of};
 ghost use Rattle.octets.specs.Octets.{put_at};

@@ -1,16 +1,18 @@
 // Records, items and answers: types, what document 01 says of them (specs/) and the laws of that (proofs/).
 // The code is in the other crates of the family.
+#![tactic(auto)]
+
 use units::WaitTicks;
 
 // Which of sixteen places, 512 apart, an address is.
-#[derive(Drop)]
+#[derive(Clone, Copy)]
 pub enum Place {
     At(u8),
     Off,
 }
 
 // What stands at an address: a VIA register, an IWM location, or neither.
-#[derive(Drop)]
+#[derive(Clone, Copy)]
 pub enum Found {
     Via(u8),
     Iwm(u8),
@@ -18,7 +20,7 @@ pub enum Found {
 }
 
 // Whether a whole record stands at the front of a list.
-#[derive(Drop)]
+#[derive(Clone, Copy)]
 pub enum Framed {
     // It takes so many bytes, the two of its length among them.
     Whole(usize),
@@ -27,7 +29,7 @@ pub enum Framed {
 }
 
 // What an answer says: OK with four values, or NO with the refusal's number in `value` and zeros elsewhere.
-#[derive(Drop)]
+#[derive(Clone, Copy)]
 pub struct Answer {
     pub ok: bool,
     // The value read, or the refusal's number.
@@ -41,7 +43,7 @@ pub struct Answer {
 }
 
 // What a record asks for. Each wait is in VIA ticks, a type of its own.
-#[derive(Drop)]
+#[derive(Clone, Copy)]
 pub enum Item {
     // RD
     ReadVia {
@@ -109,7 +111,7 @@ pub enum Item {
 }
 
 // MW: many writes to one address, each value a WR of its own. The values stay in the record, from byte 9 after its length on.
-#[derive(Drop)]
+#[derive(Clone, Copy)]
 pub struct Many {
     // Before the first value, in VIA ticks.
     pub wait: WaitTicks,
@@ -120,7 +122,7 @@ pub struct Many {
 }
 
 // A record read whole: its item, its many writes, or the number of its refusal.
-#[derive(Drop)]
+#[derive(Clone, Copy)]
 pub enum Decoded {
     Done(Item),
     Many(Many),
@@ -128,7 +130,7 @@ pub enum Decoded {
 }
 
 // The kinds whose items are a wait alone: VB, SE, RS.
-#[derive(Drop)]
+#[derive(Clone, Copy)]
 pub enum Plain {
     Blank,
     Second,

@@ -1,4 +1,6 @@
 // The wait at the front of every item's body.
+#![tactic(auto)]
+
 ghost use Rattle.std.specs.Prelude.{◌≡◌, ◌≤◌, length};
 ghost use Rattle.item_spec.specs.Items.{record_wait};
 

@@ -1,11 +1,13 @@
 // The keyboard of request W-210 and source document 000, a part of its own: a command byte, a key code or a wait in VIA ticks goes in, a response comes out.
+#![tactic(auto)]
+
 ghost use Rattle.std.specs.Prelude.{◌≡◌, true, [], ◌∷◌, ◌++◌, ◌<◌, get_or, drop};
 ghost use Rattle.keyboard.specs.State.{codes_of, with_codes, with_left, fresh_keyboard, all_zero, accepted_of};
 ghost use Rattle.keyboard.specs.Numbers.{refusal_of, answers_of, byte_of};
 ghost use Rattle.keyboard.specs.declared.Response.TheVariants.{Code, OutOfRange};
 ghost use Rattle.keyboard.specs.Steps.{respond, instant, inquiry, answer_to, command_of, key_of, wait_of};
 
-#[derive(Drop)]
+#[derive(Clone, Copy)]
 pub struct Keyboard {
     // the byte that Model answers, any
     pub model: u8,
@@ -18,7 +20,7 @@ pub struct Keyboard {
 }
 
 // What the keyboard says to a command, a key or a wait.
-#[derive(Drop)]
+#[derive(Clone, Copy)]
 pub enum Response {
     // a byte: a key code, Null, the model, the test passed
     Code(u8),
@@ -33,7 +35,7 @@ pub enum Response {
 }
 
 // The keyboard after a step, and its response.
-#[derive(Drop)]
+#[derive(Clone, Copy)]
 pub struct Stepped {
     pub keyboard: Keyboard,
     pub response: Response,

@@ -1,4 +1,6 @@
 // The keyboard for C and Rust shells: numbers and byte slices, the state as a lent image. crates/swarmtempo gives these functions their C linkage.
+#![tactic(auto)]
+
 ghost use Rattle.std.specs.Prelude.{◌≡◌, true, length};
 ghost use Rattle.keyboard.specs.Numbers.{refusal_of, byte_of};
 ghost use Rattle.keyboard.specs.Steps.{command_of, key_of, wait_of};

@@ -1,4 +1,6 @@
 // A keyboard's image: one record of kind KB, written from a keyboard, read back, and judged.
+#![tactic(auto)]
+
 ghost use Rattle.std.specs.Prelude.{◌≡◌, ◌≤◌, length};
 ghost use Rattle.octets.specs.Octets.{put_at};
 ghost use Rattle.keyboard_image.specs.Image.{image_length, image_of, headed, keyboard_of, valid_image};

@@ -1,4 +1,6 @@
 // Line levels: one loop for every array of them.
+#![tactic(auto)]
+
 ghost use Rattle.std.specs.Prelude.{◌≡◌};
 ghost use Rattle.levels.specs.Levels.{all_below, all_levels};
 

@@ -1,4 +1,6 @@
 // The fresh machine, and whether a state is accepted.
+#![tactic(auto)]
+
 ghost use Rattle.std.specs.Prelude.{◌≡◌, true};
 ghost use Rattle.clock_spec.specs.Store.{unused_clear};
 ghost use Rattle.machine_spec.specs.Machine.{accepted_of, fresh_machine};

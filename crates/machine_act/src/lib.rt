@@ -1,5 +1,7 @@
 // An item over the machine in parts: its wait, and its action with the clock's look at its wires. The board, the clock's core and the drives go in by value; the cells
 // and the sense registers are lent.
+#![tactic(auto)]
+
 ghost use Rattle.std.specs.Prelude.{◌≡◌, true, ℕ, ◌<◌, ◌+◌, ◌*◌, List, length, get_or};
 ghost use Rattle.levels.specs.Levels.{all_levels};
 ghost use Rattle.clock_spec.specs.Phase.{shown_level};
@@ -30,7 +32,7 @@ use units::WaitTicks;
 use via::{Ports, Via};
 
 // What an item changes on the board or in the sense registers: at most one thing.
-#[derive(Drop)]
+#[derive(Clone, Copy)]
 pub enum Change {
     Nothing,
     // The VIA's flags.
@@ -50,7 +52,7 @@ pub enum Change {
 }
 
 // What an item leaves: the value read, the disk lines, the clock's core, the drives, and the change.
-#[derive(Drop)]
+#[derive(Clone, Copy)]
 pub struct Acted {
     pub value: u8,
     pub disk: DiskLines,

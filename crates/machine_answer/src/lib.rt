@@ -1,4 +1,6 @@
 // What an item gets for an answer: its refusal by the state, or what is shown after it was carried out.
+#![tactic(auto)]
+
 ghost use Rattle.std.specs.Prelude.{◌≡◌, true, List, ℕ};
 ghost use Rattle.levels.specs.Levels.{all_levels};
 ghost use Rattle.clock.specs.declared.Clock.{Clock};

@@ -1,4 +1,6 @@
 // The levels of lines that the board goes by: what it gives the VIA's ports, the clock's three wires, SEL, the strobe's levels, the interrupt level.
+#![tactic(auto)]
+
 ghost use Rattle.std.specs.Prelude.{◌≡◌, true, List, ℕ, ◌<◌, ◌+◌, ◌*◌};
 ghost use Rattle.levels.specs.Levels.{all_levels};
 ghost use Rattle.clock.specs.declared.Clock.{Clock};
@@ -15,7 +17,7 @@ use machine_spec::Machine;
 use via::{Inputs, Ports, Via};
 
 // The machine but for its clock, its sense registers and its drives.
-#[derive(Drop)]
+#[derive(Clone, Copy)]
 pub struct Board {
     pub via: Via,
     pub disk: DiskLines,

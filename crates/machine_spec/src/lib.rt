@@ -1,12 +1,14 @@
 // The machine: its types, what an item does to it (specs/) and the laws of that (proofs/). The code is in the other crates
 // of the family.
+#![tactic(auto)]
+
 use clock::Clock;
 use disk_lines::DiskLines;
 use disk_spec::Drives;
 use via::Via;
 
 // The whole state.
-#[derive(Drop)]
+#[derive(Clone, Copy)]
 pub struct Machine {
     pub via: Via,
     pub clock: Clock,
@@ -20,7 +22,7 @@ pub struct Machine {
 }
 
 // What an item leaves: the next state and the value read.
-#[derive(Drop)]
+#[derive(Clone, Copy)]
 pub struct Did {
     pub machine: Machine,
     pub value: u8,

@@ -1,5 +1,7 @@
 // What one record writes to a VIA register, value after value: a WR has one, an MW up to 64. What the values leave of the ports, the VIA and the clock, and whether they
 // move SEL.
+#![tactic(auto)]
+
 ghost use Rattle.std.specs.Prelude.{◌≡◌, true, ◌<◌, length};
 ghost use Rattle.clock_spec.specs.Phase.{shown_level, accepted_phase};
 ghost use Rattle.clock_parts.specs.Parts.{whole_clock};

@@ -1,4 +1,6 @@
 // Bytes and numbers: little-endian numbers in a list of bytes, a byte of a number taken or replaced, and copying into lent memory.
+#![tactic(auto)]
+
 ghost use Rattle.std.specs.Prelude.{◌≡◌, ◌+◌, ◌/◌, ◌%◌, ◌^◌, ◌≤◌, ◌<◌, length};
 ghost use Rattle.octets.specs.Octets.{le16_of, le32_of, put_at, replace};
 

@@ -1,4 +1,6 @@
 // The run: a machine, a list of items and an answer buffer; the stop number, the counts and the next machine.
+#![tactic(auto)]
+
 ghost use Rattle.std.specs.Prelude.{◌≡◌, true, ◌≤◌, length};
 ghost use Rattle.machine_spec.specs.Machine.{accepted_of};
 ghost use Rattle.run_spec.specs.Outcome.{halt, ran_of, over, run_of};

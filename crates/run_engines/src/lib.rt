@@ -1,4 +1,6 @@
 // W-207: a run by the table and a run by the patterns, side by side.
+#![tactic(auto)]
+
 ghost use Rattle.std.specs.Prelude.{◌≡◌};
 ghost use Rattle.run_engines.specs.Engines.{Same};
 
@@ -6,7 +8,7 @@ use clock_command::Engine;
 use machine_spec::Machine;
 use run_spec::Ran;
 
-#[derive(Drop)]
+#[derive(Clone, Copy)]
 pub struct Two {
     pub table: Ran,
     pub patterns: Ran,

@@ -1,4 +1,6 @@
 // The run from the fresh machine, with demand 3 in its contract.
+#![tactic(auto)]
+
 ghost use Rattle.std.specs.Prelude.{◌≡◌, ◌≤◌, length};
 ghost use Rattle.machine_spec.specs.Machine.{fresh_machine};
 ghost use Rattle.run_spec.specs.Outcome.{ran_of, over, run_of};

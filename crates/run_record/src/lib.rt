@@ -1,4 +1,6 @@
 // One whole record: what it says is decoded, and judged by the state.
+#![tactic(auto)]
+
 ghost use Rattle.std.specs.Prelude.{◌≡◌, ◌≤◌, length};
 ghost use Rattle.machine_spec.specs.declared.Machine.{Machine};
 ghost use Rattle.run_spec.specs.Turn.{turn_of};

@@ -1,4 +1,6 @@
 // House sheet and bench sheet (W-213): a setting's bytes, and where they stand. Each look-up is one pass over each sheet.
+#![tactic(auto)]
+
 ghost use Rattle.std.specs.Prelude.{◌≡◌, cond, ◌≤◌, length};
 ghost use Rattle.sheet_spec.specs.Records.{sheet_of};
 ghost use Rattle.sheet_spec.specs.Counting.{beats_of, better_of};

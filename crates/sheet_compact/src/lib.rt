@@ -1,5 +1,7 @@
 // The tool that writes a sheet's counting records, one for each setting, in their old order (W-213). It walks the sheet four times, whatever
 // the number of its records: for the refusal, for a table of where each setting's counting record stands, to measure and to write.
+#![tactic(auto)]
+
 ghost use Rattle.std.specs.Prelude.{◌≡◌, cond, [], ◌++◌, ◌≤◌, ◌<◌, length, get_or, drop, replicate, eqb};
 ghost use Rattle.sheet_spec.specs.Records.{sheet_of, is_broken};
 ghost use Rattle.sheet_spec.specs.Counting.{setting_of, version_of};

@@ -1,4 +1,6 @@
 // Sheets of settings for C and Rust shells: numbers and byte slices. The crate swarmtempo exports these functions.
+#![tactic(auto)]
+
 ghost use Rattle.std.specs.Prelude.{◌≡◌, length};
 ghost use Rattle.sheet_spec.specs.Lookup.{source_of, place_of, refusal_of, sheet_number};
 ghost use Rattle.sheet_spec.specs.Compaction.{compacted_of, memory_of, stop_of, written_of};

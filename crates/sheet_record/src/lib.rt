@@ -1,4 +1,6 @@
 // The records of a sheet of settings (W-213): the one at the front of some bytes, its version, and whether it counts before another.
+#![tactic(auto)]
+
 ghost use Rattle.std.specs.Prelude.{◌≡◌, [], ◌∷◌, ◌≤◌, length, drop};
 ghost use Rattle.item_spec.specs.Kinds.{is_kind};
 ghost use Rattle.sheet_spec.specs.Records.{first_of};

@@ -1,8 +1,9 @@
 // Sheets of settings (W-213): types, what document 02 says of them (specs/) and the laws of that (proofs/). The code is in sheet_record, sheet and
 // sheet_compact.
+#![tactic(auto)]
 
 // Which sheet a setting's bytes come from.
-#[derive(Drop)]
+#[derive(Clone, Copy)]
 pub enum Source {
     Bench,
     House,
@@ -13,7 +14,7 @@ pub enum Source {
 }
 
 // What one sheet says of a setting.
-#[derive(Drop)]
+#[derive(Clone, Copy)]
 pub enum Search {
     // Its bytes stand at this place, so many of them.
     Set { start: usize, size: usize },
@@ -22,7 +23,7 @@ pub enum Search {
 }
 
 // Where a setting's bytes stand: which sheet, their place in it and their number.
-#[derive(Drop)]
+#[derive(Clone, Copy)]
 pub struct Place {
     pub source: Source,
     pub start: usize,
@@ -30,7 +31,7 @@ pub struct Place {
 }
 
 // What the tool did: so many bytes written, or the number of the refusal.
-#[derive(Drop)]
+#[derive(Clone, Copy)]
 pub enum Compacted {
     Written(usize),
     Failed(u8),

@@ -1,4 +1,6 @@
 // The run for C and Rust shells: numbers and byte slices, the state as a lent image.
+#![tactic(auto)]
+
 ghost use Rattle.std.specs.Prelude.{◌≡◌, length, true};
 ghost use Rattle.image_spec.specs.Image.{machine_of, valid_image};
 ghost use Rattle.demand3.specs.Runs.{Run3};

@@ -1,4 +1,6 @@
 // What a writer of clock transactions is asked for: request W-209.
+#![tactic(auto)]
+
 ghost use Rattle.std.specs.Prelude.{◌≡◌, true, ◌+◌, ◌*◌, ◌%◌, ◌<◌, ltb};
 ghost use Rattle.clock_spec.specs.Command.{cells_of};
 ghost use Rattle.transaction_spec.specs.Asked.{reads_of, byte_of, has_of, cell_byte, command_of, extended_of, second_byte_of, size_by, count_by, size_of, count_of};

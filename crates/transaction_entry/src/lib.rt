@@ -1,4 +1,6 @@
 // The writer of clock transactions for C and Rust shells: numbers and byte slices, the state as a lent image. The crate swarmtempo exports `transaction`.
+#![tactic(auto)]
+
 ghost use Rattle.std.specs.Prelude.{◌≡◌, ◌<◌, length};
 ghost use Rattle.transaction_entry.specs.Call.{placed_of, request_of, answer_of, buffer_of, result_of, output_of, stop_of, written_of, CallDoes};
 
@@ -7,7 +9,7 @@ use transaction_spec::Ask;
 use transaction_writer::TransactionResult;
 
 // What the numbers of a call ask for.
-#[derive(Drop)]
+#[derive(Clone, Copy)]
 pub enum Request {
     Known(Ask),
     Unknown,

@@ -1,4 +1,6 @@
 // The items of a clock transaction by their numbers, as bytes made by value: request W-209.
+#![tactic(auto)]
+
 ghost use Rattle.std.specs.Prelude.{◌≡◌, ◌+◌, ◌/◌, ◌%◌, ◌^◌, ◌≤◌, ◌<◌, eqb, length};
 ghost use Rattle.clock_spec.specs.Command.{bit_number};
 ghost use Rattle.transaction_spec.specs.declared.Act.{Act};
@@ -9,7 +11,7 @@ use transaction_spec::Act;
 
 // Bits 3 to 7 of port B's output and direction bytes, the command's first byte, its second one and whether it has one, the byte to
 // write, and whether it is a read.
-#[derive(Drop)]
+#[derive(Clone, Copy)]
 pub struct Plan {
     pub outs: u8,
     pub dirs: u8,
@@ -21,7 +23,7 @@ pub struct Plan {
 }
 
 // Some bytes, made by value.
-#[derive(Drop)]
+#[derive(Clone, Copy)]
 pub struct Part {
     pub bytes: [u8; 11],
     pub count: usize,

@@ -1,4 +1,6 @@
 // A writer of clock transactions: request W-209.
+#![tactic(auto)]
+
 ghost use Rattle.std.specs.Prelude.{◌≡◌, ◌++◌, ◌/◌, ◌≤◌, ◌<◌, length, drop, true};
 ghost use Rattle.transaction_spec.specs.Asked.{has_of};
 ghost use Rattle.transaction_ask.specs.Place.{place_in_range};
@@ -10,7 +12,7 @@ use transaction_plan::Plan;
 use transaction_spec::Ask;
 
 // The bytes written, or a refusal.
-#[derive(Drop)]
+#[derive(Clone, Copy)]
 pub enum TransactionResult {
     Wrote(usize),
     Refused(u8),

@@ -1,13 +1,15 @@
 // Microseconds, VIA ticks and the waits of records: types of their own, so that no count of one is taken for another.
+#![tactic(auto)]
+
 ghost use Rattle.std.specs.Prelude.{◌≡◌, ◌+◌, ◌*◌};
 ghost use Rattle.units.specs.Units.{ticks_of, for_ticks};
 
 // Microseconds.
-#[derive(Drop)]
+#[derive(Clone, Copy)]
 pub struct Micros(pub u32);
 
 // VIA ticks, 783,360 in a second.
-#[derive(Drop)]
+#[derive(Clone, Copy)]
 pub struct ViaTicks(pub u32);
 
 // Microseconds in VIA ticks, rounded up. The only place where one becomes the other.
@@ -23,7 +25,7 @@ pub fn ticks_of_micros(m: Micros) -> ViaTicks
 }
 
 // A wait as a record has it: VIA ticks, 16 bits. It is made here alone, from the two bytes of a record, and no other number can stand for one.
-#[derive(Drop)]
+#[derive(Clone, Copy)]
 pub struct WaitTicks(u16);
 
 // The wait of two bytes, the lower first.

@@ -1,4 +1,6 @@
 // Runs the script on standard input: the samples, as lines that do something or say something. docs/FORMATS.md has their language.
+#![tactic(auto)]
+
 use vectors_operations::Order;
 
 // Makes the machine fresh, with the first chip: 0.

@@ -1,10 +1,12 @@
 // The operations of a script's lines: which there are, the accesses that each makes, the record of an access, the value seen.
+#![tactic(auto)]
+
 ghost use Rattle.std.specs.Prelude.{◌≡◌};
 ghost use Rattle.vectors_operations.specs.Operations.{order_of, known_of, accesses_of, access_of, record_of, start_of, seen_of, byte_of, changed_of};
 
 // An operation and its two numbers: 0 is none. An access is one of the three single ones: `w`, WR to VIA register `a` of the value `b`; `r` and
 // `i`, RD of VIA register or IWM location `a` after `b` VIA ticks.
-#[derive(Drop)]
+#[derive(Clone, Copy)]
 pub struct Order {
     pub op: u8,
     pub a: u64,

@@ -1,4 +1,6 @@
 // What is printed of a run: the bytes of an answer, the line of the run, a script line's words.
+#![tactic(auto)]
+
 ghost use Rattle.std.specs.Prelude.{◌≡◌, cond, ◌≤◌, length};
 ghost use Rattle.vectors_words.specs.Words.{spaced_of};
 

@@ -1,18 +1,20 @@
 // The words of a script's lines: the numbers after a line's first character, and the line as an operation or as a list of items.
+#![tactic(auto)]
+
 ghost use Rattle.std.specs.Prelude.{◌≡◌, ◌+◌, ◌≤◌, length};
 ghost use Rattle.vectors_words.specs.Words.{spaced_of, grown_of, number_of, order_read, line_end_of};
 
 use vectors_operations::Order;
 
 // A number of a line and the place after it. One that is too large, or is no number, is 65,536 or more.
-#[derive(Drop)]
+#[derive(Clone, Copy)]
 struct Read {
     value: u64,
     end: usize,
 }
 
 // A line's answer room in bytes, its list and how many bytes it has; `good` is false where the line is bad.
-#[derive(Drop)]
+#[derive(Clone, Copy)]
 pub struct Given {
     pub good: bool,
     pub room: usize,

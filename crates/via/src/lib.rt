@@ -1,4 +1,6 @@
 // The VIA: ports, two timers, registers written, the shift register, reset; what is asked of its flags is in via_flags, reading in via_registers. The state goes in by value, and the next one comes out.
+#![tactic(auto)]
+
 ghost use Rattle.std.specs.Prelude.{◌≡◌, cond, true, false, ◌<◌};
 ghost use Rattle.via_timer.specs.Timer.{steps};
 ghost use Rattle.via.specs.Writes.{timer1_written, via_written};
@@ -9,7 +11,7 @@ use units::WaitTicks;
 use via_timer::Counter;
 
 // Output bits and directions of ports B and A; a direction bit of 1 is an output.
-#[derive(Drop)]
+#[derive(Clone, Copy)]
 pub struct Ports {
     pub outb: u8,
     pub outa: u8,
@@ -18,7 +20,7 @@ pub struct Ports {
 }
 
 // T1: counter in VIA ticks, latches, whether its passage sets flag 6, whether the next tick loads the latches.
-#[derive(Drop)]
+#[derive(Clone, Copy)]
 pub struct Timer1 {
     pub counter: u16,
     pub low: u8,
@@ -28,7 +30,7 @@ pub struct Timer1 {
 }
 
 // T2: counter in VIA ticks, low latch, whether its passage sets flag 5.
-#[derive(Drop)]
+#[derive(Clone, Copy)]
 pub struct Timer2 {
     pub counter: u16,
     pub low: u8,
@@ -36,7 +38,7 @@ pub struct Timer2 {
 }
 
 // Flags and enables have bits 0 to 6. The keyboard's pulses since the last eighth are 0 to 7.
-#[derive(Drop)]
+#[derive(Clone, Copy)]
 pub struct Via {
     pub ports: Ports,
     pub t1: Timer1,
@@ -50,14 +52,14 @@ pub struct Via {
 }
 
 // The levels that the outside gives the lines of the two ports.
-#[derive(Drop)]
+#[derive(Clone, Copy)]
 pub struct Inputs {
     pub b: u8,
     pub a: u8,
 }
 
 // What a read or a pulse gives: the VIA after it, and the value.
-#[derive(Drop)]
+#[derive(Clone, Copy)]
 pub struct Access {
     pub via: Via,
     pub value: u8,

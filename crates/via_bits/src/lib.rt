@@ -1,4 +1,6 @@
 // What single bytes of the VIA become, over numbers alone.
+#![tactic(auto)]
+
 ghost use Rattle.std.specs.Prelude.{◌≡◌, cond, ◌+◌, ◌*◌};
 ghost use Rattle.via_bits.specs.Bytes.{port_a_flags, enabled_by};
 

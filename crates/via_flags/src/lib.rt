@@ -1,4 +1,6 @@
 // The VIA's flags: asking for an interrupt, and in their range with the count of pulses.
+#![tactic(auto)]
+
 ghost use Rattle.std.specs.Prelude.{◌≡◌};
 ghost use Rattle.via.specs.Via.{asking, level_of, accepted_via};
 

@@ -1,4 +1,6 @@
 // The VIA's sixteen registers, read.
+#![tactic(auto)]
+
 ghost use Rattle.std.specs.Prelude.{◌≡◌, ◌<◌, ◌+◌, ◌/◌, ◌%◌};
 ghost use Rattle.via.specs.Via.{port_level};
 ghost use Rattle.via.specs.Registers.{flags_byte, value_read, flags_read};

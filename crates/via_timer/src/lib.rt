@@ -1,9 +1,11 @@
 // One down counter, worked out for a whole wait at once. Both timers of the VIA are this counter.
+#![tactic(auto)]
+
 ghost use Rattle.std.specs.Prelude.{◌≡◌, ◌+◌, ◌<◌, true, false};
 ghost use Rattle.via_timer.specs.Timer.{at, steps};
 
 // What a VIA tick changes of a timer, and whether the timer has fired since the wait began.
-#[derive(Drop)]
+#[derive(Clone, Copy)]
 pub struct Counter {
     pub value: u16,
     pub armed: bool,
