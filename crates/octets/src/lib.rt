@@ -5,6 +5,7 @@ ghost use Rattle.std.specs.Prelude.{◌≡◌, ◌+◌, ◌/◌, ◌%◌, ◌^�
 ghost use Rattle.octets.specs.Octets.{le16_of, le32_of, put_at, replace};
 
 // The two bytes at `at` as a number, the lower first.
+#[tactic(auto, unfolding(crate::specs::Octets::le16_of))]
 pub fn le16(s: &[u8], at: usize) -> u16
     requires { at + 2 ≤ length s.now }
     ensures { result ≡ le16_of s.now at }
@@ -34,6 +35,7 @@ pub fn byte_at(n: u32, k: u8) -> u8
 }
 
 // The number with byte k replaced.
+#[tactic(auto, unfolding(crate::specs::Octets::replace))]
 pub fn replaced(n: u32, k: u8, b: u8) -> u32
     requires { k < 4 }
     ensures { result ≡ replace k b n }

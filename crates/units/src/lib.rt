@@ -13,6 +13,7 @@ pub struct Micros(pub u32);
 pub struct ViaTicks(pub u32);
 
 // Microseconds in VIA ticks, rounded up. The only place where one becomes the other.
+#[tactic(auto, unfolding(crate::specs::Units::ticks_of))]
 pub fn ticks_of_micros(m: Micros) -> ViaTicks
     ensures { result.0 ≡ ticks_of m.0 }
 {
