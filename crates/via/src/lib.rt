@@ -66,6 +66,7 @@ pub struct Access {
 }
 
 // All zero, as after a power cut.
+#[tactic(auto, unfolding(crate::specs::Via::fresh_via))]
 pub fn fresh() -> Via
     ensures { result ≡ fresh_via }
 {
@@ -99,6 +100,7 @@ pub fn fresh() -> Via
 
 impl Timer1 {
     // Register 5 takes the value: the latches go into the counter.
+    #[tactic(auto, unfolding(crate::specs::Writes::timer1_written))]
     fn load(mut self, value: u8) -> Timer1
         ensures { result ≡ timer1_written 5 value self }
     {
@@ -111,6 +113,7 @@ impl Timer1 {
 }
 
 // n VIA ticks of T1, in free run or not.
+#[tactic(auto, unfolding(crate::specs::Via::latch_of))]
 fn run1(t: Timer1, free: bool, n: u16) -> Counter
     ensures { result ≡ steps n free (latch_of t) (counter1 t) }
 {
@@ -159,6 +162,7 @@ impl Via {
     }
 
     // Whether the wait does no more than take its VIA ticks from both counters: no load is due, T2 counts, and neither passes 0.
+    #[tactic(auto, unfolding(crate::specs::Via::only_counts))]
     pub fn only_counts(self, wait: WaitTicks) -> bool
         ensures { result ≡ only_counts wait.0 self }
     {
@@ -181,6 +185,7 @@ impl Via {
     }
 
     // Counters, latches and register 10 stay; the rest is as fresh.
+    #[tactic(auto, unfolding(crate::specs::Via::reset_of))]
     pub fn reset(self) -> Via
         ensures { result ≡ reset_of self }
     {
@@ -195,6 +200,7 @@ impl Via {
     }
 
     // The value is written to a register.
+    #[tactic(auto, unfolding(crate::specs::Writes::via_written))]
     pub fn write(mut self, register: u8, value: u8) -> Via
         requires { register < 16 }
         ensures { result ≡ via_written register value self }
@@ -239,6 +245,7 @@ impl Via {
     }
 
     // A pulse counts: each eighth sets flag 2, and the count is 0 again.
+    #[tactic(auto, unfolding(crate::specs::Shift::counted_of))]
     fn counted(mut self) -> Via
         ensures { result ≡ counted_of self }
     {
@@ -252,6 +259,7 @@ impl Via {
     }
 
     // Register 10 moves up one bit and takes the level as bit 0.
+    #[tactic(auto, unfolding(crate::specs::Shift::shifted_of))]
     fn shifted(mut self, level: u8) -> Via
         requires { level < 2 }
         ensures { result ≡ shifted_of level self }
@@ -261,6 +269,7 @@ impl Via {
     }
 
     // One pulse of the keyboard's clock, with this level on its data line.
+    #[tactic(auto, unfolding(crate::specs::Shift::pulse_of))]
     pub fn pulse(self, level: u8) -> Access
         requires { level < 2 }
         ensures { result ≡ pulse_of level self }

@@ -19,6 +19,7 @@ pub fn word(high: u8, low: u8) -> u16
 }
 
 // The flags that an access to register 1 clears: flag 1, and flag 0 unless PCR bits 3 to 1 are 001 or 011.
+#[tactic(auto, unfolding(crate::specs::Bytes::port_a_flags))]
 pub fn port_a_flags(pcr: u8) -> u8
     ensures { result ≡ port_a_flags pcr }
 {
@@ -27,6 +28,7 @@ pub fn port_a_flags(pcr: u8) -> u8
 }
 
 // Enables set where bits 0 to 6 are 1 if bit 7 is 1, else cleared.
+#[tactic(auto, unfolding(crate::specs::Bytes::enabled_by))]
 pub fn enable(value: u8, enables: u8) -> u8
     ensures { result ≡ enabled_by value enables }
 {

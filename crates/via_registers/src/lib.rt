@@ -9,6 +9,7 @@ ghost use Rattle.via.specs.Shift.{pulses_accessed};
 use via::{Inputs, Via};
 
 // A port's levels: the output bit where the direction is 1, else the input.
+#[tactic(auto, unfolding(via::specs::Via::port_level))]
 pub fn port(out: u8, dir: u8, input: u8) -> u8
     ensures { result ≡ port_level out dir input }
 {
@@ -29,6 +30,7 @@ fn high_byte(x: u16) -> u8
 }
 
 // The flags, with bit 7 set when an enabled flag is.
+#[tactic(auto, unfolding(via::specs::Registers::flags_byte))]
 fn flags_byte(via: Via) -> u8
     ensures { result ≡ flags_byte via }
 {
@@ -36,6 +38,7 @@ fn flags_byte(via: Via) -> u8
 }
 
 // The value that reading a register gives.
+#[tactic(auto, unfolding(via::specs::Registers::flags_byte, via::specs::Registers::value_read))]
 pub fn value_read(via: Via, register: u8, inputs: Inputs) -> u8
     requires { register < 16 }
     ensures { result ≡ value_read register inputs via }
@@ -61,6 +64,7 @@ pub fn value_read(via: Via, register: u8, inputs: Inputs) -> u8
 }
 
 // The flags after reading a register.
+#[tactic(auto, unfolding(via::specs::Registers::flags_read))]
 pub fn flags_read(via: Via, register: u8) -> u8
     ensures { result ≡ flags_read register via }
 {
@@ -72,6 +76,7 @@ pub fn flags_read(via: Via, register: u8) -> u8
 }
 
 // The count of pulses after an access to a register: register 10 starts it anew.
+#[tactic(auto, unfolding(via::specs::Shift::pulses_accessed))]
 pub fn pulses_accessed(register: u8, pulses: u8) -> u8
     ensures { result ≡ pulses_accessed register pulses }
 {

@@ -14,6 +14,7 @@ pub struct Counter {
 }
 
 // A counter in free run, `turn` ticks after a passage: the first of them loads the latch, the others count.
+#[tactic(auto, unfolding(crate::specs::Timer::steps))]
 fn turned(latch: u16, turn: u32, armed: bool, fired: bool) -> Counter
     requires { turn < latch + 2 }
     ensures { result ≡ steps turn true latch (at 65535 armed true fired) }
@@ -64,6 +65,7 @@ fn fall(value: u16, armed: bool, fired: bool, free: bool, latch: u16, n: u16) ->
 
 impl Counter {
     // n ticks, in free run or not, with this latch to load.
+    #[tactic(auto, unfolding(crate::specs::Timer::steps))]
     pub fn run(self, free: bool, latch: u16, n: u16) -> Counter
         ensures { result ≡ steps n free latch self }
     {
