@@ -32,6 +32,7 @@ pub fn fresh(chip: Chip) -> Clock
 
 impl Clock {
     // The last bit of a byte.
+    #[tactic(auto, unfolding(clock_spec::specs::Store::act))]
     fn hear(self, engine: Engine, bytes: Bytes, b: u8) -> Clock
         ensures { result ≡ after_byte self.store bytes b (hear self.store.chip bytes b) }
     {
@@ -71,6 +72,7 @@ impl Clock {
     }
 
     // A rise while bits are taken.
+    #[tactic(auto, unfolding(crate::specs::Step::after_edge, crate::specs::Step::next, crate::specs::Step::acts, clock_spec::specs::Store::act))]
     fn take(self, engine: Engine, bytes: Bytes, n: u8, v: u8, b: bool) -> Clock
         requires { few_bits n v ≡ true }
         ensures { result ≡ after_edge (with_phase self (Phase.Listening bytes n v)) (Edge.Rise b) }
@@ -90,6 +92,7 @@ impl Clock {
         }
     }
 
+    #[tactic(auto, unfolding(crate::specs::Step::after_edge, crate::specs::Step::next, crate::specs::Step::acts, clock_spec::specs::Store::act))]
     fn rise(self, engine: Engine, b: bool) -> Clock
         requires { counts self.phase ≡ true }
         ensures { result ≡ after_edge self (Edge.Rise b) }
@@ -101,6 +104,7 @@ impl Clock {
         }
     }
 
+    #[tactic(auto, unfolding(crate::specs::Step::after_edge, crate::specs::Step::next, crate::specs::Step::acts, clock_spec::specs::Store::act))]
     fn fall(self) -> Clock
         requires { counts self.phase ≡ true }
         ensures { result ≡ after_edge self Edge.Fall }
@@ -117,6 +121,7 @@ impl Clock {
     }
 
     // The levels before an item and after it; the engine is how command bytes are looked up.
+    #[tactic(auto, unfolding(crate::specs::Step::step_wires, crate::specs::Step::after_edge, crate::specs::Step::next, crate::specs::Step::acts, clock_spec::specs::Store::act))]
     pub fn step(self, engine: Engine, before: Wires, after: Wires) -> Clock
         requires { accepted_phase self.store.chip self.phase before.enable ≡ true }
         ensures { result ≡ step_wires self before after }

@@ -73,6 +73,7 @@ const COMMANDS: [u8; 256] = *b"\
 ";
 
 // What an entry of the table says to a chip.
+#[tactic(auto, unfolding(crate::specs::Table::entry_of))]
 fn entry_meaning(chip: Chip, e: u8) -> Command
     ensures { result ≡ entry_of chip e }
 {
@@ -106,6 +107,7 @@ fn by_table(chip: Chip, c: u8) -> Command
 }
 
 // A command of one byte by document 01's patterns, in its order.
+#[tactic(auto, unfolding(crate::specs::Decode::short_of))]
 fn short_command(c: u8) -> Command
     ensures { result ≡ short_of c }
 {
@@ -214,6 +216,7 @@ fn by_third(c: Command) -> Verdict
 }
 
 // What the byte b and the whole bytes before it come to.
+#[tactic(auto, using(crate::proofs::Agrees::high), unfolding(clock_spec::specs::Phase::hear))]
 pub fn hear(engine: Engine, chip: Chip, bytes: Bytes, b: u8) -> Verdict
     ensures { result ≡ hear chip bytes b }
 {

@@ -10,6 +10,7 @@ use clock_command::Engine;
 use clock_spec::{Bytes, Chip, Edge, Phase, Verdict, Wires};
 
 // What the wires do between two items.
+#[tactic(auto, unfolding(clock_spec::specs::Phase::between))]
 pub fn edge_between(before: Wires, after: Wires) -> Edge
     ensures { result ≡ between before after }
 {
@@ -65,6 +66,7 @@ pub fn shift(y: u8, n: u8) -> Phase
 }
 
 // The bit that the chip shows after so many falls.
+#[tactic(auto, unfolding(clock_spec::specs::Phase::shown_level))]
 fn bit_shown(y: u8, n: u8) -> bool
     ensures { result ≡ shown_level (Phase.Sending y n) }
 {
@@ -78,6 +80,7 @@ fn bit_shown(y: u8, n: u8) -> bool
 }
 
 // The level that the chip gives the data line.
+#[tactic(auto, unfolding(clock_spec::specs::Phase::shown_level))]
 pub fn shown_line(p: Phase) -> bool
     ensures { result ≡ shown_level p }
 {
@@ -100,6 +103,7 @@ fn is_more(v: Verdict) -> bool
 }
 
 // Whether another byte follows these. Legality has one definition, so either engine will do here.
+#[tactic(auto, unfolding(clock_spec::specs::Phase::more_follows))]
 fn more_follows(chip: Chip, bytes: Bytes) -> bool
     ensures { result ≡ more_follows chip bytes }
 {
@@ -121,6 +125,7 @@ fn few_bits(n: u8, v: u8) -> bool
 }
 
 // Whether the chip can be in this phase while enable has this level.
+#[tactic(auto, unfolding(clock_spec::specs::Phase::accepted_phase))]
 pub fn accepted_phase(chip: Chip, p: Phase, enable: bool) -> bool
     ensures { result ≡ accepted_phase chip p enable }
 {

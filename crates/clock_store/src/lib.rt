@@ -11,6 +11,7 @@ ghost use Rattle.clock_spec.specs.Store.{unused_clear, fetch, put, act};
 use clock_spec::{Store, Target};
 
 // The byte that a legal read takes.
+#[tactic(auto, unfolding(clock_spec::specs::Store::fetch))]
 pub fn fetch(store: Store, t: Target) -> u8
     requires { TargetInRange store.chip t }
     ensures { result ≡ fetch t store }
@@ -27,6 +28,7 @@ pub fn fetch(store: Store, t: Target) -> u8
 }
 
 // A byte put where it goes, whatever protect is.
+#[tactic(auto, unfolding(clock_spec::specs::Store::put))]
 pub fn put(store: Store, t: Target, b: u8) -> Store
     requires { TargetInRange store.chip t }
     ensures { result ≡ put t b store }
@@ -67,6 +69,7 @@ fn may_write(t: Target, protect: bool) -> bool
 }
 
 // A complete write: it acts unless protect forbids it.
+#[tactic(auto, unfolding(clock_spec::specs::Store::act))]
 pub fn act(store: Store, t: Target, b: u8) -> Store
     requires { TargetInRange store.chip t }
     ensures { result ≡ act (some (record { to = t; byte = b })) store }
