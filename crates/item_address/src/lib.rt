@@ -12,6 +12,7 @@ const VIA_BASE: u32 = 0xefe1fe;
 const IWM_BASE: u32 = 0xdfe1ff;
 
 // The place of an address among the sixteen from `base` on.
+#[tactic(auto, unfolding(item_spec::specs::Addresses::place_from))]
 fn place_from(address: u32, base: u32) -> Place
     ensures { result ≡ place_from address base }
 {
@@ -29,6 +30,7 @@ fn place_from(address: u32, base: u32) -> Place
 }
 
 // What stands at an address. All 32 bits of it count.
+#[tactic(auto, unfolding(item_spec::specs::Addresses::found_of))]
 pub fn find(address: u32) -> Found
     ensures { result ≡ found_of address }
 {

@@ -9,6 +9,7 @@ ghost use Rattle.item_decode.specs.Values.{first_value};
 use item_spec::{Decoded, Plain};
 
 // Whether a record's kind is this one.
+#[tactic(auto, unfolding(item_spec::specs::Kinds::is_kind))]
 pub fn is(s: &[u8], kind: &[u8; 2]) -> bool
     requires { 2 ≤ length s.now }
     ensures { result ≡ is_kind s.now kind.now }
@@ -17,6 +18,7 @@ pub fn is(s: &[u8], kind: &[u8; 2]) -> bool
 }
 
 // A record's bytes after its length: an item, or refusal 2, 3, 4, 5 or 9. Of an MW the item is its last write.
+#[tactic(auto, unfolding(item_spec::specs::Kinds::decoded_of))]
 pub fn decode(s: &[u8]) -> Decoded
     requires { 2 ≤ length s.now }
     ensures { result ≡ as_last_write s.now (decoded_of s.now) }

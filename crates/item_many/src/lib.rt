@@ -8,6 +8,7 @@ ghost use Rattle.item_many.specs.LastWrite.{as_last_write};
 use item_spec::{Decoded, Found, Item, Many};
 
 // By the count and the length, where the address is right.
+#[tactic(auto, unfolding(item_spec::specs::Many::counted_record))]
 fn counted(s: &[u8], x: Many) -> Decoded
     requires { 9 ≤ length s.now }
     ensures { result ≡ as_last_write s.now (counted_record s.now x) }
@@ -40,6 +41,7 @@ fn counted(s: &[u8], x: Many) -> Decoded
 }
 
 // MW
+#[tactic(auto, unfolding(item_spec::specs::Many::many_record))]
 pub fn many_item(s: &[u8]) -> Decoded
     requires { 2 ≤ length s.now }
     ensures { result ≡ as_last_write s.now (many_record s.now) }

@@ -18,6 +18,7 @@ pub fn refusal(d: Decoded) -> u8
 }
 
 // VB, SE, RS: an item that is its wait alone.
+#[tactic(auto, unfolding(item_spec::specs::Items::plain_record))]
 pub fn plain_item(s: &[u8], what: Plain) -> Decoded
     requires { 2 ≤ length s.now }
     ensures { result ≡ plain_record s.now what }
@@ -34,6 +35,7 @@ pub fn plain_item(s: &[u8], what: Plain) -> Decoded
 }
 
 // RD
+#[tactic(auto, unfolding(item_spec::specs::Items::read_record))]
 pub fn read_item(s: &[u8]) -> Decoded
     requires { 2 ≤ length s.now }
     ensures { result ≡ read_record s.now }
@@ -50,6 +52,7 @@ pub fn read_item(s: &[u8]) -> Decoded
 }
 
 // WR
+#[tactic(auto, unfolding(item_spec::specs::Items::write_record))]
 pub fn write_item(s: &[u8]) -> Decoded
     requires { 2 ≤ length s.now }
     ensures { result ≡ write_record s.now }
@@ -75,6 +78,7 @@ pub fn write_item(s: &[u8]) -> Decoded
 }
 
 // PW
+#[tactic(auto, unfolding(item_spec::specs::Items::power_record))]
 pub fn power_item(s: &[u8]) -> Decoded
     requires { 2 ≤ length s.now }
     ensures { result ≡ power_record s.now }

@@ -7,6 +7,7 @@ ghost use Rattle.item_spec.specs.Ranged.{line_record, sense_record, is_retired, 
 use item_spec::{Decoded, Item};
 
 // IN
+#[tactic(auto, unfolding(item_spec::specs::Ranged::line_record))]
 pub fn line_item(s: &[u8]) -> Decoded
     requires { 2 ≤ length s.now }
     ensures { result ≡ line_record s.now }
@@ -27,6 +28,7 @@ pub fn line_item(s: &[u8]) -> Decoded
 }
 
 // Whether SN on this register has retired.
+#[tactic(auto, unfolding(item_spec::specs::Ranged::is_retired))]
 pub fn is_retired(register: u8) -> bool
     ensures { result ≡ is_retired register }
 {
@@ -34,6 +36,7 @@ pub fn is_retired(register: u8) -> bool
 }
 
 // SN
+#[tactic(auto, unfolding(item_spec::specs::Ranged::sense_record))]
 pub fn sense_item(s: &[u8]) -> Decoded
     requires { 2 ≤ length s.now }
     ensures { result ≡ sense_record s.now }
@@ -59,6 +62,7 @@ pub fn sense_item(s: &[u8]) -> Decoded
 }
 
 // DI
+#[tactic(auto, unfolding(item_spec::specs::Ranged::disk_record))]
 pub fn disk_item(s: &[u8]) -> Decoded
     requires { 2 ≤ length s.now }
     ensures { result ≡ disk_record s.now }
@@ -83,6 +87,7 @@ pub fn disk_item(s: &[u8]) -> Decoded
 }
 
 // KC
+#[tactic(auto, unfolding(item_spec::specs::Ranged::pulse_record))]
 pub fn pulse_item(s: &[u8]) -> Decoded
     requires { 2 ≤ length s.now }
     ensures { result ≡ pulse_record s.now }

@@ -13,6 +13,7 @@ const OK: [u8; 2] = *b"OK";
 const NO: [u8; 2] = *b"NO";
 
 // The record at the front of `s`.
+#[tactic(auto, unfolding(item_spec::specs::Record::frame_of))]
 pub fn frame(s: &[u8]) -> Framed
     ensures { result ≡ frame_of s.now }
 {
@@ -30,6 +31,7 @@ pub fn frame(s: &[u8]) -> Framed
 }
 
 // The refusal with this number.
+#[tactic(auto, unfolding(item_spec::specs::Record::no_of))]
 pub fn no(number: u8) -> Answer
     ensures { result ≡ no_of number }
 {
@@ -43,6 +45,7 @@ pub fn no(number: u8) -> Answer
 }
 
 // The eight bytes of an answer.
+#[tactic(auto, unfolding(item_spec::specs::Record::answer_bytes))]
 pub fn answer_bytes(x: Answer) -> [u8; 8]
     ensures { result ≡ answer_bytes x }
 {

@@ -7,6 +7,7 @@ ghost use Rattle.item_spec.specs.Items.{record_wait};
 use units::WaitTicks;
 
 // The wait of a record, its bytes after the length.
+#[tactic(auto, unfolding(octets::specs::Octets::le16_of))]
 pub fn wait_of(s: &[u8]) -> WaitTicks
     requires { 4 ≤ length s.now }
     ensures { result ≡ record_wait s.now }
