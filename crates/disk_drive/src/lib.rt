@@ -9,6 +9,7 @@ use disk_spec::Drive;
 use units::WaitTicks;
 
 // The track that a step from `track` ends at.
+#[tactic(auto, unfolding(disk_spec::specs::Drive::neighbour))]
 fn neighbour_of(heading: bool, track: u8) -> u8
     ensures { result ≡ neighbour heading track }
 {
@@ -111,6 +112,7 @@ pub fn move_disk(d: Drive, comes: bool, locked: bool, sides: bool) -> Drive
 }
 
 // A write that acts: registers 0 to 3 are direction, step, motor and eject; the others do nothing.
+#[tactic(auto, unfolding(disk_spec::specs::Control::register_written))]
 pub fn write_register(d: Drive, register: u8, value: bool) -> Drive
     ensures { result ≡ register_written register value d }
 {

@@ -19,6 +19,7 @@ pub fn fresh() -> Drives
 }
 
 // Whether time changes them: a step is pending, or a strobe is steady.
+#[tactic(auto, unfolding(disk_spec::specs::Drives::drives_busy))]
 pub fn busy(d: Drives) -> bool
     ensures { result ≡ drives_busy d }
 {
@@ -26,6 +27,7 @@ pub fn busy(d: Drives) -> bool
 }
 
 // The wait passes.
+#[tactic(auto, unfolding(disk_spec::specs::Drives::drives_ticks))]
 pub fn wait(drives: Drives, wait: WaitTicks) -> Drives
     ensures { result ≡ drives_ticks wait.0 drives }
 {
@@ -37,6 +39,7 @@ pub fn wait(drives: Drives, wait: WaitTicks) -> Drives
 }
 
 // DI: a disk comes or leaves.
+#[tactic(auto, unfolding(disk_spec::specs::Drives::drives_disk_moved))]
 pub fn place(drives: Drives, external: bool, insert: bool, locked: bool, sides: bool) -> Drives
     ensures { result ≡ drives_disk_moved external insert locked sides drives }
 {
@@ -50,6 +53,7 @@ pub fn place(drives: Drives, external: bool, insert: bool, locked: bool, sides: 
 }
 
 // Whether DI gets refusal 8 here.
+#[tactic(auto, unfolding(disk_spec::specs::Drives::place_refused))]
 pub fn refuses_place(drives: Drives, external: bool, insert: bool) -> bool
     ensures { result ≡ place_refused external insert drives }
 {
@@ -61,6 +65,7 @@ pub fn refuses_place(drives: Drives, external: bool, insert: bool) -> bool
 }
 
 // PW: motors stop and pending steps are dropped.
+#[tactic(auto, unfolding(disk_spec::specs::Drives::drives_powered))]
 pub fn power_cut(drives: Drives) -> Drives
     ensures { result ≡ drives_powered drives }
 {
@@ -93,6 +98,7 @@ pub fn after(d: Drives, before: Watched, after: Watched) -> Drives
 }
 
 // The level of sense register `place % 16` of the selected drive, where SN gave it the level `stored`.
+#[tactic(auto, unfolding(disk_spec::specs::Drives::drives_shown))]
 pub fn shown(d: Drives, place: u8, stored: u8) -> u8
     ensures { result ≡ drives_shown place stored d }
 {
@@ -103,6 +109,7 @@ pub fn shown(d: Drives, place: u8, stored: u8) -> u8
 }
 
 // Whether both drives and the strobe are in their ranges, with these levels.
+#[tactic(auto, unfolding(disk_spec::specs::Drives::accepted_drives))]
 pub fn accepted(d: Drives, levels: Watched) -> bool
     ensures { result ≡ accepted_drives levels d }
 {

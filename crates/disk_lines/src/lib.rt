@@ -10,6 +10,7 @@ pub struct DiskLines {
     pub lines: u8,
 }
 
+#[tactic(auto, unfolding(crate::specs::Lines::lines_off))]
 pub fn off() -> DiskLines
     ensures { result ≡ lines_off }
 {
@@ -17,6 +18,7 @@ pub fn off() -> DiskLines
 }
 
 // Bit i of the byte made this level.
+#[tactic(auto, unfolding(crate::specs::Lines::with_level))]
 fn with_level(lines: u8, i: u8, level: u8) -> u8
     requires { (i < 8) × (level < 2) }
     ensures { result ≡ with_level lines i level }
@@ -27,6 +29,7 @@ fn with_level(lines: u8, i: u8, level: u8) -> u8
 
 impl DiskLines {
     // An access of location 0 to 15, read or write.
+    #[tactic(auto, unfolding(crate::specs::Lines::after_access))]
     pub fn access(self, location: u8) -> DiskLines
         requires { location < 16 }
         ensures { result ≡ after_access location self }
@@ -37,6 +40,7 @@ impl DiskLines {
     }
 
     // The value of a read, after its access; sense is the level at the sense address.
+    #[tactic(auto, unfolding(crate::specs::Lines::read_line))]
     pub fn read(self, location: u8, sense: u8) -> u8
         requires { sense < 2 }
         ensures { result ≡ read_line location sense self }
@@ -54,6 +58,7 @@ impl DiskLines {
 }
 
 // The place of the sense among the 32 sense levels, the internal drive's 16 first.
+#[tactic(auto, unfolding(crate::specs::Lines::sense_at))]
 pub fn sense_at(d: DiskLines, sel: u8) -> u8
     requires { sel < 2 }
     ensures { (result ≡ sense_at d sel) × (result < 32) }
@@ -64,6 +69,7 @@ pub fn sense_at(d: DiskLines, sel: u8) -> u8
 }
 
 // The levels of the eight lines, in their order.
+#[tactic(auto, unfolding(crate::specs::Lines::line_levels))]
 pub fn levels(d: DiskLines) -> [u8; 8]
     ensures { result ≡ line_levels d }
 {
@@ -88,6 +94,7 @@ fn nibble(a: u8, b: u8, c: u8, d: u8) -> u8
 }
 
 // The lines with these levels.
+#[tactic(auto, unfolding(crate::specs::Lines::lines_of))]
 pub fn lines_of(l: [u8; 8]) -> DiskLines
     ensures { result ≡ lines_of l }
 {

@@ -7,6 +7,7 @@ ghost use Rattle.disk_spec.specs.Sense.{level, is_drive_sense, drive_sense, sens
 use disk_spec::Drive;
 
 // Whether a sense register comes from the drive, and not from SN.
+#[tactic(auto, unfolding(disk_spec::specs::Sense::is_drive_sense))]
 pub fn drives_sense(register: u8) -> bool
     ensures { result ≡ is_drive_sense register }
 {
@@ -14,6 +15,7 @@ pub fn drives_sense(register: u8) -> bool
 }
 
 // Whether one of the drive's sense registers is at level 1.
+#[tactic(auto, unfolding(disk_spec::specs::Sense::drive_sense))]
 fn senses(d: Drive, register: u8) -> bool
     ensures { level result ≡ drive_sense register d }
 {
@@ -37,6 +39,7 @@ pub fn sense(d: Drive, register: u8) -> u8
 }
 
 // The level of any sense register; `stored` is the level that SN gave it.
+#[tactic(auto, unfolding(disk_spec::specs::Sense::sense_shown))]
 pub fn shown(d: Drive, register: u8, stored: u8) -> u8
     ensures { result ≡ sense_shown register stored d }
 {
@@ -47,6 +50,7 @@ pub fn shown(d: Drive, register: u8, stored: u8) -> u8
 }
 
 // Whether every field is in its range.
+#[tactic(auto, unfolding(disk_spec::specs::Sense::accepted_drive))]
 pub fn accepted(d: Drive) -> bool
     ensures { result ≡ accepted_drive d }
 {

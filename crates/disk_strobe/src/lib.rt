@@ -9,6 +9,7 @@ use disk_lines::DiskLines;
 use disk_spec::{Strobe, Watched};
 use units::WaitTicks;
 
+#[tactic(auto, unfolding(disk_spec::specs::Watched::watched_of))]
 pub fn watched_of(d: DiskLines, sel: u8) -> Watched
     ensures { result ≡ watched_of d sel }
 {
@@ -25,6 +26,7 @@ pub fn watched_of(d: DiskLines, sel: u8) -> Watched
 }
 
 // Whether an item with these levels before and after it leaves a strobe as it is.
+#[tactic(auto, unfolding(disk_spec::specs::Watched::held_still, disk_spec::specs::Watched::unspoilt))]
 pub fn leaves_unspoilt(before: Watched, after: Watched) -> bool
     ensures { result ≡ unspoilt before after }
 {
@@ -36,6 +38,7 @@ pub fn leaves_unspoilt(before: Watched, after: Watched) -> bool
 }
 
 // The register that CA1 and CA0 address: 0 direction, 1 step, 2 motor, 3 eject.
+#[tactic(auto, unfolding(disk_spec::specs::Watched::register_of))]
 pub fn register(levels: Watched) -> u8
     ensures { result ≡ register_of levels }
 {
@@ -52,6 +55,7 @@ pub fn register(levels: Watched) -> u8
 }
 
 // Whether a strobe of so many ticks writes to this register.
+#[tactic(auto, unfolding(disk_spec::specs::Strobe::long_enough))]
 fn long_enough(register: u8, ticks: u32) -> bool
     ensures { result ≡ long_enough register ticks }
 {
@@ -96,6 +100,7 @@ pub fn wait(strobe: Strobe, wait: WaitTicks) -> Strobe
 }
 
 // The strobe after an item, whose wait has passed already, with these levels before and after it.
+#[tactic(auto, unfolding(disk_spec::specs::Strobe::strobe_after, disk_spec::specs::Watched::unspoilt))]
 pub fn after(strobe: Strobe, before: Watched, after: Watched) -> Strobe
     ensures { result ≡ strobe_after before after strobe }
 {
@@ -115,6 +120,7 @@ pub fn after(strobe: Strobe, before: Watched, after: Watched) -> Strobe
 }
 
 // Whether that item drops LSTRB and a write acts: to the register of `after`, of CA2, in the drive that SELECT names.
+#[tactic(auto, unfolding(disk_spec::specs::Strobe::long_enough, disk_spec::specs::Strobe::strobe_writes, disk_spec::specs::Watched::register_of, disk_spec::specs::Watched::unspoilt))]
 pub fn writes(strobe: Strobe, before: Watched, after: Watched) -> bool
     ensures { result ≡ strobe_writes before after strobe }
 {
@@ -124,6 +130,7 @@ pub fn writes(strobe: Strobe, before: Watched, after: Watched) -> bool
 }
 
 // Whether the strobe is in its ranges, with these levels.
+#[tactic(auto, unfolding(disk_spec::specs::Strobe::accepted_strobe))]
 pub fn accepted(strobe: Strobe, levels: Watched) -> bool
     ensures { result ≡ accepted_strobe levels strobe }
 {
