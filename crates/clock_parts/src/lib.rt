@@ -94,6 +94,7 @@ enum PhaseAfter {
 }
 
 // A bit taken more, unless it is the eighth.
+#[tactic(auto, unfolding(clock::specs::Step::next, clock::specs::Step::acts))]
 fn phase_after_rise(p: Phase, b: bool) -> PhaseAfter
     requires { counts p ≡ true }
     ensures { FitsPhase p (Edge.Rise b) result }
@@ -114,6 +115,7 @@ fn phase_after_rise(p: Phase, b: bool) -> PhaseAfter
     }
 }
 
+#[tactic(auto, unfolding(clock::specs::Step::next, clock::specs::Step::acts))]
 fn phase_after_fall(p: Phase) -> PhaseAfter
     requires { counts p ≡ true }
     ensures { FitsPhase p Edge.Fall result }
@@ -125,6 +127,7 @@ fn phase_after_fall(p: Phase) -> PhaseAfter
 }
 
 // The phase after an edge, where the store has no part in it.
+#[tactic(auto, unfolding(clock::specs::Step::next, clock::specs::Step::acts))]
 fn phase_after(p: Phase, e: Edge) -> PhaseAfter
     requires { counts p ≡ true }
     ensures { FitsPhase p e result }

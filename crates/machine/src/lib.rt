@@ -42,6 +42,7 @@ pub fn accepted_cleared(m: Machine) -> bool
 }
 
 // Whether a run takes this state.
+#[tactic(auto, unfolding(machine_spec::specs::Machine::accepted_of))]
 pub fn accepted(m: Machine) -> bool
     ensures { result ≡ accepted_of m }
 {

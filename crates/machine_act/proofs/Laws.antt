@@ -3,7 +3,7 @@ use mathlib.Core.Path.{◌≡◌, refl, sym, ap, ◌∙◌}
 use mathlib.Core.Logic.{◌⊎◌, inl, inr, ⊎_elim}
 use mathlib.Core.Bool.{Bool, true, false, not, ◌&&◌, true≢false}
 use mathlib.Core.List.{List, [], ◌∷◌}
-use mathlib.Core.Option.{none}
+use mathlib.Core.Option.{Option, none}
 use Prim.Native.Nat.{ℕ}
 use types.Run.{OneOf, miss}
 use denote.Enum.Declared.{tag_of}
@@ -27,13 +27,18 @@ use Rattle.machine_spec.specs.Machine.{with_clock, wires}
 use Rattle.machine_spec.specs.Action.{acted_of}
 use Rattle.machine_spec.proofs.Action.{acted-accepted}
 use Rattle.machine_write.specs.Values.{ports_after, via_after, register_written}
-use Rattle.machine_act.specs.Parts.{clocked_of, PhaseAccepted}
+use Rattle.machine_act.specs.Parts.{clocked_of, clocked_at, clocked_by, PhaseAccepted}
 
 pub quietly : (x : Machine) (i : Item) (y : Machine) → PhaseAccepted x → y ≡ (acted_of x i).machine → wires (acted_of x i).machine ≡ wires x → y ≡ clocked_of x i
 quietly x i y h e p =
     let z = (acted_of x i).machine in
     e ∙ sym (ap (λ (w : Wires). with_clock z (step_wires z.clock (wires x) w)) p
     ∙ ap (λ (c : Clock). with_clock z c) (still z.clock (wires x) (acted-accepted x i (wires x).enable ∙ h)))
+
+-- The same, of an item that does not write to a VIA register, with the values of the item.
+pub quiet : (x : Machine) (i : Item) (vs : List ℕ) → register_written i ≡ none → PhaseAccepted x → (y : Machine) → y ≡ (acted_of x i).machine → wires (acted_of x i).machine ≡ wires x
+    → y ≡ clocked_by x i vs
+quiet x i vs h a y e w = quietly x i y a e w ∙ ap (λ (o : Option ℕ). clocked_at o x i vs) (sym h)
 
 -- Of the kinds but WR, none writes to a VIA register.
 abbrev other-kinds : List ℕ

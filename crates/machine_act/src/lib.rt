@@ -79,6 +79,7 @@ pub fn whole_machine(b: Board, k: Core, cells: [u8; 256], d: Drives, sense: [u8;
 }
 
 // The item's wait.
+#[tactic(auto, unfolding(machine_spec::specs::Stages::item_wait))]
 pub fn wait_of(item: Item) -> WaitTicks
     ensures { result.0 ≡ item_wait item }
 {
@@ -120,6 +121,7 @@ fn read_change(via: Via, register: u8) -> Change
 }
 
 // What RD of an IWM location gives, the lines being those after the access. Location 14 alone asks the sense.
+#[tactic(auto, unfolding(disk_lines::specs::Lines::read_line))]
 fn iwm_value(d: DiskLines, drives: Drives, location: u8, ports: Ports, sense: &[u8; 32]) -> u8
     requires { all_levels sense.now ≡ true }
     ensures { result ≡ read_line location (drives_shown (sense_at d (sel_of ports)) (get_or sense.now (sense_at d (sel_of ports)) 0) drives) d }
@@ -133,6 +135,7 @@ fn iwm_value(d: DiskLines, drives: Drives, location: u8, ports: Ports, sense: &[
 }
 
 // What these values change, written to a VIA register, from these ports.
+#[tactic(auto, unfolding(crate::specs::Parts::board_change, crate::specs::Parts::sense_change))]
 fn via_change(ports: Ports, register: u8, values: &[u8]) -> Change
     requires register_bound { register < 16 }
     requires values_nonzero { 0 < length values.now }
@@ -155,6 +158,7 @@ fn sense_index(drive: u8, register: u8) -> usize
 }
 
 // What an item with these values does, its wait having passed, and the clock's look at its wires.
+#[tactic(auto, unfolding(crate::specs::Parts::board_change, crate::specs::Parts::sense_change, machine_spec::specs::Accesses::iwm_read, machine_spec::specs::Accesses::keyboard_pulse, machine_spec::specs::Accesses::via_read, machine_spec::specs::Action::acted_of, machine_spec::specs::Pins::wires_of, machine_write::specs::Values::register_written, via::specs::Registers::register_read, via::specs::Via::fresh_via, via::specs::Via::raised_of, via::specs::Via::reset_of))]
 pub fn act(
     engine: Engine,
     b: Board,
@@ -246,6 +250,7 @@ pub fn with_shift(mut via: Via, sr: u8, flags: u8, pulses: u8) -> Via
 }
 
 // The drives after an item with these values, whose wait and action are over: the levels before and after it, and the ports after it. SEL may have moved between.
+#[tactic(auto, unfolding(machine_write::specs::Values::register_written))]
 pub fn strobed(
     d: Drives,
     before: Watched,

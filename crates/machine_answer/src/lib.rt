@@ -15,6 +15,7 @@ use item_spec::{Answer, Item};
 use machine_pins::Board;
 
 // The item refused by a state with these drives: its number, or 0.
+#[tactic(auto, unfolding(machine_spec::specs::Stages::refuses_of))]
 pub fn refuses(d: Drives, item: Item) -> u8
     ensures { (m : Machine) → m.drives ≡ d → result ≡ refuses_of m item }
 {
@@ -30,6 +31,7 @@ pub fn refuses(d: Drives, item: Item) -> u8
 }
 
 // The answer to an item that was carried out: the board after it, and the value read. What stands beside the board has no part in it.
+#[tactic(auto, unfolding(machine_spec::specs::Step::answer_of))]
 pub fn answer(b: Board, value: u8) -> Answer
     requires { all_levels b.inputs ≡ true }
     ensures { (c : Clock) (s : List ℕ) (d : Drives) → result ≡ answer_of (record { machine = on_board b c s d; value = value }) }

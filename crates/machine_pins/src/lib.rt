@@ -50,6 +50,7 @@ fn pin_level(out: u8, dir: u8, weight: u8, input: bool) -> bool
 }
 
 // The clock's three wires; `line` is the level that the chip gives its data line.
+#[tactic(auto, unfolding(machine_spec::specs::Pins::wires_of))]
 pub fn wires_of(p: Ports, line: bool) -> Wires
     ensures { result ≡ wires_of p line }
 {
@@ -61,6 +62,7 @@ pub fn wires_of(p: Ports, line: bool) -> Wires
 }
 
 // The level of PA5.
+#[tactic(auto, unfolding(machine_spec::specs::Pins::sel_of))]
 pub fn sel_of(p: Ports) -> u8
     ensures { (result ≡ sel_of p) × (result < 2) }
 {
@@ -94,6 +96,7 @@ fn middle(a: u8, b: u8, c: u8, d: u8) -> u8
 
 // What the outside gives the ports: PB0 the clock's data line, PB3 to PB6 IN lines 0 to 3, PA7 IN line 4, the rest undriven.
 // `line` is the level that the chip gives its data line.
+#[tactic(auto, unfolding(machine_spec::specs::Wiring::inputs_of))]
 pub fn inputs_of(line: bool, lines: [u8; 7]) -> Inputs
     requires { all_levels lines ≡ true }
     ensures { result ≡ inputs_of line lines }
@@ -106,6 +109,7 @@ pub fn inputs_of(line: bool, lines: [u8; 7]) -> Inputs
 }
 
 // The interrupt level: the VIA's own level counts only while the serial chip isn't asking.
+#[tactic(auto, unfolding(machine_spec::specs::Wiring::interrupt_level))]
 pub fn interrupt_level(via: u8, serial: u8, switch: u8) -> u8
     requires { (via < 2) × (serial < 2) × (switch < 2) }
     ensures { result ≡ interrupt_level via serial switch }

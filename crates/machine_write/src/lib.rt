@@ -14,6 +14,7 @@ use clock_parts::Core;
 use via::{Ports, Via};
 
 // The ports once a value is written to a register. They are made whole, not changed byte by byte: a byte stored makes the next look at all four wait for it.
+#[tactic(auto, unfolding(via::specs::Writes::ports_written))]
 fn ports_written(p: Ports, register: u8, value: u8) -> Ports
     ensures { result ≡ ports_written register value p }
 {
