@@ -34,6 +34,7 @@ pub fn save(image: &mut [u8], m: Machine)
 }
 
 // The state of an image. The clock is read first: it alone branches, and what is read before a branch, compiled code stores twice.
+#[tactic(auto, unfolding(image_spec::specs::Image::machine_of))]
 pub fn load(image: &[u8]) -> Machine
     requires { length image.now ≡ image_length (chip_of image.now) }
     ensures { result ≡ machine_of image.now }

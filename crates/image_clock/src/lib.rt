@@ -16,6 +16,7 @@ use image_layout::{
 };
 
 // The phase's number, the first command byte, the bits taken or the falls, their value or the byte sent.
+#[tactic(auto, unfolding(image_spec::specs::ClockLayout::phase_bytes))]
 fn phase_bytes(p: Phase) -> [u8; PHASE_LENGTH]
     ensures { result ≡ phase_bytes p }
 {
@@ -27,6 +28,7 @@ fn phase_bytes(p: Phase) -> [u8; PHASE_LENGTH]
     }
 }
 
+#[tactic(auto, unfolding(image_spec::specs::ClockLayout::phase_bytes))]
 fn listening_bytes(bytes: Bytes, count: u8, bits: u8) -> [u8; PHASE_LENGTH]
     ensures { result ≡ phase_bytes (Phase.Listening bytes count bits) }
 {
@@ -48,6 +50,7 @@ fn second_in(bytes: Bytes) -> u8
 }
 
 // The second command byte.
+#[tactic(auto, unfolding(image_spec::specs::ClockLayout::second_byte))]
 fn second_byte(p: Phase) -> u8
     ensures { result ≡ second_byte p }
 {
@@ -63,6 +66,7 @@ fn second_byte(p: Phase) -> u8
     }
 }
 
+#[tactic(auto, unfolding(image_spec::specs::ClockLayout::phase_by))]
 fn phase_of(k: u8, command: u8, second: u8, count: u8, bits: u8) -> Phase
     ensures { result ≡ phase_by k command second count bits }
 {
@@ -216,6 +220,7 @@ fn registers(image: &[u8]) -> [u8; REGISTERS_LENGTH]
     b
 }
 
+#[tactic(auto, unfolding(image_spec::specs::ClockLayout::clock_of, image_spec::specs::ClockLayout::store_of))]
 pub fn clock(image: &[u8], chip: Chip) -> Clock
     requires { image_length chip ≤ length image.now }
     ensures { result ≡ clock_of chip (part phase_at phase_length image.now) (part registers_at registers_length image.now) (part cells_at cells_length image.now) (part tail_at (tail_length chip) image.now) }
@@ -240,6 +245,7 @@ fn exact_phase(s: &[u8], second: u8) -> bool
 }
 
 // Whether the bytes are those of the registers that they stand for, whatever the chip and the cells. Compiled, this asks the flag alone.
+#[tactic(auto, unfolding(image_spec::specs::ClockLayout::register_bytes, image_spec::specs::ClockLayout::store_of))]
 fn exact_registers(b: [u8; REGISTERS_LENGTH]) -> bool
     ensures { result ≡ registers_exact b }
 {

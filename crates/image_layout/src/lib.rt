@@ -99,6 +99,7 @@ pub fn chip_of(image: &[u8]) -> Chip
 }
 
 // The length of what follows it, and the kind.
+#[tactic(auto, unfolding(image_spec::specs::Layout::head_bytes))]
 fn head(chip: Chip) -> [u8; HEAD_LENGTH]
     ensures { result ≡ head_bytes chip }
 {
