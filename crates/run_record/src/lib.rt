@@ -11,6 +11,7 @@ use disk_spec::Drives;
 use item_spec::Decoded;
 
 // The item of a record's bytes after the length, or the number of its refusal by the bytes or by a state with these drives.
+#[tactic(auto, unfolding(crate::specs::Judged::turn_judged))]
 pub fn judge(d: Drives, s: &[u8]) -> Decoded
     requires { 2 ≤ length s.now }
     ensures s_value { (m : Machine) → m.drives ≡ d → turn_of m s.now ≡ turn_judged m s.now (values_in s.now) result }
