@@ -54,6 +54,7 @@ pub fn fresh(model: u8) -> Keyboard
 }
 
 // The number of a refusal, 0 where there is none.
+#[tactic(auto, unfolding(crate::specs::Numbers::refusal_of))]
 pub fn refusal(r: Response) -> u8
     ensures { result ≡ refusal_of r }
 {
@@ -69,6 +70,7 @@ pub fn refusal(r: Response) -> u8
 }
 
 // Whether there is an answer byte.
+#[tactic(auto, unfolding(crate::specs::Numbers::answers_of))]
 pub fn answers(r: Response) -> bool
     ensures { result ≡ answers_of r }
 {
@@ -84,6 +86,7 @@ pub fn answers(r: Response) -> bool
 }
 
 // The answer byte, 0 where there is none.
+#[tactic(auto, unfolding(crate::specs::Numbers::byte_of))]
 pub fn byte(r: Response) -> u8
     ensures { result ≡ byte_of r }
 {
@@ -113,6 +116,7 @@ fn zero_from(s: &[u8], from: usize) -> bool
 }
 
 // Whether the state is in its ranges.
+#[tactic(auto, unfolding(crate::specs::State::accepted_of))]
 pub fn accepted(k: Keyboard) -> bool
     ensures { result ≡ accepted_of k }
 {
@@ -173,6 +177,7 @@ fn answer_oldest(k: Keyboard) -> Stepped
 }
 
 // Instant.
+#[tactic(auto, unfolding(crate::specs::Steps::instant))]
 fn answer_instant(k: Keyboard) -> Stepped
     requires { accepted_of k ≡ true }
     ensures { result ≡ instant k }
@@ -187,6 +192,7 @@ fn answer_instant(k: Keyboard) -> Stepped
 }
 
 // Inquiry: with no code held it waits.
+#[tactic(auto, unfolding(crate::specs::Steps::inquiry))]
 fn answer_inquiry(k: Keyboard) -> Stepped
     requires { accepted_of k ≡ true }
     ensures { result ≡ inquiry k }
@@ -201,6 +207,7 @@ fn answer_inquiry(k: Keyboard) -> Stepped
 }
 
 // A command byte, no Inquiry waiting.
+#[tactic(auto, unfolding(crate::specs::Steps::answer_to))]
 fn answer(k: Keyboard, byte: u8) -> Stepped
     requires { accepted_of k ≡ true }
     ensures { result ≡ answer_to byte k }
