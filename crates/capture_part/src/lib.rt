@@ -13,6 +13,7 @@ const IN: [u8; 2] = *b"IN";
 const DI: [u8; 2] = *b"DI";
 
 // What a DI says for a level of register 1: 1 where it puts a disk in.
+#[tactic(auto, unfolding(capture_spec::specs::Convert::insert_of))]
 fn insert(level: u8) -> u8
     ensures { result ≡ insert_of level }
 {
@@ -23,6 +24,7 @@ fn insert(level: u8) -> u8
 }
 
 // 1 where the disk put in is locked.
+#[tactic(auto, unfolding(capture_spec::specs::Convert::locked_of))]
 fn locked(x: DriveLevels, level: u8) -> u8
     ensures { result ≡ locked_of x level }
 {
@@ -36,6 +38,7 @@ fn locked(x: DriveLevels, level: u8) -> u8
 }
 
 // 1 where the disk put in is double-sided.
+#[tactic(auto, unfolding(capture_spec::specs::Convert::sides_of))]
 fn sides(x: DriveLevels, level: u8) -> u8
     ensures { result ≡ sides_of x level }
 {
@@ -46,6 +49,7 @@ fn sides(x: DriveLevels, level: u8) -> u8
 }
 
 // The IN and the DI for a retired SN.
+#[tactic(auto, unfolding(capture_spec::specs::Convert::disk_for, capture_spec::specs::Convert::line_for))]
 fn pair(m: Levels, row: &[u8]) -> [u8; 18]
     requires { 9 ≤ length row.now }
     ensures { result ≡ line_for m row.now ++ disk_for m row.now }
@@ -76,6 +80,7 @@ fn pair(m: Levels, row: &[u8]) -> [u8; 18]
 }
 
 // The IN for a retired SN.
+#[tactic(auto, unfolding(capture_spec::specs::Convert::line_for))]
 fn line(m: Levels, row: &[u8]) -> [u8; 8]
     requires { 9 ≤ length row.now }
     ensures { result ≡ line_for m row.now }
@@ -84,6 +89,7 @@ fn line(m: Levels, row: &[u8]) -> [u8; 8]
 }
 
 // Whether an SN changes whether a disk is present.
+#[tactic(auto, unfolding(capture_spec::specs::Convert::changes_of))]
 fn changes(m: Levels, row: &[u8]) -> bool
     requires { 9 ≤ length row.now }
     ensures { result ≡ changes_of m row.now }
@@ -99,6 +105,7 @@ fn changes(m: Levels, row: &[u8]) -> bool
 }
 
 // The number of bytes written for a record.
+#[tactic(auto, using(crate::proofs::Cases::cases))]
 pub fn size(m: Levels, row: &[u8]) -> usize
     requires { 4 ≤ length row.now }
     ensures { result ≡ length (part_of m row.now) }
@@ -113,6 +120,7 @@ pub fn size(m: Levels, row: &[u8]) -> usize
 }
 
 // 1 for a valid retired SN with no DI after it.
+#[tactic(auto, using(crate::proofs::Cases::cases), unfolding(capture_spec::specs::Convert::lone_of))]
 pub fn lone(m: Levels, row: &[u8]) -> usize
     requires { 4 ≤ length row.now }
     ensures { result ≡ lone_of m row.now }
@@ -127,6 +135,7 @@ pub fn lone(m: Levels, row: &[u8]) -> usize
 }
 
 // Writes at `at` what is written for a record.
+#[tactic(auto, using(crate::proofs::Cases::cases))]
 pub fn put(out: &mut [u8], at: usize, m: Levels, row: &[u8])
     requires in_bounds { 4 ≤ length row.now }
     requires row_in_bounds { at + length (part_of m row.now) ≤ length out.old }

@@ -16,6 +16,7 @@ fn body<'a>(row: &'a [u8]) -> &'a [u8]
 }
 
 // Whether a record is a valid SN on a retired register.
+#[tactic(auto, unfolding(capture_spec::specs::Capture::retired_of))]
 pub fn is_retired(row: &[u8]) -> bool
     requires { 4 ≤ length row.now }
     ensures { result ≡ retired_of row.now }
@@ -28,6 +29,7 @@ pub fn is_retired(row: &[u8]) -> bool
 }
 
 // Whether a record is a valid IN on line 0.
+#[tactic(auto, unfolding(capture_spec::specs::Capture::line0_of))]
 fn is_line0(row: &[u8]) -> bool
     requires { 4 ≤ length row.now }
     ensures { result ≡ line0_of row.now }
@@ -43,6 +45,7 @@ fn is_line0(row: &[u8]) -> bool
 }
 
 // Before the first record.
+#[tactic(auto, unfolding(capture_spec::specs::Levels::first_levels, capture_spec::specs::Levels::no_levels))]
 pub fn first() -> Levels
     ensures { result ≡ first_levels }
 {
@@ -59,6 +62,7 @@ pub fn first() -> Levels
 }
 
 // A drive after an SN on it.
+#[tactic(auto, unfolding(capture_spec::specs::Levels::drive_sense_of))]
 fn drive_sense(x: DriveLevels, register: u8, level: u8) -> DriveLevels
     ensures { result ≡ drive_sense_of x register level }
 {
@@ -79,6 +83,7 @@ fn drive_sense(x: DriveLevels, register: u8, level: u8) -> DriveLevels
 }
 
 // One of the two drives.
+#[tactic(auto, unfolding(capture_spec::specs::Levels::drive_of))]
 pub fn drive(m: Levels, drive: u8) -> DriveLevels
     ensures { result ≡ drive_of m drive }
 {
@@ -89,6 +94,7 @@ pub fn drive(m: Levels, drive: u8) -> DriveLevels
 }
 
 // After a valid retired SN.
+#[tactic(auto, unfolding(capture_spec::specs::Levels::sense_to))]
 fn sense(m: Levels, drive: u8, register: u8, level: u8) -> Levels
     ensures { result ≡ sense_to m drive register level }
 {
@@ -106,6 +112,7 @@ fn sense(m: Levels, drive: u8, register: u8, level: u8) -> Levels
 }
 
 // After a record.
+#[tactic(auto, unfolding(capture_spec::specs::Levels::next_of))]
 pub fn next(m: Levels, row: &[u8]) -> Levels
     requires { 4 ≤ length row.now }
     ensures { result ≡ next_of m row.now }

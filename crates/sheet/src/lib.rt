@@ -9,6 +9,7 @@ ghost use Rattle.sheet_spec.specs.Lookup.{search_of, source_of, part_of, place_o
 use sheet_spec::{Place, Search, Source};
 
 // What counts of setting k, where b counted so far and r comes next.
+#[tactic(auto, unfolding(sheet_spec::specs::Counting::better_of))]
 fn better<'a>(k: u16, b: &'a [u8], r: &'a [u8]) -> &'a [u8]
     requires { 7 ≤ length r.now }
     ensures { result.now ≡ better_of k b.now r.now }
@@ -58,6 +59,7 @@ pub fn find(sheet: &[u8], setting: u16) -> Search
 }
 
 // The place from what each of the two sheets says, the bench sheet first.
+#[tactic(auto, unfolding(sheet_spec::specs::Lookup::place_by))]
 fn first_of(bench: Search, house: Search) -> Place
     ensures { result ≡ place_by bench house }
 {
@@ -118,6 +120,7 @@ pub fn lookup<'a>(bench: &'a [u8], house: &'a [u8], setting: u16) -> &'a [u8]
 }
 
 // The number of a refusal, 0 of an answer.
+#[tactic(auto, unfolding(sheet_spec::specs::Lookup::refusal_of))]
 pub fn refusal(source: Source) -> u8
     ensures { result ≡ refusal_of source }
 {
@@ -130,6 +133,7 @@ pub fn refusal(source: Source) -> u8
 }
 
 // The sheet's number: 1 the bench sheet, 2 the house sheet, 0 none.
+#[tactic(auto, unfolding(sheet_spec::specs::Lookup::sheet_number))]
 pub fn number(source: Source) -> u8
     ensures { result ≡ sheet_number source }
 {

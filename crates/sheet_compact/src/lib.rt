@@ -14,6 +14,7 @@ use sheet_spec::Compacted;
 const SETTINGS: usize = 65536;
 
 // Whether a sheet is broken: refusal 1.
+#[tactic(auto, unfolding(sheet_spec::specs::Records::is_broken))]
 fn broken(sheet: &[u8]) -> bool
     ensures { result ≡ is_broken (sheet_of sheet.now) }
 {
@@ -29,6 +30,7 @@ fn broken(sheet: &[u8]) -> bool
 }
 
 // Notes a record whose bytes start at `start`, where its version is no lower than what is noted of its setting.
+#[tactic(auto, unfolding(crate::specs::Table::noted))]
 fn note(row: &[u8], start: usize, versions: &mut [u8], starts: &mut [usize])
     requires in_bounds { 7 ≤ length row.now }
     requires versions_len { (length versions.old ≡ 65536) × (length starts.old ≡ 65536) }
@@ -134,6 +136,7 @@ pub fn compact(sheet: &[u8], out: &mut [u8]) -> Compacted
 }
 
 // The number of a refusal, 0 where the records are written.
+#[tactic(auto, unfolding(sheet_spec::specs::Compaction::stop_of))]
 pub fn stop(x: Compacted) -> u8
     ensures { result ≡ stop_of x }
 {
@@ -144,6 +147,7 @@ pub fn stop(x: Compacted) -> u8
 }
 
 // The number of bytes written.
+#[tactic(auto, unfolding(sheet_spec::specs::Compaction::written_of))]
 pub fn written(x: Compacted) -> usize
     ensures { result ≡ written_of x }
 {

@@ -12,6 +12,7 @@ use item_spec::Framed;
 const SV: [u8; 2] = *b"SV";
 
 // Whether a record is of the kind SV.
+#[tactic(auto, unfolding(item_spec::specs::Kinds::is_kind))]
 fn is_sv(s: &[u8]) -> bool
     requires { 4 ≤ length s.now }
     ensures { result ≡ is_kind (drop 2 s.now) (83 ∷ 86 ∷ []) }
@@ -20,6 +21,7 @@ fn is_sv(s: &[u8]) -> bool
 }
 
 // The record at the front; none is the empty part.
+#[tactic(auto, unfolding(sheet_spec::specs::Records::first_of))]
 pub fn first<'a>(s: &'a [u8]) -> &'a [u8]
     ensures result_value { result.now ≡ first_of s.now }
     ensures result_in_bounds { length result.now ≤ length s.now }
@@ -51,6 +53,7 @@ pub fn version(r: &[u8]) -> u8
 }
 
 // Whether a record of setting k counts in place of an earlier one of version v.
+#[tactic(auto, unfolding(sheet_spec::specs::Counting::beats_of))]
 pub fn beats(k: u16, v: u8, r: &[u8]) -> bool
     requires { 7 ≤ length r.now }
     ensures { result ≡ beats_of k v r.now }
