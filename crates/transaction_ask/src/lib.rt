@@ -10,6 +10,7 @@ use clock_spec::Chip;
 use transaction_spec::Ask;
 
 // Whether it is a read.
+#[tactic(auto, unfolding(transaction_spec::specs::Asked::reads_of))]
 pub fn reads(a: Ask) -> bool
     ensures { result ≡ reads_of a }
 {
@@ -23,6 +24,7 @@ pub fn reads(a: Ask) -> bool
 }
 
 // The byte to write, 0 of a read.
+#[tactic(auto, unfolding(transaction_spec::specs::Asked::byte_of))]
 pub fn byte(a: Ask) -> u8
     ensures { result ≡ byte_of a }
 {
@@ -44,6 +46,7 @@ fn has_cell(chip: Chip, i: u8) -> bool
 }
 
 // Whether the chip has it.
+#[tactic(auto, unfolding(transaction_spec::specs::Asked::has_of))]
 pub fn has(chip: Chip, a: Ask) -> bool
     ensures { result ≡ has_of chip a }
 {
@@ -57,6 +60,7 @@ pub fn has(chip: Chip, a: Ask) -> bool
 }
 
 // The first command byte of a cell, as of a write.
+#[tactic(auto, unfolding(transaction_spec::specs::Asked::cell_byte))]
 fn cell_byte(i: u8) -> u8
     ensures { (result ≡ cell_byte i) × (result < 128) }
 {
@@ -78,6 +82,7 @@ fn seconds_byte(k: u8) -> u8
 }
 
 // The command's first byte.
+#[tactic(auto, unfolding(transaction_spec::specs::Asked::cell_byte, transaction_spec::specs::Asked::command_of, transaction_spec::specs::Asked::reads_of, transaction_spec::specs::Asked::target_of))]
 pub fn command(a: Ask) -> u8
     requires { place_in_range a ≡ true }
     ensures { result ≡ command_of a }
@@ -92,6 +97,7 @@ pub fn command(a: Ask) -> u8
 }
 
 // Whether the command has a second byte.
+#[tactic(auto, unfolding(transaction_spec::specs::Asked::extended_of, transaction_spec::specs::Asked::target_of))]
 pub fn extended(a: Ask) -> bool
     ensures { result ≡ extended_of a }
 {
@@ -112,6 +118,7 @@ fn cell_second(i: u8) -> u8
 }
 
 // The command's second byte, 0 where it has none.
+#[tactic(auto, unfolding(transaction_spec::specs::Asked::second_byte_of, transaction_spec::specs::Asked::target_of))]
 pub fn second(a: Ask) -> u8
     ensures { result ≡ second_byte_of a }
 {
@@ -135,6 +142,7 @@ fn size_by(z: bool, l: bool) -> usize
     }
 }
 
+#[tactic(auto, unfolding(transaction_spec::specs::Asked::size_of))]
 pub fn size(a: Ask) -> usize
     ensures { result ≡ size_of a }
 {
@@ -152,6 +160,7 @@ fn count_by(z: bool, l: bool) -> u8
     }
 }
 
+#[tactic(auto, unfolding(transaction_spec::specs::Asked::count_of))]
 pub fn count(a: Ask) -> u8
     ensures { result ≡ count_of a }
 {

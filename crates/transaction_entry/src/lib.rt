@@ -16,6 +16,7 @@ pub enum Request {
 }
 
 // What is asked for of a cell or a seconds byte.
+#[tactic(auto, unfolding(crate::specs::Call::placed_of))]
 fn placed(ask: u8, place: u8, value: u8) -> Request
     ensures { result ≡ placed_of ask place value }
 {
@@ -41,6 +42,7 @@ fn placed(ask: u8, place: u8, value: u8) -> Request
 }
 
 // What is asked for.
+#[tactic(auto, unfolding(crate::specs::Call::request_of))]
 fn request_of(ask: u8, number: u32, value: u8) -> Request
     ensures { result ≡ request_of ask number value }
 {
@@ -66,6 +68,7 @@ fn answer(m: Machine, q: Request, out: &mut [u8]) -> TransactionResult
 }
 
 // The number of a refusal, 0 where the transaction is written.
+#[tactic(auto, unfolding(crate::specs::Call::stop_of))]
 fn stop(x: TransactionResult) -> u8
     ensures { result ≡ stop_of x }
 {
@@ -76,6 +79,7 @@ fn stop(x: TransactionResult) -> u8
 }
 
 // The number of bytes written.
+#[tactic(auto, unfolding(crate::specs::Call::written_of))]
 fn size(x: TransactionResult) -> usize
     ensures { result ≡ written_of x }
 {

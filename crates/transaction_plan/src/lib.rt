@@ -36,6 +36,7 @@ fn bit_of(x: u8, n: u8) -> bool
     (x >> n) % 2 == 1
 }
 
+#[tactic(auto, unfolding(crate::specs::Plan::sent_at))]
 fn sent(x: u8, j: u8) -> Act
     requires { j < 16 }
     ensures { result ≡ sent_at x j }
@@ -47,6 +48,7 @@ fn sent(x: u8, j: u8) -> Act
     }
 }
 
+#[tactic(auto, unfolding(crate::specs::Plan::asked_at))]
 fn asked(j: u8) -> Act
     ensures { result ≡ asked_at j }
 {
@@ -67,6 +69,7 @@ fn asked(j: u8) -> Act
     }
 }
 
+#[tactic(auto, unfolding(crate::specs::Plan::tail_write))]
 fn tail_write(d: u8, k: u8) -> Act
     requires { 19 ≤ k }
     ensures { result ≡ tail_write d k }
@@ -81,6 +84,7 @@ fn tail_write(d: u8, k: u8) -> Act
     }
 }
 
+#[tactic(auto, unfolding(crate::specs::Plan::tail_read))]
 fn tail_read(k: u8) -> Act
     requires { 19 ≤ k }
     ensures { result ≡ tail_read k }
@@ -98,6 +102,7 @@ fn tail_read(k: u8) -> Act
     }
 }
 
+#[tactic(auto, unfolding(crate::specs::Plan::tail_at, crate::specs::Plan::tail_read, crate::specs::Plan::tail_write))]
 fn tail_at(s: Plan, k: u8) -> Act
     requires { 19 ≤ k }
     ensures { result ≡ tail_at s k }
@@ -108,6 +113,7 @@ fn tail_at(s: Plan, k: u8) -> Act
     tail_write(s.byte, k)
 }
 
+#[tactic(auto, unfolding(crate::specs::Plan::extended_at, crate::specs::Plan::tail_at))]
 fn extended_at(s: Plan, k: u8) -> Act
     requires { 19 ≤ k }
     ensures { result ≡ extended_at s k }
@@ -118,6 +124,7 @@ fn extended_at(s: Plan, k: u8) -> Act
     tail_at(s, k - 16)
 }
 
+#[tactic(auto, unfolding(crate::specs::Plan::act_at, crate::specs::Plan::extended_at, crate::specs::Plan::tail_at))]
 fn act_at(s: Plan, k: u8) -> Act
     ensures { result ≡ act_at s k }
 {
@@ -206,6 +213,7 @@ fn record(q: u8, r: u8, a: Act) -> Part
     }
 }
 
+#[tactic(auto, unfolding(crate::specs::Plan::part_at))]
 pub fn part_at(s: Plan, k: u8) -> Part
     requires outs_bound { s.outs < 32 }
     requires dirs_bound { s.dirs < 32 }
