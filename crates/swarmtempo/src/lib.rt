@@ -1,4 +1,4 @@
-// The run for C and Rust shells: numbers and byte slices, the state as a lent image.
+// The run for C and Rust shells: numbers and byte slices, the state as a lent image. The crate swarmtempo_c exports the functions with the names swarmtempo_*.
 #![tactic(auto)]
 
 ghost use Rattle.std.specs.Prelude.{◌≡◌, length, true};
@@ -23,8 +23,8 @@ const FIRST: u32 = clock_command::FIRST_CELLS as u32;
 const LATER: u32 = clock_command::ALL_CELLS as u32;
 
 // The length in bytes of an image of a machine with so many cells; 0 where there is no such machine.
-#[unsafe(no_mangle)]
-pub extern "C" fn swarmtempo_image_len(cells: u32) -> u64
+#[tactic(auto, unfolding(entry_spec::specs::Call::length_for))]
+pub fn swarmtempo_image_len(cells: u32) -> u64
     ensures { result ≡ length_for cells }
 {
     if cells == FIRST {
@@ -37,6 +37,7 @@ pub extern "C" fn swarmtempo_image_len(cells: u32) -> u64
 }
 
 // Writes the fresh machine's image, by its chip. 0, or 6 where the room is shorter than an image.
+#[tactic(auto, unfolding(entry_spec::specs::Call::room_image, entry_spec::specs::Call::room_stop))]
 fn fresh_image(image: &mut [u8], chip: Chip) -> u8
     ensures value { result ≡ room_stop chip image.old }
     ensures image_after { image.new ≡ room_image chip image.old }
@@ -50,8 +51,8 @@ fn fresh_image(image: &mut [u8], chip: Chip) -> u8
 }
 
 // Writes the fresh machine's image. 0; 5 where there is no machine with so many cells; 6 where the room is shorter than an image.
-#[unsafe(no_mangle)]
-pub extern "C" fn swarmtempo_fresh(image: &mut [u8], cells: u32) -> u8
+#[tactic(auto, unfolding(entry_spec::specs::Call::fresh_image, entry_spec::specs::Call::fresh_stop))]
+pub fn swarmtempo_fresh(image: &mut [u8], cells: u32) -> u8
     ensures value { result ≡ fresh_stop cells image.old }
     ensures image_after { image.new ≡ fresh_image cells image.old }
 {
@@ -100,8 +101,7 @@ fn run_by(
 }
 
 // The same for shells, by the table.
-#[unsafe(no_mangle)]
-pub extern "C" fn swarmtempo_run(
+pub fn swarmtempo_run(
     image: &mut [u8],
     list: &[u8],
     answers: &mut [u8],
@@ -121,8 +121,7 @@ pub extern "C" fn swarmtempo_run(
 }
 
 // The same by the plain engine, so that field staff can see for themselves that nothing differs.
-#[unsafe(no_mangle)]
-pub extern "C" fn swarmtempo_run_plain(
+pub fn swarmtempo_run_plain(
     image: &mut [u8],
     list: &[u8],
     answers: &mut [u8],
@@ -142,8 +141,7 @@ pub extern "C" fn swarmtempo_run_plain(
 }
 
 // Microseconds in VIA ticks, rounded up.
-#[unsafe(no_mangle)]
-pub extern "C" fn swarmtempo_ticks_of_micros(micros: u32) -> u32
+pub fn swarmtempo_ticks_of_micros(micros: u32) -> u32
     ensures { result ≡ ticks_of micros }
 {
     let t = units::ticks_of_micros(Micros(micros));
@@ -152,8 +150,7 @@ pub extern "C" fn swarmtempo_ticks_of_micros(micros: u32) -> u32
 
 // Where a setting's bytes stand: in the bench sheet (1) or the house sheet (2), from `start` on, `size` of them. 0, or 1 where either sheet is
 // broken; `sheet`, `start` and `size` are 0 then, and where the setting is in neither.
-#[unsafe(no_mangle)]
-pub extern "C" fn swarmtempo_sheet_get(
+pub fn swarmtempo_sheet_get(
     bench: &[u8],
     house: &[u8],
     setting: u16,
@@ -171,8 +168,7 @@ pub extern "C" fn swarmtempo_sheet_get(
 
 // Writes a sheet's counting records, one for each setting, in their old order. 0, or 1 where the sheet is broken, then 6 where the room is too
 // short; neither writes anything, and `written` is 0.
-#[unsafe(no_mangle)]
-pub extern "C" fn swarmtempo_sheet_compact(sheet: &[u8], out: &mut [u8], written: &mut u64) -> u8
+pub fn swarmtempo_sheet_compact(sheet: &[u8], out: &mut [u8], written: &mut u64) -> u8
     ensures value { result ≡ stop_of (compacted_of sheet.now (length out.old)) }
     ensures written_after { written.new ≡ written_of (compacted_of sheet.now (length out.old)) }
     ensures out_after { out.new ≡ memory_of sheet.now out.old }
@@ -182,13 +178,7 @@ pub extern "C" fn swarmtempo_sheet_compact(sheet: &[u8], out: &mut [u8], written
 
 // Turns an old capture over into `out`. 0; 1 where a record refused with 1 ended the work, what comes before it being written; 6 where the room is too
 // small, and then nothing is written and both numbers are 0. `count` is the number of retired SN items replaced with no DI after them.
-#[unsafe(no_mangle)]
-pub extern "C" fn swarmtempo_convert(
-    list: &[u8],
-    out: &mut [u8],
-    written: &mut u64,
-    count: &mut u64,
-) -> u8
+pub fn swarmtempo_convert(list: &[u8], out: &mut [u8], written: &mut u64, count: &mut u64) -> u8
     ensures value { result ≡ (converted_of list.now (length out.old)).refusal }
     ensures written_after { written.new ≡ (converted_of list.now (length out.old)).written }
     ensures count_after { count.new ≡ (converted_of list.now (length out.old)).count }

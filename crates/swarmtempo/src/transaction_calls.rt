@@ -1,4 +1,4 @@
-// The writer of clock transactions with C linkage; what it does is in the crate transaction_entry.
+// The writer of clock transactions for C shells; what it does is in the crate transaction_entry, and the crate swarmtempo_c exports it.
 ghost use Rattle.std.specs.Prelude.{◌≡◌, length};
 ghost use Rattle.transaction_entry.specs.Call.{request_of, result_of, output_of, stop_of, written_of, CallDoes};
 
@@ -7,8 +7,7 @@ ghost use Rattle.transaction_entry.specs.Call.{request_of, result_of, output_of,
 // 7 where no accepted state has this image; 5 where the chip has no such cell or seconds byte, or nothing is asked for by this number; 10 where enable is
 // down; 6 where the room is too short. These write nothing, and `written` is 0. The last clause: a call of swarmtempo_run with this image, what was written and
 // room for its answers does what was asked for.
-#[unsafe(no_mangle)]
-pub extern "C" fn swarmtempo_transaction(
+pub fn swarmtempo_transaction(
     image: &[u8],
     ask: u8,
     number: u32,

@@ -20,6 +20,7 @@ fn made(op: u8, a: u64, b: u64) -> Order
 }
 
 // Whether an operation is known and takes these numbers.
+#[tactic(auto, unfolding(crate::specs::Operations::known_of))]
 pub fn known(op: u8, a: u64, b: u64) -> bool
     ensures { result ≡ known_of op a b }
 {
@@ -36,6 +37,7 @@ pub fn known(op: u8, a: u64, b: u64) -> bool
 }
 
 // How many accesses an operation makes.
+#[tactic(auto, unfolding(crate::specs::Operations::accesses_of))]
 pub fn accesses(x: Order) -> u64
     ensures { result ≡ accesses_of x }
 {
@@ -49,6 +51,7 @@ pub fn accesses(x: Order) -> u64
 }
 
 // Access `k` of an operation. The clock's data is bit 0 of port B, its data-clock bit 1; an input is undriven and 1. Bit 7 of the byte is sent.
+#[tactic(auto, unfolding(crate::specs::Operations::access_of))]
 pub fn access(x: Order, k: u64, byte: u64) -> Order
     ensures { result ≡ access_of x k byte }
 {
@@ -87,6 +90,7 @@ pub fn access(x: Order, k: u64, byte: u64) -> Order
 }
 
 // The record of an access, and a byte behind one that is shorter.
+#[tactic(auto, unfolding(crate::specs::Operations::record_of))]
 pub fn record(x: Order) -> [u8; 11]
     ensures { result ≡ record_of x }
 {
@@ -102,6 +106,7 @@ pub fn record(x: Order) -> [u8; 11]
 }
 
 // The byte before an operation: the one to send, or the value before.
+#[tactic(auto, unfolding(crate::specs::Operations::start_of))]
 pub fn start(x: Order, value: u64) -> u64
     ensures { result ≡ start_of x value }
 {
@@ -112,6 +117,7 @@ pub fn start(x: Order, value: u64) -> u64
 }
 
 // The byte after access `k`: the one read; or, once its bit is sent or read, moved up by one bit, with the bit read behind.
+#[tactic(auto, unfolding(crate::specs::Operations::seen_of))]
 pub fn seen(op: u8, k: u64, byte: u64, read: u8) -> u64
     ensures { result ≡ seen_of op k byte read }
 {
@@ -137,6 +143,7 @@ fn wide(x: u8) -> u64
 }
 
 // A byte of the image, seen or, with `z`, changed; 256 where the image has no such byte.
+#[tactic(auto, unfolding(crate::specs::Operations::byte_of, crate::specs::Operations::changed_of))]
 pub fn byte(image: &mut [u8], x: Order) -> u64
     ensures value { result ≡ byte_of image.old x }
     ensures image_after { image.new ≡ changed_of image.old x }

@@ -23,6 +23,7 @@ pub struct Given {
 }
 
 // Whether the text ends before `at` or has a space there.
+#[tactic(auto, unfolding(crate::specs::Words::spaced_of))]
 pub fn spaced(text: &[u8], at: usize) -> bool
     ensures { result ≡ spaced_of text.now at }
 {
@@ -33,6 +34,7 @@ pub fn spaced(text: &[u8], at: usize) -> bool
 }
 
 // A number with one character more: a digit, or, where it is the first, a capital letter, which is its ASCII byte.
+#[tactic(auto, unfolding(crate::specs::Words::grown_of))]
 fn grown(n: u64, c: u8, hex: bool, first: bool) -> u64
     ensures { result ≡ grown_of n c hex first }
 {
