@@ -121,7 +121,7 @@ END
     cd "$clean/crate" || return 1
     export CARGO_TARGET_DIR="$clean/target"
     if (unset SWARMTEMPO_LIB_DIR && cargo build -q) 2>"$clean/said"; then return 1; fi
-    grep -q 'rt staticlib swarmtempo' "$clean/said" || { cat "$clean/said"; return 1; }
+    grep -q 'host/archive' "$clean/said" || { cat "$clean/said"; return 1; }
     [ -d "$clean/usr/lib" ] && folder=$clean/usr/lib
     SWARMTEMPO_LIB_DIR="$folder" cargo run -q >"$clean/said" || return 1
     grep -x '0t SE: OK: value $00, level 1, SEL 1, lines on -' "$clean/said" || return 1

@@ -1,5 +1,5 @@
 //! Finds libswarmtempo.a: in the folder that `SWARMTEMPO_LIB_DIR` names, else in the repository's
-//! target/staticlib, where `rt staticlib swarmtempo` writes it. Writes nothing.
+//! target/staticlib, where `host/archive` puts it. Writes nothing.
 
 use std::path::{Path, PathBuf};
 
@@ -13,9 +13,7 @@ fn main() {
     println!("cargo:rerun-if-changed={}", archive.display());
     if !archive.is_file() {
         eprintln!("{} is not there.", archive.display());
-        eprintln!(
-            "Run `rt staticlib swarmtempo` in the repository's root, which proves and writes it,"
-        );
+        eprintln!("Run `host/archive` in the repository's root, which proves and writes it,");
         eprintln!("or name the folder of the archive by SWARMTEMPO_LIB_DIR.");
         std::process::exit(1);
     }
