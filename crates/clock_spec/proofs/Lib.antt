@@ -4,3 +4,4 @@ pub mod Places
 pub mod Stopped
 pub mod PhaseRange
 pub mod Undriven
+pub mod Extended
