@@ -65,8 +65,8 @@ pub record Named : Type 0 where
   pub cell16 : (meant First 0x21 ≡ Write (Cell 16)) × (meant Later 0x21 ≡ Write (Cell 16))
   pub cell19 : (meant First 0x2D ≡ Write (Cell 19)) × (meant Later 0x2D ≡ Write (Cell 19))
   pub cell15 : (meant First 0x7D ≡ Write (Cell 15)) × (meant Later 0x7D ≡ Write (Cell 15))
-  pub cell_f_f : extend (meant Later 0x3F) 0x7C ≡ Write (Cell 0xFF)
-  pub cell_f_f-read : extend (meant Later 0xBF) 0x7C ≡ Read (Cell 0xFF)
+  pub cell_ff : extend (meant Later 0x3F) 0x7C ≡ Write (Cell 0xFF)
+  pub cell_ff-read : extend (meant Later 0xBF) 0x7C ≡ Read (Cell 0xFF)
   pub cell0 : extend (meant Later 0x38) 0x00 ≡ Write (Cell 0)
   -- abc is 001 and defgh 10110: the halves are not exchanged.
   pub cell36 : extend (meant Later 0x39) 0x58 ≡ Write (Cell 0x36)
@@ -83,8 +83,8 @@ named =
       cell16 = (refl, refl);
       cell19 = (refl, refl);
       cell15 = (refl, refl);
-      cell_f_f = refl;
-      cell_f_f-read = refl;
+      cell_ff = refl;
+      cell_ff-read = refl;
       cell0 = refl;
       cell36 = refl;
       other-forms = (refl, refl, refl);

@@ -14,17 +14,17 @@ use Rattle.demand3_touches.proofs.Runs.{same, same-clock}
 -- The states that the calls reach.
 pub calls : (i : List ℕ) → CalledAlike i
 unfolding call_of
-calls i a b roomA roomB q = go (valid_image i) refl
+calls i a b room_a room_b q = go (valid_image i) refl
   where
     m : Machine
     m = machine_of i
 
-    go : (t : Bool) → valid_image i ≡ t → SameClock (cond t (run_of m a roomA) (halt m 7)).machine.clock (cond t (run_of m b roomB) (halt m 7)).machine.clock
-    go true e = same-clock m (valid-is i e).accepted a b roomA roomB q
+    go : (t : Bool) → valid_image i ≡ t → SameClock (cond t (run_of m a room_a) (halt m 7)).machine.clock (cond t (run_of m b room_b) (halt m 7)).machine.clock
+    go true e = same-clock m (valid-is i e).accepted a b room_a room_b q
     go false e = same m.clock m.clock refl
 
 -- The states of the images that they leave.
 pub images : (i : List ℕ) → LeftAlike i
-images i a b leftA left_b roomA roomB ea eb q =
+images i a b left_a left_b room_a room_b ea eb q =
     subst⁻¹ (λ (x : Machine). SameClock x.clock (machine_of left_b).clock) ea
-    (subst⁻¹ (λ (x : Machine). SameClock (call_of i a roomA).machine.clock x.clock) eb (calls i a b roomA roomB q))
+    (subst⁻¹ (λ (x : Machine). SameClock (call_of i a room_a).machine.clock x.clock) eb (calls i a b room_a room_b q))

@@ -123,10 +123,10 @@ any-machine m n (p ∷ ps) = ap₂ (λ (a b : List Touch). a ++ b) (any_at (stat
 -- ---- two runs
 
 -- From two machines that the clock cannot tell apart.
-pub alike : (m n : Machine) → accepted_of m ≡ true → accepted_of n ≡ true → seen_of m ≡ seen_of n → (a b : List ℕ) (roomA roomB : ℕ)
-    → touches m a roomA ≡ touches n b roomB → seen_of (run_of m a roomA).machine ≡ seen_of (run_of n b roomB).machine
-alike m n am an e a b roomA roomB q =
-    run-touches m am a roomA ∙ ap (λ (ts : List Touch). after_touches ts (seen_of m)) q ∙ ap (after_touches (touches n b roomB)) e ∙ sym (run-touches n an b roomB)
+pub alike : (m n : Machine) → accepted_of m ≡ true → accepted_of n ≡ true → seen_of m ≡ seen_of n → (a b : List ℕ) (room_a room_b : ℕ)
+    → touches m a room_a ≡ touches n b room_b → seen_of (run_of m a room_a).machine ≡ seen_of (run_of n b room_b).machine
+alike m n am an e a b room_a room_b q =
+    run-touches m am a room_a ∙ ap (λ (ts : List Touch). after_touches ts (seen_of m)) q ∙ ap (after_touches (touches n b room_b)) e ∙ sym (run-touches n an b room_b)
 
 pub same : (c d : Clock) → c ≡ d → SameClock c d
 same c d e =
@@ -140,8 +140,8 @@ same c d e =
 
 -- The promise.
 pub same-clock : (m : Machine) → accepted_of m ≡ true → TouchedAlike m
-same-clock m h a b roomA roomB q =
-    same (run_of m a roomA).machine.clock (run_of m b roomB).machine.clock (ap (λ (x : Seen). x.clock) (alike m m h h refl a b roomA roomB q))
+same-clock m h a b room_a room_b q =
+    same (run_of m a room_a).machine.clock (run_of m b room_b).machine.clock (ap (λ (x : Seen). x.clock) (alike m m h h refl a b room_a room_b q))
 
 -- The fresh machine, with either chip.
 pub same-clock-fresh : (k : Chip) → TouchedAlike (fresh_machine k)

@@ -29,8 +29,8 @@ blur f (t ∷ ts) = f t ++ blur f ts
 -- The theorem over such a sequence.
 abbrev pub AlikeBy : (Touch → List Touch) → Machine → Type 0
 AlikeBy f m =
-    (a b : List ℕ) (roomA roomB : ℕ) → blur f (touches m a roomA) ≡ blur f (touches m b roomB)
-    → SameClock (run_of m a roomA).machine.clock (run_of m b roomB).machine.clock
+    (a b : List ℕ) (room_a room_b : ℕ) → blur f (touches m a room_a) ≡ blur f (touches m b room_b)
+    → SameClock (run_of m a room_a).machine.clock (run_of m b room_b).machine.clock
 
 -- ---- one kind left out
 

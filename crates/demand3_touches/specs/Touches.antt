@@ -80,16 +80,16 @@ pub record SameClock (a b : Clock) : Type 0 where
 -- "Two lists run from one state, which agree in the sequence .., end with the same ..", whatever their answer rooms and whether and how the runs stop.
 abbrev pub TouchedAlike : Machine → Type 0
 TouchedAlike m =
-    (a b : List ℕ) (roomA roomB : ℕ) → touches m a roomA ≡ touches m b roomB → SameClock (run_of m a roomA).machine.clock (run_of m b roomB).machine.clock
+    (a b : List ℕ) (room_a room_b : ℕ) → touches m a room_a ≡ touches m b room_b → SameClock (run_of m a room_a).machine.clock (run_of m b room_b).machine.clock
 
 -- The same of two calls of the C entry with one image, valid or not; on refusal 7 the clock is as it was.
 abbrev pub CalledAlike : List ℕ → Type 0
 CalledAlike i =
-    (a b : List ℕ) (roomA roomB : ℕ) → touches (machine_of i) a roomA ≡ touches (machine_of i) b roomB
-    → SameClock (call_of i a roomA).machine.clock (call_of i b roomB).machine.clock
+    (a b : List ℕ) (room_a room_b : ℕ) → touches (machine_of i) a room_a ≡ touches (machine_of i) b room_b
+    → SameClock (call_of i a room_a).machine.clock (call_of i b room_b).machine.clock
 
 -- And of the states of the images left. By the entry's contract the image that a call left is that of the state reached: the two premises.
 abbrev pub LeftAlike : List ℕ → Type 0
 LeftAlike i =
-    (a b leftA left_b : List ℕ) (roomA roomB : ℕ) → machine_of leftA ≡ (call_of i a roomA).machine → machine_of left_b ≡ (call_of i b roomB).machine
-    → touches (machine_of i) a roomA ≡ touches (machine_of i) b roomB → SameClock (machine_of leftA).clock (machine_of left_b).clock
+    (a b left_a left_b : List ℕ) (room_a room_b : ℕ) → machine_of left_a ≡ (call_of i a room_a).machine → machine_of left_b ≡ (call_of i b room_b).machine
+    → touches (machine_of i) a room_a ≡ touches (machine_of i) b room_b → SameClock (machine_of left_a).clock (machine_of left_b).clock
