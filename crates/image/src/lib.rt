@@ -16,8 +16,8 @@ const TAIL: usize = image_layout::TAIL;
 pub fn save(image: &mut [u8], m: Machine)
     requires { length image.old ≡ image_length m.clock.store.chip }
     ensures image_after { image.new ≡ image_of m }
-    ensures image_after_2 { accepted_of m ≡ true → machine_of image.new ≡ m }
-    ensures image_after_3 { accepted_of m ≡ true → valid_image image.new ≡ true }
+    ensures given_back { accepted_of m ≡ true → machine_of image.new ≡ m }
+    ensures valid_after { accepted_of m ≡ true → valid_image image.new ≡ true }
 {
     let lines = disk_lines::levels(m.disk);
     let inputs = m.inputs;

@@ -46,8 +46,8 @@ pub extern "C" fn swarmtempo_run(
     ensures written_after { written.new ≡ length (call_of image.old list.now (length answers.old)).answers }
     ensures image_after { image.new ≡ call_image image.old list.now (length answers.old) }
     ensures answers_after { answers.new ≡ call_answers image.old list.now answers.old }
-    ensures image_unchanged { valid_image image.new ≡ valid_image image.old }
-    ensures image_after_2 { machine_of image.new ≡ (call_of image.old list.now (length answers.old)).machine }
+    ensures validity_kept { valid_image image.new ≡ valid_image image.old }
+    ensures state_reached { machine_of image.new ≡ (call_of image.old list.now (length answers.old)).machine }
     ensures run3 { valid_image image.old ≡ true → Run3 (machine_of image.old) list.now (length answers.old) (machine_of image.new) }
 {
     swarmtempo::swarmtempo_run(image, list, answers, consumed, written)
@@ -67,8 +67,8 @@ pub extern "C" fn swarmtempo_run_plain(
     ensures written_after { written.new ≡ length (call_of image.old list.now (length answers.old)).answers }
     ensures image_after { image.new ≡ call_image image.old list.now (length answers.old) }
     ensures answers_after { answers.new ≡ call_answers image.old list.now answers.old }
-    ensures image_unchanged { valid_image image.new ≡ valid_image image.old }
-    ensures image_after_2 { machine_of image.new ≡ (call_of image.old list.now (length answers.old)).machine }
+    ensures validity_kept { valid_image image.new ≡ valid_image image.old }
+    ensures state_reached { machine_of image.new ≡ (call_of image.old list.now (length answers.old)).machine }
     ensures run3 { valid_image image.old ≡ true → Run3 (machine_of image.old) list.now (length answers.old) (machine_of image.new) }
 {
     swarmtempo::swarmtempo_run_plain(image, list, answers, consumed, written)

@@ -25,6 +25,6 @@ returns c =
     c.put_drives.ensures.image_after in
     record {
       image_after = e;
-      image_after_2 = λ ok. ap machine_of e ∙ restore-saved a.m t ok;
-      image_after_3 = λ ok. ap valid_image e ∙ saved-valid a.m t ok;
+      given_back = λ ok. ap machine_of e ∙ restore-saved a.m t ok;
+      valid_after = λ ok. ap valid_image e ∙ saved-valid a.m t ok;
     }

@@ -18,8 +18,8 @@ returns-then-not-exact c =
       written_after = p.1.1.0;
       image_after = p.1.1.1.0;
       answers_after = p.1.1.1.1.0;
-      image_unchanged = p.1.1.1.1.1.0;
-      image_after_2 = p.1.1.1.1.1.1.0;
+      validity_kept = p.1.1.1.1.1.0;
+      state_reached = p.1.1.1.1.1.1.0;
       run3 = p.1.1.1.1.1.1.1;
     }
 
@@ -44,8 +44,8 @@ returns-then-not-accepted_cleared c =
       written_after = p.1.1.0;
       image_after = p.1.1.1.0;
       answers_after = p.1.1.1.1.0;
-      image_unchanged = p.1.1.1.1.1.0;
-      image_after_2 = p.1.1.1.1.1.1.0;
+      validity_kept = p.1.1.1.1.1.0;
+      state_reached = p.1.1.1.1.1.1.0;
       run3 = p.1.1.1.1.1.1.1;
     }
 
@@ -69,14 +69,14 @@ returns c =
     (sym c.accepted_cleared.ensures ∙ c.if-not-accepted_cleared.false) in
     let p =
     call.ran a.image.now a.list.now a.answers.now v c.load-m.result c.load-m.ensures c.run_accepted-r.result c.run_accepted-r.ensures.value
-    c.run_accepted-r.new.answers c.run_accepted-r.ensures.answers_after c.save.new.image c.save.ensures.image_after c.save.ensures.image_after_2 c.save.ensures.image_after_3 in
+    c.run_accepted-r.new.answers c.run_accepted-r.ensures.answers_after c.save.new.image c.save.ensures.image_after c.save.ensures.given_back c.save.ensures.valid_after in
     record {
       value = p.0;
       consumed_after = p.1.0;
       written_after = p.1.1.0;
       image_after = p.1.1.1.0;
       answers_after = p.1.1.1.1.0;
-      image_unchanged = p.1.1.1.1.1.0;
-      image_after_2 = p.1.1.1.1.1.1.0;
+      validity_kept = p.1.1.1.1.1.0;
+      state_reached = p.1.1.1.1.1.1.0;
       run3 = p.1.1.1.1.1.1.1;
     }
