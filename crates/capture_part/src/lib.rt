@@ -1,4 +1,4 @@
-// What is written for one record of an old capture, and whether it is counted.
+//! What is written for one record of an old capture, and whether it is counted.
 #![tactic(auto)]
 
 ghost use Rattle.std.specs.Prelude.{◌≡◌, ◌++◌, ◌+◌, ◌≤◌, length};
@@ -7,149 +7,100 @@ ghost use Rattle.capture_spec.specs.Convert.{insert_of, locked_of, sides_of, lin
 
 use capture_spec::{DriveLevels, Levels};
 
-// The two kinds that are written.
-const IN: [u8; 2] = *b"IN";
-
-const DI: [u8; 2] = *b"DI";
-
-// What a DI says for a level of register 1: 1 where it puts a disk in.
+/// What a DI says for a level of register 1: 1 where it puts a disk in.
 #[tactic(auto, unfolding(capture_spec::specs::Convert::insert_of))]
 fn insert(level: u8) -> u8
     ensures { result ≡ insert_of level }
 {
-    if level == 0 {
-        return 1;
-    }
-    0
+    u8::from(level == 0)
 }
 
-// 1 where the disk put in is locked.
+/// 1 where the disk put in is locked.
 #[tactic(auto, unfolding(capture_spec::specs::Convert::locked_of))]
-fn locked(x: DriveLevels, level: u8) -> u8
-    ensures { result ≡ locked_of x level }
+fn locked(levels: DriveLevels, level: u8) -> u8
+    ensures { result ≡ locked_of levels level }
 {
-    if level == 0 {
-        if x.wrtprt == 0 {
-            return 1;
-        }
-        return 0;
-    }
-    0
+    u8::from(level == 0 && levels.wrtprt == 0)
 }
 
-// 1 where the disk put in is double-sided.
+/// 1 where the disk put in is double-sided.
 #[tactic(auto, unfolding(capture_spec::specs::Convert::sides_of))]
-fn sides(x: DriveLevels, level: u8) -> u8
-    ensures { result ≡ sides_of x level }
+fn sides(levels: DriveLevels, level: u8) -> u8
+    ensures { result ≡ sides_of levels level }
 {
-    if level == 0 {
-        return x.sides;
-    }
-    0
+    if level == 0 { levels.sides } else { 0 }
 }
 
-// The IN and the DI for a retired SN.
-#[tactic(auto, unfolding(capture_spec::specs::Convert::disk_for, capture_spec::specs::Convert::line_for))]
-fn pair(m: Levels, row: &[u8]) -> [u8; 18]
-    requires { 9 ≤ length row.now }
-    ensures { result ≡ line_for m row.now ++ disk_for m row.now }
+/// The IN for a retired SN.
+#[tactic(auto, unfolding(capture_spec::specs::Convert::line_for))]
+fn line(levels: Levels, sense: &[u8; 9]) -> [u8; 8]
+    ensures { result ≡ line_for levels sense.now }
 {
-    let drive = row[6];
-    let level = row[8];
-    let x = capture_record::drive(m, drive);
+    [6, 0, b'I', b'N', sense[4], sense[5], 0, levels.line0]
+}
+
+/// The DI after it.
+#[tactic(auto, unfolding(capture_spec::specs::Convert::disk_for))]
+fn disk(levels: Levels, sense: &[u8; 9]) -> [u8; 10]
+    ensures { result ≡ disk_for levels sense.now }
+{
+    let drive = sense[6];
+    let level = sense[8];
+    let known = capture_record::drive(levels, drive);
     [
-        6,
-        0,
-        IN[0],
-        IN[1],
-        row[4],
-        row[5],
-        0,
-        m.line0,
         8,
         0,
-        DI[0],
-        DI[1],
+        b'D',
+        b'I',
         0,
         0,
         drive,
         insert(level),
-        locked(x, level),
-        sides(x, level),
+        locked(known, level),
+        sides(known, level),
     ]
 }
 
-// The IN for a retired SN.
-#[tactic(auto, unfolding(capture_spec::specs::Convert::line_for))]
-fn line(m: Levels, row: &[u8]) -> [u8; 8]
-    requires { 9 ≤ length row.now }
-    ensures { result ≡ line_for m row.now }
-{
-    [6, 0, IN[0], IN[1], row[4], row[5], 0, m.line0]
-}
-
-// Whether an SN changes whether a disk is present.
+/// Whether an SN changes whether a disk is present.
 #[tactic(auto, unfolding(capture_spec::specs::Convert::changes_of))]
-fn changes(m: Levels, row: &[u8]) -> bool
-    requires { 9 ≤ length row.now }
-    ensures { result ≡ changes_of m row.now }
+fn changes(levels: Levels, sense: &[u8; 9]) -> bool
+    ensures { result ≡ changes_of levels sense.now }
 {
-    if row[7] == 1 {
-        let x = capture_record::drive(m, row[6]);
-        if row[8] == x.cstin {
-            return false;
-        }
-        return true;
-    }
-    false
+    sense[7] == 1 && sense[8] != capture_record::drive(levels, sense[6]).cstin
 }
 
-// The number of bytes written for a record.
-#[tactic(auto, using(crate::proofs::Cases::cases))]
-pub fn size(m: Levels, row: &[u8]) -> usize
-    requires { 4 ≤ length row.now }
-    ensures { result ≡ length (part_of m row.now) }
+/// The number of bytes written for a record.
+pub fn size(levels: Levels, row: &[u8]) -> usize
+    ensures { result ≡ length (part_of levels row.now) }
 {
-    if capture_record::is_retired(row) {
-        if changes(m, row) {
-            return 18;
-        }
-        return 8;
+    match capture_record::retired(row) {
+        Some(sense) => if changes(levels, sense) { 18 } else { 8 },
+        None => row.len(),
     }
-    row.len()
 }
 
-// 1 for a valid retired SN with no DI after it.
-#[tactic(auto, using(crate::proofs::Cases::cases), unfolding(capture_spec::specs::Convert::lone_of))]
-pub fn lone(m: Levels, row: &[u8]) -> usize
-    requires { 4 ≤ length row.now }
-    ensures { result ≡ lone_of m row.now }
+/// 1 for a valid retired SN with no DI after it.
+pub fn lone(levels: Levels, row: &[u8]) -> usize
+    ensures { result ≡ lone_of levels row.now }
 {
-    if capture_record::is_retired(row) {
-        if changes(m, row) {
-            return 0;
-        }
-        return 1;
+    match capture_record::retired(row) {
+        Some(sense) => if changes(levels, sense) { 0 } else { 1 },
+        None => 0,
     }
-    0
 }
 
-// Writes at `at` what is written for a record.
-#[tactic(auto, using(crate::proofs::Cases::cases))]
-pub fn put(out: &mut [u8], at: usize, m: Levels, row: &[u8])
-    requires in_bounds { 4 ≤ length row.now }
-    requires row_in_bounds { at + length (part_of m row.now) ≤ length out.old }
-    ensures { out.new ≡ put_at out.old at (part_of m row.now) }
+/// Writes at `at` what is written for a record.
+pub fn put(out: &mut [u8], at: usize, levels: Levels, row: &[u8])
+    requires { at + length (part_of levels row.now) ≤ length out.old }
+    ensures { out.new ≡ put_at out.old at (part_of levels row.now) }
 {
-    if capture_record::is_retired(row) {
-        if changes(m, row) {
-            let b = pair(m, row);
-            octets::copy(out, at, &b);
-            return;
+    match capture_record::retired(row) {
+        Some(sense) => {
+            octets::copy(out, at, &line(levels, sense));
+            if changes(levels, sense) {
+                octets::copy(out, at + 8, &disk(levels, sense));
+            }
         }
-        let b = line(m, row);
-        octets::copy(out, at, &b);
-        return;
+        None => octets::copy(out, at, row),
     }
-    octets::copy(out, at, row);
 }

@@ -10,8 +10,7 @@ use lib.Dec.{ltb}
 use borrow.Author.Tests.{ltb-false, le-ltb}
 use Rattle.octets.specs.Octets.{le16_of}
 use Rattle.item_spec.specs.Record.{frame_of}
-use Rattle.item_spec.specs.declared.Framed.{Framed}
-use Rattle.item_spec.specs.declared.Framed.TheVariants.{Whole, Cut}
+use Rattle.std.specs.Prelude.{Option, Some, None}
 use Rattle.item_spec.proofs.RecordLaws.{whole_append}
 use Rattle.capture_spec.specs.declared.Levels.{Levels}
 use Rattle.capture_spec.specs.Capture.{Capture, row, end, cut, framed, capture_from, capture_of}
@@ -20,15 +19,15 @@ use Rattle.capture_spec.proofs.Walk.{capture-row}
 
 -- a list is one whole record
 abbrev pub IsRecord : List ℕ → Type 0
-IsRecord r = frame_of r ≡ Whole (length r)
+IsRecord r = frame_of r ≡ Some (length r)
 
 -- a record that stands at the front of a list is one by itself
-pub whole_take : (l : List ℕ) (n : ℕ) → frame_of l ≡ Whole n → IsRecord (take n l)
+pub whole_take : (l : List ℕ) (n : ℕ) → frame_of l ≡ Some n → IsRecord (take n l)
 unfolding frame_of le16_of
 whole_take l n = go (ltb (length l) 2) (ltb (le16_of l 0) 2) (ltb (length l - 2) (le16_of l 0)) refl refl refl
   where
     go : (x y z : Bool) → ltb (length l) 2 ≡ x → ltb (le16_of l 0) 2 ≡ y → ltb (length l - 2) (le16_of l 0) ≡ z
-        → cond x Cut (cond y Cut (cond z Cut (Whole (le16_of l 0 + 2)))) ≡ Whole n → frame_of (take n l) ≡ Whole (length (take n l))
+        → ◌≡◌ {A = Option ℕ} (cond x None (cond y None (cond z None (Some (le16_of l 0 + 2))))) (Some n) → frame_of (take n l) ≡ Some (length (take n l))
     go true y z p q r e = let h : ◌≡◌ {A = ℕ} 0 1 = cc in absurd (omega arith)
     go false true z p q r e = let h : ◌≡◌ {A = ℕ} 0 1 = cc in absurd (omega arith)
     go false false true p q r e = let h : ◌≡◌ {A = ℕ} 0 1 = cc in absurd (omega arith)
@@ -40,7 +39,7 @@ whole_take l n = go (ltb (length l) 2) (ltb (le16_of l 0) 2) (ltb (length l - 2)
         let long : length (take n l) ≡ n = length-take-le n l (omega arith) in
         let g : le16_of (take n l) 0 ≡ le16_of l 0 = simp (get_or-take n l 0 0 (omega arith), get_or-take n l 1 0 (omega arith)) in
         simp (g, le-ltb (length (take n l)) 2 (omega arith), le-ltb (le16_of l 0) 2 low, le-ltb (length (take n l) - 2) (le16_of l 0) (omega arith))
-        (ap Whole (size ∙ sym long))
+        (ap Some (size ∙ sym long))
 
 -- the IN and the DI that are written are records
 pub line-record : (m : Levels) (r : List ℕ) → IsRecord (line_for m r)
@@ -63,9 +62,9 @@ capture-records k [] = tt
 capture-records (suc k) (x ∷ xs) = capture-records k xs
 capture-records zero (x ∷ xs) = go (λ k. capture-records k xs) (frame_of (x ∷ xs)) refl
   where
-    go : ((k : ℕ) → Records (capture_from k xs)) → (f : Framed) → frame_of (x ∷ xs) ≡ f → Records (framed f (x ∷ xs) (λ k. capture_from k xs))
-    go rec (Whole n) e = (whole_take (x ∷ xs) n e, rec (n - 1))
-    go rec Cut e = tt
+    go : ((k : ℕ) → Records (capture_from k xs)) → (f : Option ℕ) → frame_of (x ∷ xs) ≡ f → Records (framed f (x ∷ xs) (λ k. capture_from k xs))
+    go rec (Some n) e = (whole_take (x ∷ xs) n e, rec (n - 1))
+    go rec None e = tt
 
 -- one more record at the front
 pub capture-cons : (r t : List ℕ) → IsRecord r → capture_of (r ++ t) ≡ row r (capture_of t)

@@ -9,8 +9,7 @@ use lib.ListN.{length, take, drop, take-append-drop}
 use lib.Seq.{drop-nil}
 use borrow.Author.Tests.{le-ltb}
 use Rattle.item_spec.specs.Record.{frame_of}
-use Rattle.item_spec.specs.declared.Framed.{Framed}
-use Rattle.item_spec.specs.declared.Framed.TheVariants.{Whole, Cut}
+use Rattle.std.specs.Prelude.{Option, Some, None as Nothing}
 use Rattle.item_spec.specs.Kinds.{is_kind}
 use Rattle.item_spec.proofs.RecordLaws.{whole-fits}
 use Rattle.capture_spec.specs.declared.Levels.{Levels}
@@ -67,11 +66,11 @@ bytes_left k [] = sym (drop-nil k)
 bytes_left (suc k) (x ∷ xs) = bytes_left k xs
 bytes_left zero (x ∷ xs) = go (λ k. bytes_left k xs) (frame_of (x ∷ xs)) refl
   where
-    go : ((k : ℕ) → bytes_of (capture_from k xs) ++ left_of (capture_from k xs) ≡ drop k xs) → (f : Framed) → frame_of (x ∷ xs) ≡ f
+    go : ((k : ℕ) → bytes_of (capture_from k xs) ++ left_of (capture_from k xs) ≡ drop k xs) → (f : Option ℕ) → frame_of (x ∷ xs) ≡ f
         → bytes_of (framed f (x ∷ xs) (λ k. capture_from k xs)) ++ left_of (framed f (x ∷ xs) (λ k. capture_from k xs)) ≡ x ∷ xs
-    go rec Cut e = refl
-    go rec (Whole zero) e = let h = whole-fits (x ∷ xs) 0 e in absurd (omega arith)
-    go rec (Whole (suc n)) e =
+    go rec Nothing e = refl
+    go rec (Some zero) e = let h = whole-fits (x ∷ xs) 0 e in absurd (omega arith)
+    go rec (Some (suc n)) e =
         let d : suc n - 1 ≡ n = omega arith in
         append_assoc (take (suc n) (x ∷ xs)) (bytes_of (capture_from (suc n - 1) xs)) (left_of (capture_from (suc n - 1) xs))
         ∙ ap (λ (y : List ℕ). take (suc n) (x ∷ xs) ++ y) (rec (suc n - 1) ∙ ap (λ (k : ℕ). drop k xs) d)
@@ -94,14 +93,14 @@ pub unchanged : (l : List ℕ) → None retired_of (capture_of l) → turned_of 
 unfolding turned_of
 unchanged l h = ap (λ (x : List ℕ). x ++ left_of (capture_of l)) (none-same (capture_of l) first_levels h) ∙ bytes_left 0 l
 
-left-none : (c : Capture) → end_of c ≡ 0 → left_of c ≡ []
+left-none : (c : Capture) → end_of c ≡ Nothing → left_of c ≡ []
 unfolding end_of left_of
 left-none (row r c) e = left-none c e
 left-none end e = refl
-left-none (cut l) e = absurd (omega arith)
+left-none (cut l) e = absurd (cc)
 
 -- Where no record is refused with 1, all of it is.
-pub unchanged-whole : (l : List ℕ) → None retired_of (capture_of l) → end_of (capture_of l) ≡ 0 → turned_of l ≡ l
+pub unchanged-whole : (l : List ℕ) → None retired_of (capture_of l) → end_of (capture_of l) ≡ Nothing → turned_of l ≡ l
 unchanged-whole l h e = sym (append-nil (turned_of l)) ∙ ap (λ (x : List ℕ). turned_of l ++ x) (sym (left-none (capture_of l) e)) ∙ unchanged l h
 
 -- ---- twice
@@ -125,11 +124,11 @@ rows_none (row r c) m = go (retired_of r) (changes_of m r) refl (rows_none c (ne
 rows_none end m = tt
 rows_none (cut l) m = tt
 
-rows_end : (c : Capture) (m : Levels) → end_of (rows_from m c) ≡ 0
+rows_end : (c : Capture) (m : Levels) → end_of (rows_from m c) ≡ Nothing
 unfolding rows_from end_of
 rows_end (row r c) m = go (retired_of r) (changes_of m r) (rows_end c (next_of m r))
   where
-    go : (t u : Bool) → end_of (rows_from (next_of m r) c) ≡ 0 → end_of (part_rows m r t u (rows_from (next_of m r) c)) ≡ 0
+    go : (t u : Bool) → end_of (rows_from (next_of m r) c) ≡ Nothing → end_of (part_rows m r t u (rows_from (next_of m r) c)) ≡ Nothing
     go true true h = h
     go true false h = h
     go false u h = h
@@ -140,7 +139,7 @@ rows_end (cut l) m = refl
 pub turned_none : (l : List ℕ) → None retired_of (capture_of (turned_of l))
 turned_none l = rw (turned-capture l) (rows_none (capture_of l) first_levels)
 
-pub turned-end : (l : List ℕ) → end_of (capture_of (turned_of l)) ≡ 0
+pub turned-end : (l : List ℕ) → end_of (capture_of (turned_of l)) ≡ Nothing
 turned-end l = ap end_of (turned-capture l) ∙ rows_end (capture_of l) first_levels
 
 -- Converting twice equals converting once.
@@ -149,6 +148,6 @@ twice l = unchanged-whole (turned_of l) (turned_none l) (turned-end l)
 
 -- The second time nothing is counted, nothing is refused, and the same room is enough.
 pub twice-converted : (l : List ℕ) (room : ℕ) → length (turned_of l) ≤ room
-    → converted_of (turned_of l) room ≡ record { refusal = 0; written = length (turned_of l); count = 0 }
+    → converted_of (turned_of l) room ≡ record { refusal = Nothing; written = length (turned_of l); count = 0 }
 unfolding converted_of
 twice-converted l room h = simp (twice l, turned-end l, none-counted (capture_of (turned_of l)) first_levels (turned_none l), le-ltb room (length (turned_of l)) h)

@@ -9,15 +9,15 @@ use lib.Seq.{get_or-drop}
 use lib.Dec.{eqb}
 use borrow.Author.Tests.{eqb-true}
 use Rattle.item_spec.specs.Items.{refusal_of}
-use Rattle.item_spec.specs.Ranged.{is_retired}
+use Rattle.item_spec.specs.Ranged.{is_retired, line_record, sense_record}
 use Rattle.item_spec.specs.Kinds.{is_kind, decoded_of}
-use Rattle.item_spec.proofs.KindLaws.{kind-line, kind-sense, line-through, nine-through}
+use Rattle.item_spec.proofs.KindLaws.{kind-line, kind-sense, refusal-one, line-through, nine-through}
 use Rattle.capture_spec.specs.Capture.{body_of, retired_of, line0_of}
 
 -- an IN that is let through has eight bytes, and a level
 pub line-long : (r : List ℕ) → is_kind (body_of r) (73 ∷ 78 ∷ []) ≡ true → refusal_of (decoded_of (body_of r)) ≡ 0 → (length r ≡ 8) × (get_or r 7 0 ≤ 1)
 line-long r k h =
-    let l = line-through (body_of r) (ap refusal_of (sym (kind-line (body_of r) k)) ∙ h) in
+    let l = line-through (body_of r) (sym (refusal-one (line_record (body_of r))) ∙ ap refusal_of (sym (kind-line (body_of r) k)) ∙ h) in
     let n : length (drop 2 r) ≡ 6 = l.0 in
     let v : get_or (drop 2 r) 5 0 ≤ 1 = l.1 in
     (omega (arith, n, length-drop 2 r), rw (← get_or-drop 2 r 5 0) v)
@@ -31,7 +31,7 @@ retired-through r = go (is_kind (body_of r) (83 ∷ 78 ∷ [])) (eqb (refusal_of
     go : (k t : Bool) → is_kind (body_of r) (83 ∷ 78 ∷ []) ≡ k → eqb (refusal_of (decoded_of (body_of r))) 9 ≡ t → cond k t false ≡ true
         → (k ≡ true) × (length r ≡ 9) × (get_or r 6 0 ≤ 1) × (is_retired (get_or r 7 0) ≡ true) × (get_or r 8 0 ≤ 1)
     go true true q p h =
-        let n = nine-through (body_of r) (ap refusal_of (sym (kind-sense (body_of r) q)) ∙ eqb-true _ _ p) in
+        let n = nine-through (body_of r) (sym (refusal-one (sense_record (body_of r))) ∙ ap refusal_of (sym (kind-sense (body_of r) q)) ∙ eqb-true _ _ p) in
         let l : length (drop 2 r) ≡ 7 = n.0 in (
           refl,
           omega (arith, l, length-drop 2 r),

@@ -3,6 +3,8 @@ use Prim.Native.Nat.{ℕ}
 use mathlib.Core.Path.{◌≡◌, refl}
 use mathlib.Core.Bool.{Bool, true, false}
 use mathlib.Core.List.{List, [], ◌∷◌, ◌++◌}
+use Rattle.std.specs.Prelude.{Some, None}
+use Rattle.refusal.specs.declared.Refusal.TheVariants.{CutRecord, NoRoom}
 use Rattle.octets.specs.Octets.{le16_of, le32_of}
 use Rattle.item_spec.specs.Record.{frame_of}
 use Rattle.item_spec.specs.Addresses.{place_from, found_of}
@@ -36,10 +38,10 @@ told =
 pub record Samples : Type 0 where
   pub turned : turned_of story ≡ told
   -- four of the six are without a DI
-  pub converted : converted_of story 100 ≡ record { refusal = 0; written = 76; count = 4 }
+  pub converted : converted_of story 100 ≡ record { refusal = None; written = 76; count = 4 }
   -- the room is judged exactly
-  pub exact : converted_of story 76 ≡ record { refusal = 0; written = 76; count = 4 }
-  pub short : converted_of story 75 ≡ record { refusal = 6; written = 0; count = 0 }
+  pub exact : converted_of story 76 ≡ record { refusal = None; written = 76; count = 4 }
+  pub short : converted_of story 75 ≡ record { refusal = Some NoRoom; written = 0; count = 0 }
   -- no SN on 3 and 12 before: not locked, double-sided; line 0 at 1; the first removal is no change
   pub plain : turned_of (sn 4 3 0 1 1 ++ sn 6 5 0 1 0) ≡ line 4 3 0 1 ++ line 6 5 0 1 ++ disk 0 1 0 1
   -- register 3 back at 1, and 12 at 0 on the other drive
@@ -54,13 +56,13 @@ pub record Samples : Type 0 where
   -- an IN on line 1, and one on line 0 with level 2, do not count for line 0
   pub lines : turned_of (line 0 0 1 0 ++ line 0 0 0 2 ++ sn 0 0 0 0 0) ≡ line 0 0 1 0 ++ line 0 0 0 2 ++ line 0 0 0 1
   -- a cut record ends the work, and too little room before it wins
-  pub cut : converted_of (sn 1 0 0 0 0 ++ (9 ∷ 0 ∷ 87 ∷ [])) 8 ≡ record { refusal = 1; written = 8; count = 1 }
-  pub cut_short : converted_of (sn 1 0 0 0 0 ++ (9 ∷ 0 ∷ 87 ∷ [])) 7 ≡ record { refusal = 6; written = 0; count = 0 }
+  pub cut : converted_of (sn 1 0 0 0 0 ++ (9 ∷ 0 ∷ 87 ∷ [])) 8 ≡ record { refusal = Some CutRecord; written = 8; count = 1 }
+  pub cut_short : converted_of (sn 1 0 0 0 0 ++ (9 ∷ 0 ∷ 87 ∷ [])) 7 ≡ record { refusal = Some NoRoom; written = 0; count = 0 }
   pub cut_left : left_of (capture_of (sn 1 0 0 0 0 ++ (9 ∷ 0 ∷ 87 ∷ []))) ≡ 9 ∷ 0 ∷ 87 ∷ []
   -- bytes past those written, and all of them on 6
   pub past : output_of (sn 1 2 0 0 0) (31 ∷ 32 ∷ 33 ∷ 34 ∷ 35 ∷ 36 ∷ 37 ∷ 38 ∷ 39 ∷ []) ≡ line 1 2 0 1 ++ (39 ∷ [])
   pub kept : output_of (sn 1 2 0 0 0) (31 ∷ 32 ∷ 33 ∷ 34 ∷ 35 ∷ 36 ∷ 37 ∷ []) ≡ 31 ∷ 32 ∷ 33 ∷ 34 ∷ 35 ∷ 36 ∷ 37 ∷ []
-  pub empty : converted_of [] 0 ≡ record { refusal = 0; written = 0; count = 0 }
+  pub empty : converted_of [] 0 ≡ record { refusal = None; written = 0; count = 0 }
   -- VIA ticks: 9 + 513 + 1027 + 1541 + 2055 + 1797 + 258, before and after; unconverted, after W-214, only those of the IN
   pub before : ticks refusal_before (λ n. false) 0 (capture_of story) ≡ 7200
   pub after : ticks refusal_after (λ n. true) 0 (capture_of told) ≡ 7200

@@ -8,8 +8,7 @@ use native.Mathlib.Nat.{le_of_eq}
 use lib.ListN.{length, take, drop, length-drop}
 use lib.Seq.{take_all}
 use Rattle.item_spec.specs.Record.{frame_of}
-use Rattle.item_spec.specs.declared.Framed.{Framed}
-use Rattle.item_spec.specs.declared.Framed.TheVariants.{Whole, Cut}
+use Rattle.std.specs.Prelude.{Some, None}
 use Rattle.item_spec.proofs.RecordLaws.{whole-fits}
 use Rattle.capture_spec.specs.declared.Levels.{Levels}
 use Rattle.capture_spec.specs.Capture.{Capture, row, end, cut, framed, capture_from, capture_of, retired_of}
@@ -30,13 +29,13 @@ capture-end [] h = refl
 capture-end (x ∷ xs) h = absurd (omega arith)
 
 -- a record refused with 1
-pub capture-cut : (l : List ℕ) → 0 < length l → frame_of l ≡ Cut → capture_of l ≡ cut l
+pub capture-cut : (l : List ℕ) → 0 < length l → frame_of l ≡ None → capture_of l ≡ cut l
 unfolding capture_from
 capture-cut [] h e = absurd (omega arith)
 capture-cut (x ∷ xs) h e = ap (λ f. framed f (x ∷ xs) (λ k. capture_from k xs)) e
 
 -- a whole record
-pub capture-row : (l : List ℕ) (n : ℕ) → frame_of l ≡ Whole n → capture_of l ≡ row (take n l) (capture_of (drop n l))
+pub capture-row : (l : List ℕ) (n : ℕ) → frame_of l ≡ Some n → capture_of l ≡ row (take n l) (capture_of (drop n l))
 unfolding capture_from
 capture-row [] n e = let h = whole-fits [] n e in absurd (omega arith)
 capture-row (x ∷ xs) zero e = let h = whole-fits (x ∷ xs) 0 e in absurd (omega arith)
@@ -48,7 +47,7 @@ capture-row (x ∷ xs) (suc n) e =
 pub rest_of : (l : List ℕ) (n : ℕ) → take (length l - n) (drop n l) ≡ drop n l
 rest_of l n = take_all (length l - n) (drop n l) (le_of_eq (length-drop n l))
 
-pub capture-next : (l : List ℕ) (n : ℕ) → frame_of l ≡ Whole n → capture_of l ≡ row (take n l) (capture_of (take (length l - n) (drop n l)))
+pub capture-next : (l : List ℕ) (n : ℕ) → frame_of l ≡ Some n → capture_of l ≡ row (take n l) (capture_of (take (length l - n) (drop n l)))
 capture-next l n e = rw rest_of (capture-row l n e)
 
 -- what is counted is written

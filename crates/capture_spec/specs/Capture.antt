@@ -1,7 +1,5 @@
 -- A capture as its records: document 01, "Items and answers as bytes", and which of its records request W-214 speaks of.
-use Rattle.std.specs.Prelude.{ℕ, zero, suc, ◌-◌, Bool, false, cond, ◌≡◌, List, [], ◌∷◌, ◌++◌, get_or, take, drop, eqb}
-use Rattle.item_spec.specs.declared.Framed.{Framed}
-use Rattle.item_spec.specs.declared.Framed.TheVariants.{Whole, Cut}
+use Rattle.std.specs.Prelude.{ℕ, zero, suc, ◌-◌, Bool, false, cond, ◌≡◌, List, [], ◌∷◌, ◌++◌, Option, Some, None as Nothing, get_or, take, drop, eqb}
 use Rattle.item_spec.specs.Record.{frame_of}
 use Rattle.item_spec.specs.Items.{refusal_of}
 use Rattle.item_spec.specs.Kinds.{is_kind, decoded_of}
@@ -12,9 +10,9 @@ pub data Capture : Type 0 where
   end : Capture
   cut : List ℕ → Capture
 
-abbrev pub framed : Framed → List ℕ → (ℕ → Capture) → Capture
-framed (Whole n) l go = row (take n l) (go (n - 1))
-framed Cut l go = cut l
+abbrev pub framed : Option ℕ → List ℕ → (ℕ → Capture) → Capture
+framed (Some n) l go = row (take n l) (go (n - 1))
+framed Nothing l go = cut l
 
 -- The records after the first k bytes.
 unfoldable pub capture_from : ℕ → List ℕ → Capture

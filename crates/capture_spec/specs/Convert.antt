@@ -1,5 +1,8 @@
 -- A capture turned over: request W-214.
-use Rattle.std.specs.Prelude.{ℕ, ◌+◌, Bool, true, false, cond, List, [], ◌∷◌, ◌++◌, length, get_or, drop, ltb, eqb}
+use Rattle.std.specs.Prelude.{ℕ, ◌+◌, Bool, true, false, cond, List, [], ◌∷◌, ◌++◌, Option, Some, None, length, get_or, drop, ltb, eqb}
+use Rattle.refusal.specs.Numbers.{stop_of}
+use Rattle.refusal.specs.declared.Refusal.{Refusal}
+use Rattle.refusal.specs.declared.Refusal.TheVariants.{CutRecord, NoRoom}
 use Rattle.capture_spec.specs.declared.DriveLevels.{DriveLevels}
 use Rattle.capture_spec.specs.declared.Levels.{Levels}
 use Rattle.capture_spec.specs.declared.Converted.{Converted}
@@ -56,10 +59,10 @@ count_from m end = 0
 count_from m (cut l) = 0
 
 -- "refusal 1 and the count returned".
-unfoldable pub end_of : Capture → ℕ
+unfoldable pub end_of : Capture → Option Refusal
 end_of (row r c) = end_of c
-end_of end = 0
-end_of (cut l) = 1
+end_of end = None
+end_of (cut l) = Some CutRecord
 
 -- The capture turned over.
 unfoldable pub turned_of : List ℕ → List ℕ
@@ -69,8 +72,12 @@ turned_of l = turned_from first_levels (capture_of l)
 unfoldable pub converted_of : List ℕ → ℕ → Converted
 converted_of l room =
     cond (ltb room (length (turned_of l)))
-    (record { refusal = 6; written = 0; count = 0 })
+    (record { refusal = Some NoRoom; written = 0; count = 0 })
     (record { refusal = end_of (capture_of l); written = length (turned_of l); count = count_from first_levels (capture_of l) })
+
+-- "For an answer that is an enum, a definition gives this paper's number": the refusal's, 0 for none.
+abbrev pub refusal_number : Converted → ℕ
+refusal_number x = stop_of x.refusal
 
 -- The lent memory after it: bytes past those written keep their contents.
 unfoldable pub output_of : List ℕ → List ℕ → List ℕ

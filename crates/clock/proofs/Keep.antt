@@ -11,7 +11,7 @@ use Rattle.clock_spec.specs.Command.{bit_number}
 use Rattle.clock_spec.specs.Shared.{Written}
 use Rattle.clock_spec.specs.Patterns.{meant, extend}
 use Rattle.clock_spec.specs.Store.{unused_clear, act}
-use Rattle.clock_spec.specs.Phase.{edge_of, between, by_first, by_third, hear, with_byte, byte_phase, write_of, is_more, few_bits, more_follows, accepted_phase}
+use Rattle.clock_spec.specs.Phase.{edge_of, between, by_first, by_third, hear, with_byte, byte_phase, is_more, few_bits, more_follows, accepted_phase}
 use Rattle.clock.specs.Step.{next, acts, step_wires}
 use Rattle.clock_spec.specs.declared.Chip.{Chip}
 use Rattle.clock_spec.specs.declared.Command.{Command}

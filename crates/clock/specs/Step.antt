@@ -1,5 +1,5 @@
 -- The clock chip's state and its step, by document 01, "The clock's wires", and W-206. Which chip it is stands in its store.
-use Rattle.std.specs.Prelude.{Bool, cond, ℕ, ◌+◌, ◌*◌, eqb}
+use Rattle.std.specs.Prelude.{cond, ℕ, ◌+◌, ◌*◌, eqb}
 use Rattle.std.proofs.Math.Option.{Option, none}
 use Rattle.clock_spec.specs.Command.{bit_number}
 use Rattle.clock_spec.specs.Shared.{Event, Written}

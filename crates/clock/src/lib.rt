@@ -1,153 +1,109 @@
-// The clock chip: its phase and its store, fresh, and its step by the three wires.
+//! The clock chip: its phase and its store, fresh, and its step by the three wires.
 #![tactic(auto)]
 
 ghost use Rattle.std.specs.Prelude.{◌≡◌, true};
-ghost use Rattle.clock_spec.specs.Phase.{counts, few_bits, hear, accepted_phase};
+ghost use Rattle.clock_spec.specs.Phase.{few_bits, hear, accepted_phase};
 ghost use Rattle.clock.specs.Step.{with_phase, fresh_clock, after_byte, after_edge, step_wires};
 
-use clock_command::Engine;
+use clock_command::Lookup;
 use clock_spec::{Bytes, Chip, Edge, Phase, Store, Verdict, Wires};
 
+/// The chip: where its transaction stands, and what it keeps.
 #[derive(Clone, Copy)]
 pub struct Clock {
     pub phase: Phase,
     pub store: Store,
 }
 
+/// A fresh chip: idle, and all that it keeps is 0.
 pub fn fresh(chip: Chip) -> Clock
     ensures { result ≡ fresh_clock chip }
 {
-    let s = Store {
-        chip: chip,
-        cells: [0; 256],
-        seconds: 0,
-        protect: false,
-        test: 0,
-    };
     Clock {
         phase: Phase::Idle,
-        store: s,
+        store: Store {
+            chip,
+            cells: [0; 256],
+            seconds: 0,
+            protect: false,
+            test: 0,
+        },
     }
 }
 
 impl Clock {
     // The last bit of a byte.
     #[tactic(auto, unfolding(clock_spec::specs::Store::act))]
-    fn hear(self, engine: Engine, bytes: Bytes, b: u8) -> Clock
-        ensures { result ≡ after_byte self.store bytes b (hear self.store.chip bytes b) }
+    fn hear<L: Lookup>(&mut self, bytes: Bytes, byte: u8)
+        ensures { self.new ≡ after_byte self.old.store bytes byte (hear self.old.store.chip bytes byte) }
     {
-        let s = self.store;
-        let chip = s.chip;
-        match clock_command::hear(engine, chip, bytes, b) {
-            Verdict::More => {
-                let more = clock_phase::with_byte(bytes, b);
-                Clock {
-                    phase: Phase::Listening {
-                        bytes: more,
-                        count: 0,
-                        bits: 0,
-                    },
-                    store: s,
-                }
-            }
-            Verdict::Reads(t) => {
-                let y = clock_store::fetch(s, t);
-                Clock {
-                    phase: Phase::Sending { byte: y, falls: 0 },
-                    store: s,
-                }
-            }
-            Verdict::Writes(t) => {
-                let u = clock_store::act(s, t, b);
-                Clock {
-                    phase: Phase::Ignoring,
-                    store: u,
-                }
-            }
-            Verdict::Ignored => Clock {
-                phase: Phase::Ignoring,
-                store: s,
+        self.phase = match clock_command::hear::<L>(self.store.chip, bytes, byte) {
+            Verdict::More => Phase::Listening {
+                bytes: clock_phase::with_byte(bytes, byte),
+                count: 0,
+                bits: 0,
             },
-        }
+            Verdict::Reads(target) => Phase::Sending {
+                byte: clock_store::fetch(&self.store, target),
+                falls: 0,
+            },
+            Verdict::Writes(target) => {
+                clock_store::act(&mut self.store, target, byte);
+                Phase::Ignoring
+            }
+            Verdict::Ignored => Phase::Ignoring,
+        };
     }
 
     // A rise while bits are taken.
     #[tactic(auto, unfolding(crate::specs::Step::after_edge, crate::specs::Step::next, crate::specs::Step::acts, clock_spec::specs::Store::act))]
-    fn take(self, engine: Engine, bytes: Bytes, n: u8, v: u8, b: bool) -> Clock
-        requires { few_bits n v ≡ true }
-        ensures { result ≡ after_edge (with_phase self (Phase.Listening bytes n v)) (Edge.Rise b) }
+    fn take<L: Lookup>(&mut self, bytes: Bytes, count: u8, bits: u8, bit: bool)
+        requires { few_bits count bits ≡ true }
+        ensures { self.new ≡ after_edge (with_phase self.old (Phase.Listening bytes count bits)) (Edge.Rise bit) }
     {
-        let w = clock_phase::pushed(v, b);
-        if n == 7 {
-            return self.hear(engine, bytes, w);
-        }
-        let s = self.store;
-        Clock {
-            phase: Phase::Listening {
-                bytes: bytes,
-                count: n + 1,
-                bits: w,
-            },
-            store: s,
+        let bits = clock_phase::pushed(bits, bit);
+        if count == 7 {
+            self.hear::<L>(bytes, bits);
+        } else {
+            self.phase = Phase::Listening {
+                bytes,
+                count: count + 1,
+                bits,
+            };
         }
     }
 
-    #[tactic(auto, unfolding(crate::specs::Step::after_edge, crate::specs::Step::next, crate::specs::Step::acts, clock_spec::specs::Store::act))]
-    fn rise(self, engine: Engine, b: bool) -> Clock
-        requires { counts self.phase ≡ true }
-        ensures { result ≡ after_edge self (Edge.Rise b) }
-    {
-        let p = self.phase;
-        match p {
-            Phase::Listening { bytes, count, bits } => self.take(engine, bytes, count, bits, b),
-            _ => self,
-        }
-    }
-
-    #[tactic(auto, unfolding(crate::specs::Step::after_edge, crate::specs::Step::next, crate::specs::Step::acts, clock_spec::specs::Store::act))]
-    fn fall(self) -> Clock
-        requires { counts self.phase ≡ true }
-        ensures { result ≡ after_edge self Edge.Fall }
-    {
-        let p = self.phase;
-        match p {
-            Phase::Sending { byte, falls } => {
-                let q = clock_phase::shift(byte, falls);
-                let s = self.store;
-                Clock { phase: q, store: s }
-            }
-            _ => self,
-        }
-    }
-
-    // The levels before an item and after it; the engine is how command bytes are looked up.
+    /// The chip looks at its wires: the levels before an item and after it. Cells are reached at the last bit of a byte alone.
     #[tactic(auto, unfolding(crate::specs::Step::step_wires, crate::specs::Step::after_edge, crate::specs::Step::next, crate::specs::Step::acts, clock_spec::specs::Store::act))]
-    pub fn step(self, engine: Engine, before: Wires, after: Wires) -> Clock
+    pub fn look<L: Lookup>(&mut self, before: Wires, after: Wires)
+        requires { accepted_phase self.old.store.chip self.old.phase before.enable ≡ true }
+        ensures { self.new ≡ step_wires self.old before after }
+    {
+        match (clock_phase::edge_between(before, after), self.phase) {
+            (Edge::Up, _) => self.phase = Phase::Idle,
+            (Edge::Starts, _) => {
+                self.phase = Phase::Listening {
+                    bytes: Bytes::Nothing,
+                    count: 0,
+                    bits: 0,
+                };
+            }
+            (Edge::Fall, Phase::Sending { byte, falls }) => {
+                self.phase = clock_phase::shift(byte, falls);
+            }
+            (Edge::Rise(bit), Phase::Listening { bytes, count, bits }) => {
+                self.take::<L>(bytes, count, bits, bit);
+            }
+            _ => (),
+        }
+    }
+
+    /// The same with the chip by value: the chip after an item that leaves its wires so.
+    pub fn step<L: Lookup>(mut self, before: Wires, after: Wires) -> Clock
         requires { accepted_phase self.store.chip self.phase before.enable ≡ true }
         ensures { result ≡ step_wires self before after }
     {
-        match clock_phase::edge_between(before, after) {
-            Edge::Up => {
-                let s = self.store;
-                Clock {
-                    phase: Phase::Idle,
-                    store: s,
-                }
-            }
-            Edge::Starts => {
-                let s = self.store;
-                Clock {
-                    phase: Phase::Listening {
-                        bytes: Bytes::Nothing,
-                        count: 0,
-                        bits: 0,
-                    },
-                    store: s,
-                }
-            }
-            Edge::Still => self,
-            Edge::Fall => self.fall(),
-            Edge::Rise(b) => self.rise(engine, b),
-        }
+        self.look::<L>(before, after);
+        self
     }
 }

@@ -4,7 +4,6 @@ use Rattle.std.specs.Int.Bits.{bit_and}
 use Rattle.clock_spec.specs.Command.{either}
 use Rattle.clock_spec.specs.declared.Chip.{Chip}
 use Rattle.clock_spec.specs.declared.Chip.TheVariants.{First, Later}
-use Rattle.clock_spec.specs.declared.Target.{Target}
 use Rattle.clock_spec.specs.declared.Target.TheVariants.{Seconds, Test, Protect, Cell}
 use Rattle.clock_spec.specs.declared.Command.{Command}
 use Rattle.clock_spec.specs.declared.Command.TheVariants.{Write, Read, Extended, Illegal}

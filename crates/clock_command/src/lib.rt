@@ -1,4 +1,4 @@
-// The clock chip's commands: what a byte asks by its bit pattern, and what the whole bytes of a transaction come to.
+//! The clock chip's commands: what a byte asks by its bit pattern, and what the whole bytes of a transaction come to.
 #![tactic(auto)]
 
 ghost use Rattle.std.specs.Prelude.{◌≡◌, ◌<◌};
@@ -10,12 +10,14 @@ ghost use Rattle.clock_command.specs.Table.{entry_of};
 
 use clock_spec::{Bytes, Chip, Command, Target, Verdict};
 
-// The cells of the first chip, and of the later one, for which every store has room.
+/// The cells of the first chip.
 pub const FIRST_CELLS: usize = 20;
 
+/// The cells of the later chip, for which every store has room.
 pub const ALL_CELLS: usize = 256;
 
-// The number of cells that a chip has.
+/// The number of cells that a chip has.
+// What this shares with `image_layout::tail_length` is the match alone: one function over both constants is no plainer.
 pub fn cell_count(chip: Chip) -> usize
     ensures { result ≡ cells_of chip }
 {
@@ -25,30 +27,28 @@ pub fn cell_count(chip: Chip) -> usize
     }
 }
 
-fn is_later(chip: Chip) -> bool
-    ensures { result ≡ is_later chip }
-{
-    match chip {
-        Chip::First => false,
-        Chip::Later => true,
-    }
+/// How a command's first byte is looked up. Every way has one contract, which names none of them.
+pub trait Lookup {
+    /// What a command's first byte asks of a chip.
+    fn decoded(chip: Chip, byte: u8) -> Command
+        ensures { result ≡ meant chip byte };
 }
 
-fn either_way(z: bool, t: Target) -> Command
-    ensures { result ≡ either z t }
+/// A first byte is looked up in the table.
+pub struct Table;
+
+/// A first byte is held against the patterns, one after the other.
+pub struct Patterns;
+
+// "z=1 for read."
+fn either_way(read: bool, target: Target) -> Command
+    ensures { result ≡ either read target }
 {
-    if z {
-        Command::Read(t)
+    if read {
+        Command::Read(target)
     } else {
-        Command::Write(t)
+        Command::Write(target)
     }
-}
-
-// How a first byte is looked up: by the table, or by the patterns one after the other. Both have one contract, which names neither.
-#[derive(Clone, Copy)]
-pub enum Engine {
-    Table,
-    Patterns,
 }
 
 // The 256 first bytes, $00 to $0F in the first row. An entry has z in bit 7, a kind in bits 6 and 5, a number in bits 4 to 0. Kind 1 is a seconds byte, 2 a cell,
@@ -74,155 +74,130 @@ const COMMANDS: [u8; 256] = *b"\
 
 // What an entry of the table says to a chip.
 #[tactic(auto, unfolding(crate::specs::Table::entry_of))]
-fn entry_meaning(chip: Chip, e: u8) -> Command
-    ensures { result ≡ entry_of chip e }
+fn entry_meaning(chip: Chip, entry: u8) -> Command
+    ensures { result ≡ entry_of chip entry }
 {
-    let kind = e / 32 % 4;
-    if kind == 1 {
-        return either_way(128 <= e, Target::Seconds(e % 32));
+    let read = 128 <= entry;
+    let number = entry % 32;
+    match entry / 32 % 4 {
+        1 => either_way(read, Target::Seconds(number)),
+        2 => either_way(read, Target::Cell(number)),
+        3 if chip == Chip::Later => Command::Extended { read, high: number },
+        _ => match entry {
+            1 => Command::Write(Target::Test),
+            2 => Command::Write(Target::Protect),
+            _ => Command::Illegal,
+        },
     }
-    if kind == 2 {
-        return either_way(128 <= e, Target::Cell(e % 32));
-    }
-    if is_later(chip) & (kind == 3) {
-        return Command::Extended {
-            read: 128 <= e,
-            high: e % 32,
-        };
-    }
-    if e == 1 {
-        return Command::Write(Target::Test);
-    }
-    if e == 2 {
-        return Command::Write(Target::Protect);
-    }
-    Command::Illegal
 }
 
-// The first byte by the table.
-fn by_table(chip: Chip, c: u8) -> Command
-    ensures { result ≡ meant chip c }
-{
-    entry_meaning(chip, COMMANDS[c as usize])
+impl Lookup for Table {
+    fn decoded(chip: Chip, byte: u8) -> Command {
+        entry_meaning(chip, COMMANDS[byte as usize])
+    }
 }
 
 // A command of one byte by document 01's patterns, in its order.
 #[tactic(auto, unfolding(crate::specs::Decode::short_of))]
-fn short_command(c: u8) -> Command
-    ensures { result ≡ short_of c }
+fn short_command(byte: u8) -> Command
+    ensures { result ≡ short_of byte }
 {
-    // z000aa01
-    if c & 0x73 == 0x01 {
-        return either_way(128 <= c, Target::Seconds(c / 4 % 4));
+    let read = 128 <= byte;
+    if byte & 0x73 == 0x01 {
+        // z000aa01
+        either_way(read, Target::Seconds(byte / 4 % 4))
+    } else if byte == 0x31 {
+        // 00110001
+        Command::Write(Target::Test)
+    } else if byte == 0x35 {
+        // 00110101
+        Command::Write(Target::Protect)
+    } else if byte & 0x73 == 0x21 {
+        // z010aa01
+        either_way(read, Target::Cell(16 + byte / 4 % 4))
+    } else if byte & 0x43 == 0x41 {
+        // z1aaaa01
+        either_way(read, Target::Cell(byte / 4 % 16))
+    } else {
+        Command::Illegal
     }
-    // 00110001
-    if c == 0x31 {
-        return Command::Write(Target::Test);
-    }
-    // 00110101
-    if c == 0x35 {
-        return Command::Write(Target::Protect);
-    }
-    // z010aa01
-    if c & 0x73 == 0x21 {
-        return either_way(128 <= c, Target::Cell(16 + c / 4 % 4));
-    }
-    // z1aaaa01
-    if c & 0x43 == 0x41 {
-        return either_way(128 <= c, Target::Cell(c / 4 % 16));
-    }
-    Command::Illegal
 }
 
-// The first byte by the patterns: W-206's z0111abc on the later chip, then document 01's.
-fn by_patterns(chip: Chip, c: u8) -> Command
-    ensures { result ≡ meant chip c }
-{
-    if is_later(chip) & (c & 0x78 == 0x38) {
-        return Command::Extended {
-            read: 128 <= c,
-            high: c % 8,
-        };
-    }
-    short_command(c)
-}
-
-// What a command's first byte asks of a chip.
-pub fn decoded(engine: Engine, chip: Chip, c: u8) -> Command
-    ensures { result ≡ meant chip c }
-{
-    match engine {
-        Engine::Table => by_table(chip, c),
-        Engine::Patterns => by_patterns(chip, c),
+// W-206's z0111abc on the later chip, then document 01's patterns.
+impl Lookup for Patterns {
+    fn decoded(chip: Chip, byte: u8) -> Command {
+        if chip == Chip::Later && byte & 0x78 == 0x38 {
+            Command::Extended {
+                read: 128 <= byte,
+                high: byte % 8,
+            }
+        } else {
+            short_command(byte)
+        }
     }
 }
 
 // What a second byte makes of the first one's z and abc.
-fn second(read: bool, high: u8, d: u8) -> Command
+fn second(read: bool, high: u8, byte: u8) -> Command
     requires { high < 8 }
-    ensures { result ≡ second_meant read high d }
+    ensures { result ≡ second_meant read high byte }
 {
-    if (d < 128) & (d % 4 == 0) {
-        return either_way(read, Target::Cell(32 * high + d / 4));
+    if byte < 128 && byte % 4 == 0 {
+        either_way(read, Target::Cell(32 * high + byte / 4))
+    } else {
+        Command::Illegal
     }
-    Command::Illegal
 }
 
 // The command that a first byte and a second one make.
-fn extended(c: Command, d: u8) -> Command
-    requires { HighInRange c }
-    ensures { result ≡ extend c d }
+fn extended(first: Command, byte: u8) -> Command
+    requires { HighInRange first }
+    ensures { result ≡ extend first byte }
 {
-    match c {
-        Command::Write(_) => Command::Illegal,
-        Command::Read(_) => Command::Illegal,
-        Command::Extended { read, high } => second(read, high, d),
-        Command::Illegal => Command::Illegal,
+    match first {
+        Command::Extended { read, high } => second(read, high, byte),
+        Command::Write(_) | Command::Read(_) | Command::Illegal => Command::Illegal,
     }
 }
 
-fn by_first(c: Command) -> Verdict
-    ensures { result ≡ by_first c }
+fn by_first(command: Command) -> Verdict
+    ensures { result ≡ by_first command }
 {
-    match c {
-        Command::Write(_) => Verdict::More,
-        Command::Read(t) => Verdict::Reads(t),
-        Command::Extended { read: _, high: _ } => Verdict::More,
+    match command {
+        Command::Write(_) | Command::Extended { .. } => Verdict::More,
+        Command::Read(target) => Verdict::Reads(target),
         Command::Illegal => Verdict::Ignored,
     }
 }
 
-fn by_second(c: Command, b: u8) -> Verdict
-    requires { HighInRange c }
-    ensures { result ≡ by_second c b }
+fn by_second(command: Command, byte: u8) -> Verdict
+    requires { HighInRange command }
+    ensures { result ≡ by_second command byte }
 {
-    match c {
-        Command::Write(t) => Verdict::Writes(t),
-        Command::Read(_) => Verdict::Ignored,
-        Command::Extended { read, high } => by_first(second(read, high, b)),
-        Command::Illegal => Verdict::Ignored,
+    match command {
+        Command::Write(target) => Verdict::Writes(target),
+        Command::Extended { .. } => by_first(extended(command, byte)),
+        Command::Read(_) | Command::Illegal => Verdict::Ignored,
     }
 }
 
-fn by_third(c: Command) -> Verdict
-    ensures { result ≡ by_third c }
+fn by_third(command: Command) -> Verdict
+    ensures { result ≡ by_third command }
 {
-    match c {
-        Command::Write(t) => Verdict::Writes(t),
-        Command::Read(_) => Verdict::Ignored,
-        Command::Extended { read: _, high: _ } => Verdict::Ignored,
-        Command::Illegal => Verdict::Ignored,
+    match command {
+        Command::Write(target) => Verdict::Writes(target),
+        Command::Read(_) | Command::Extended { .. } | Command::Illegal => Verdict::Ignored,
     }
 }
 
-// What the byte b and the whole bytes before it come to.
+/// What the byte b and the whole bytes before it come to.
 #[tactic(auto, using(crate::proofs::Agrees::high), unfolding(clock_spec::specs::Phase::hear))]
-pub fn hear(engine: Engine, chip: Chip, bytes: Bytes, b: u8) -> Verdict
+pub fn hear<L: Lookup>(chip: Chip, bytes: Bytes, b: u8) -> Verdict
     ensures { result ≡ hear chip bytes b }
 {
     match bytes {
-        Bytes::Nothing => by_first(decoded(engine, chip, b)),
-        Bytes::One(c) => by_second(decoded(engine, chip, c), b),
-        Bytes::Two(c, d) => by_third(extended(decoded(engine, chip, c), d)),
+        Bytes::Nothing => by_first(L::decoded(chip, b)),
+        Bytes::One(c) => by_second(L::decoded(chip, c), b),
+        Bytes::Two(c, d) => by_third(extended(L::decoded(chip, c), d)),
     }
 }

@@ -1,99 +1,80 @@
-// Cells, seconds, protect and test of the clock chip: what reads and writes do to them.
+//! Cells, seconds, protect and test of the clock chip: what reads, writes and the passing of time do to them.
 #![tactic(auto)]
 
-ghost use Rattle.std.specs.Prelude.{◌≡◌, ◌≤◌, length, drop};
+ghost use Rattle.std.specs.Prelude.{◌≡◌};
 ghost use Rattle.std.proofs.Math.Option.{some};
-ghost use Rattle.levels.specs.Levels.{all_below};
 ghost use Rattle.clock_spec.specs.Command.{TargetInRange};
+ghost use Rattle.clock_spec.specs.Shared.{advance, stops};
 ghost use Rattle.clock_spec.specs.Writable.{writable};
-ghost use Rattle.clock_spec.specs.Store.{unused_clear, fetch, put, act};
+ghost use Rattle.clock_spec.specs.Store.{with_seconds, unused_clear, fetch, put, act};
 
 use clock_spec::{Store, Target};
 
-// The byte that a legal read takes.
+// `fetch`, `put` and `act` ask one thing, that the chip has the target: the contract of `put` holds of no seconds byte past the third, whose place is beyond 32 bits; a struct of
+// chip and target in one is no plainer, since the chip stands in the store.
+
+/// The byte that a legal read takes.
 #[tactic(auto, unfolding(clock_spec::specs::Store::fetch))]
-pub fn fetch(store: Store, t: Target) -> u8
-    requires { TargetInRange store.chip t }
-    ensures { result ≡ fetch t store }
+pub fn fetch(store: &Store, target: Target) -> u8
+    requires { TargetInRange store.now.chip target }
+    ensures { result ≡ fetch target store.now }
 {
-    match t {
+    match target {
         Target::Seconds(k) => octets::byte_at(store.seconds, k),
         Target::Test => store.test,
         Target::Protect => 0,
-        Target::Cell(i) => {
-            let k = i as usize;
-            store.cells[k]
-        }
+        Target::Cell(i) => store.cells[i as usize],
     }
 }
 
-// A byte put where it goes, whatever protect is.
+/// A byte put where it goes, whatever protect is.
 #[tactic(auto, unfolding(clock_spec::specs::Store::put))]
-pub fn put(store: Store, t: Target, b: u8) -> Store
-    requires { TargetInRange store.chip t }
-    ensures { result ≡ put t b store }
+pub fn put(store: &mut Store, target: Target, byte: u8)
+    requires { TargetInRange store.old.chip target }
+    ensures { store.new ≡ put target byte store.old }
 {
-    let mut s = store;
-    match t {
-        Target::Seconds(k) => {
-            let n = octets::replaced(s.seconds, k, b);
-            s.seconds = n;
-            s
-        }
-        Target::Test => {
-            s.test = b;
-            s
-        }
-        Target::Protect => {
-            s.protect = 128 <= b;
-            s
-        }
-        Target::Cell(i) => {
-            let k = i as usize;
-            s.cells[k] = b;
-            s
-        }
+    match target {
+        Target::Seconds(k) => store.seconds = octets::replaced(store.seconds, k, byte),
+        Target::Test => store.test = byte,
+        Target::Protect => store.protect = 128 <= byte,
+        Target::Cell(i) => store.cells[i as usize] = byte,
     }
 }
 
 // Whether a write to the target may act while protect is so.
-fn may_write(t: Target, protect: bool) -> bool
-    ensures { result ≡ writable t protect }
+fn may_write(target: Target, protect: bool) -> bool
+    ensures { result ≡ writable target protect }
 {
-    match t {
-        Target::Seconds(_) => !protect,
-        Target::Test => !protect,
+    match target {
         Target::Protect => true,
-        Target::Cell(_) => !protect,
+        Target::Seconds(_) | Target::Test | Target::Cell(_) => !protect,
     }
 }
 
-// A complete write: it acts unless protect forbids it.
+/// A complete write: it acts unless protect forbids it.
 #[tactic(auto, unfolding(clock_spec::specs::Store::act))]
-pub fn act(store: Store, t: Target, b: u8) -> Store
-    requires { TargetInRange store.chip t }
-    ensures { result ≡ act (some (record { to = t; byte = b })) store }
+pub fn act(store: &mut Store, target: Target, byte: u8)
+    requires { TargetInRange store.old.chip target }
+    ensures { store.new ≡ act (some (record { to = target; byte = byte })) store.old }
 {
-    if may_write(t, store.protect) {
-        return put(store, t, b);
+    if may_write(target, store.protect) {
+        put(store, target, byte);
     }
-    store
 }
 
-// Whether the bytes from the nth on are 0.
-fn clear_from(cells: &[u8], n: usize) -> bool
-    requires { n ≤ length cells.now }
-    ensures { result ≡ all_below 1 (drop n cells.now) }
+/// The seconds grow by so many, modulo 2^32, unless bit 7 or bit 6 of the test byte stops them (W-204).
+pub fn add_seconds(store: &mut Store, seconds: u32)
+    ensures { store.new ≡ with_seconds store.old (advance (stops store.old.test) seconds store.old.seconds) }
 {
-    levels::all_below(&cells[n..], 1)
+    if store.test < 64 {
+        store.seconds = store.seconds.wrapping_add(seconds);
+    }
 }
 
-// Whether the cells that the chip does not have hold 0.
-pub fn unused_clear(store: Store) -> bool
-    ensures { result ≡ unused_clear store }
+/// Whether the cells that the chip does not have hold 0.
+#[tactic(auto, unfolding(clock_spec::specs::Store::unused_clear))]
+pub fn unused_clear(store: &Store) -> bool
+    ensures { result ≡ unused_clear store.now }
 {
-    let chip = store.chip;
-    let n = clock_command::cell_count(chip);
-    let cells = store.cells;
-    clear_from(&cells, n)
+    levels::all_below(&store.cells[clock_command::cell_count(store.chip)..], 1)
 }

@@ -1,11 +1,14 @@
 -- The machine drives its clock as the history's entries do; so demand 3 holds of every run, from every accepted machine and from the fresh one.
+use Rattle.std.specs.Prelude.{Option, Some, None, Result, Ok, Err, is_none}
+use Rattle.refusal.specs.declared.Refusal.{Refusal}
+use Rattle.refusal.specs.declared.Refusal.TheVariants.{NoRoom, NotAccepted}
 use mathlib.Core.Path.{◌≡◌, refl, sym, ap, subst, ◌∙◌}
 use mathlib.Core.Bool.{Bool, true, false, cond, ◌&&◌}
 use mathlib.Core.List.{List, [], ◌∷◌}
 use Prim.Native.Nat.{ℕ, ◌-◌, ◌^◌, ◌<◌}
 use native.Mathlib.Omega.{arith}
-use lib.Dec.{ltb, eqb}
-use lib.ListN.{length, get_or}
+use lib.Dec.{ltb}
+use lib.ListN.{length}
 use Rattle.units.specs.declared.WaitTicks.{WaitTicks}
 use Rattle.levels.specs.Levels.{all_below}
 use Rattle.via.specs.declared.Ports.{Ports}
@@ -26,7 +29,7 @@ use Rattle.disk_spec.specs.Drives.{accepted_drives}
 use Rattle.item_spec.specs.declared.Item.{Item}
 use Rattle.item_spec.specs.declared.Item.TheVariants.{ReadVia, ReadIwm, WriteVia, WriteIwm, Blank, Second, Line, Sense, Reset, Power, Disk, Pulse}
 use Rattle.item_spec.specs.declared.Decoded.{Decoded}
-use Rattle.item_spec.specs.declared.Decoded.TheVariants.{Done, Refused}
+use Rattle.item_spec.specs.declared.Decoded.TheVariants.{One}
 use Rattle.item_spec.specs.Many.{singles_of}
 use Rattle.item_spec.specs.Kinds.{decoded_of}
 use Rattle.machine_spec.specs.declared.Machine.{Machine}
@@ -40,7 +43,7 @@ use Rattle.machine_spec.proofs.MachineLaws.{parts}
 use Rattle.machine_spec.proofs.Drives.{disk-wires}
 use Rattle.machine_spec.proofs.Stages.{waited-wires}
 use Rattle.machine_spec.proofs.Step.{pulse-quiet}
-use Rattle.run_spec.specs.Turn.{refused_turn, done_turn, turn_by, turn_of}
+use Rattle.run_spec.specs.Turn.{turn_unless, turn_by, turn_of}
 use Rattle.run_spec.specs.Outcome.{Piece, whole, broken, pieces, halt, onto, on_piece, run_pieces, run_of}
 use Rattle.history.specs.History.{wires_at}
 use Rattle.history.specs.Start.{start_of, Accepted, fresh_start}
@@ -117,28 +120,28 @@ items-wires (i ∷ is) m =
 
 -- An item, done or refused by the state.
 item-is : (m : Machine) (s : List ℕ) (x : Item) → Accepted m.clock (wires m)
-    → (turn_by m s (Done x)).machine.clock ≡ step_clock (event_unless m x) m.clock (wires m) (wires (turn_by m s (Done x)).machine)
-item-is m s x ok = go (eqb (refuses_of m x) 0)
+    → (turn_by m s (Ok (One x))).machine.clock ≡ step_clock (event_unless m x) m.clock (wires m) (wires (turn_by m s (Ok (One x))).machine)
+item-is m s x ok = go (refuses_of m x)
   where
-    turn : Bool → Machine
-    turn t = (cond t (done_turn (step_of m x)) (refused_turn m (refuses_of m x))).machine
+    turn : Option Refusal → Machine
+    turn o = (turn_unless m x o).machine
 
-    go : (t : Bool) → (turn t).clock ≡ step_clock (cond t (event_of x) quiet) m.clock (wires m) (wires (turn t))
-    go true = done-is m x
-    go false = refused-is m ok
+    go : (o : Option Refusal) → (turn o).clock ≡ step_clock (cond (is_none o) (event_of x) quiet) m.clock (wires m) (wires (turn o))
+    go None = done-is m x
+    go (Some r) = refused-is m ok
 
-turn-clock : (m : Machine) (s : List ℕ) (d : Decoded) → Accepted m.clock (wires m)
+turn-clock : (m : Machine) (s : List ℕ) (d : Result Decoded Refusal) → Accepted m.clock (wires m)
     → (turn_by m s d).machine.clock ≡ clock_after m.clock (wires m) (entries_by m s d)
 unfolding clock_after wires_at
-turn-clock m s (Done x) ok = item-is m s x ok
-turn-clock m s (Decoded.Many x) ok = items-clock (singles_of x s) m
-turn-clock m s (Refused n) ok = refused-is m ok
+turn-clock m s (Ok (One x)) ok = item-is m s x ok
+turn-clock m s (Ok (Decoded.Many x)) ok = items-clock (singles_of x s) m
+turn-clock m s (Err r) ok = refused-is m ok
 
-turn-wires : (m : Machine) (s : List ℕ) (d : Decoded) → wires (turn_by m s d).machine ≡ wires_at (start_of m.clock (wires m)) (entries_by m s d)
+turn-wires : (m : Machine) (s : List ℕ) (d : Result Decoded Refusal) → wires (turn_by m s d).machine ≡ wires_at (start_of m.clock (wires m)) (entries_by m s d)
 unfolding wires_at
-turn-wires m s (Done x) = refl
-turn-wires m s (Decoded.Many x) = items-wires (singles_of x s) m
-turn-wires m s (Refused n) = refl
+turn-wires m s (Ok (One x)) = refl
+turn-wires m s (Ok (Decoded.Many x)) = items-wires (singles_of x s) m
+turn-wires m s (Err r) = refl
 
 met-clock : (p : Piece) (m : Machine) → Accepted m.clock (wires m) → (after_piece p m).clock ≡ clock_after m.clock (wires m) (trace_of p m)
 unfolding turn_of clock_after wires_at
@@ -164,7 +167,7 @@ ran-pieces m before (broken ∷ ps) room = go (ltb room 8)
     M : Machine
     M = state_after after_piece m before
 
-    go : (t : Bool) → (cond t (halt M 6) (on_piece M broken (λ m₁. run_pieces m₁ ps (room - 8)))).machine ≡ state_after after_piece m (cond t before (broken ∷ before))
+    go : (t : Bool) → (cond t (halt M (Some NoRoom)) (on_piece M broken (λ m₁. run_pieces m₁ ps (room - 8)))).machine ≡ state_after after_piece m (cond t before (broken ∷ before))
     go true = refl
     go false = refl
 ran-pieces m before (whole s ∷ ps) room = go (ran-pieces m (whole s ∷ before) ps (room - 8)) (ltb room 8)
@@ -173,14 +176,14 @@ ran-pieces m before (whole s ∷ ps) room = go (ran-pieces m (whole s ∷ before
     M = state_after after_piece m before
 
     go : (run_pieces (turn_of M s).machine ps (room - 8)).machine ≡ state_after after_piece m (answered_after (whole s ∷ before) ps (room - 8)) → (t : Bool)
-        → (cond t (halt M 6) (on_piece M (whole s) (λ m₁. run_pieces m₁ ps (room - 8)))).machine ≡ state_after after_piece m (cond t before (answered_after (whole s ∷ before) ps (room - 8)))
+        → (cond t (halt M (Some NoRoom)) (on_piece M (whole s) (λ m₁. run_pieces m₁ ps (room - 8)))).machine ≡ state_after after_piece m (cond t before (answered_after (whole s ∷ before) ps (room - 8)))
     go q true = refl
     go q false = q
 
 -- What a run hands back is the state after the pieces answered.
 pub ran-is : (m : Machine) → accepted_of m ≡ true → (list : List ℕ) (room : ℕ) → (run_of m list room).machine ≡ state_after after_piece m (answered_pieces list room)
 unfolding run_of state_after
-ran-is m a list room = ap (λ (t : Bool). (cond t (run_pieces m (pieces list) room) (halt m 7)).machine) a ∙ ran-pieces m [] (pieces list) room
+ran-is m a list room = ap (λ (t : Bool). (cond t (run_pieces m (pieces list) room) (halt m (Some NotAccepted))).machine) a ∙ ran-pieces m [] (pieces list) room
 
 -- ---- demand 3
 

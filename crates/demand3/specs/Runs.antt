@@ -1,10 +1,12 @@
 -- Demand 3 of a run over a list of bytes: "every list of bytes, every answer room".
-use Rattle.std.specs.Prelude.{◌≡◌, cond, List, [], ◌∷◌, ◌++◌, ℕ, ◌-◌, ltb, eqb}
+use Rattle.std.specs.Prelude.{Result, Ok, Err, is_none}
+use Rattle.refusal.specs.declared.Refusal.{Refusal}
+use Rattle.std.specs.Prelude.{◌≡◌, cond, List, [], ◌∷◌, ◌++◌, ℕ, ◌-◌, ltb}
 use Rattle.clock_spec.specs.Shared.{Event, quiet}
 use Rattle.clock.specs.declared.Clock.{Clock}
 use Rattle.item_spec.specs.declared.Item.{Item}
 use Rattle.item_spec.specs.declared.Decoded.{Decoded}
-use Rattle.item_spec.specs.declared.Decoded.TheVariants.{Done, Refused}
+use Rattle.item_spec.specs.declared.Decoded.TheVariants.{One}
 use Rattle.item_spec.specs.Many.{singles_of}
 use Rattle.item_spec.specs.Kinds.{decoded_of}
 use Rattle.machine_spec.specs.declared.Machine.{Machine}
@@ -30,7 +32,7 @@ entry_of n e = record { wires = wires n; event = e }
 
 -- "An SE done adds 1 and a PW done its seconds off": an item that the state refuses has no event.
 abbrev pub event_unless : Machine → Item → Event
-event_unless m x = cond (eqb (refuses_of m x) 0) (event_of x) quiet
+event_unless m x = cond (is_none (refuses_of m x)) (event_of x) quiet
 
 -- The entries of items done one after the other, the newest first.
 unfoldable pub entries_of_items : Machine → List Item → List Entry
@@ -39,10 +41,10 @@ entries_of_items m (i ∷ is) = entries_of_items (after_item m i) is ++ (entry_o
 
 -- "An entry .. for each item answered", "unchanged by a refused one". W-211: "Each value counts as an item where the wires are compared, and their history has
 -- an entry for each."
-abbrev pub entries_by : Machine → List ℕ → Decoded → List Entry
-entries_by m s (Done x) = entry_of (turn_by m s (Done x)).machine (event_unless m x) ∷ []
-entries_by m s (Decoded.Many x) = entries_of_items m (singles_of x s)
-entries_by m s (Refused n) = entry_of m quiet ∷ []
+abbrev pub entries_by : Machine → List ℕ → Result Decoded Refusal → List Entry
+entries_by m s (Ok (One x)) = entry_of (turn_by m s (Ok (One x))).machine (event_unless m x) ∷ []
+entries_by m s (Ok (Decoded.Many x)) = entries_of_items m (singles_of x s)
+entries_by m s (Err r) = entry_of m quiet ∷ []
 
 abbrev pub trace_of : Piece → Machine → List Entry
 trace_of (whole s) m = entries_by m s (decoded_of s)

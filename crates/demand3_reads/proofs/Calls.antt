@@ -1,5 +1,6 @@
 -- The data line in a call of the C entry: the run's theorem, in the answer memory and in the image left.
-use mathlib.Core.Path.{◌≡◌, refl, sym, ap, subst, subst⁻¹, ◌∙◌}
+use Rattle.std.specs.Prelude.{Ok}
+use mathlib.Core.Path.{◌≡◌, ap, subst, subst⁻¹, ◌∙◌}
 use mathlib.Core.Bool.{Bool, true, false, cond}
 use mathlib.Core.List.{List, ◌∷◌, ◌++◌}
 use Prim.Native.Nat.{ℕ, ◌+◌, ◌*◌, ◌≤◌}
@@ -9,7 +10,7 @@ use Rattle.units.specs.declared.WaitTicks.{WaitTicks}
 use Rattle.octets.specs.Octets.{Bytes}
 use Rattle.via_bits.specs.Bytes.{bit}
 use Rattle.item_spec.specs.declared.Item.TheVariants.{ReadVia}
-use Rattle.item_spec.specs.declared.Decoded.TheVariants.{Done}
+use Rattle.item_spec.specs.declared.Decoded.TheVariants.{One}
 use Rattle.item_spec.specs.Kinds.{decoded_of}
 use Rattle.machine_spec.specs.declared.Machine.{Machine}
 use Rattle.machine_spec.specs.Pins.{pin}
@@ -17,7 +18,7 @@ use Rattle.machine_spec.specs.Machine.{wires}
 use Rattle.run_spec.specs.Outcome.{Piece, whole, Out, run_of, over}
 use Rattle.run_spec.proofs.Users.{answers-fit}
 use Rattle.image_spec.specs.Image.{machine_of, valid_image}
-use Rattle.image_spec.specs.Layout.{via_at, via_length, part}
+use Rattle.image_spec.specs.Layout.{via_at, via_length}
 use Rattle.image_spec.specs.ViaLayout.{via_of}
 use Rattle.image_spec.proofs.Round.{valid-is, image-typed}
 use Rattle.entry_spec.specs.Call.{call_of, call_answers}
@@ -61,7 +62,7 @@ module _ (i l d : List ℕ) (e : valid_image i ≡ true) (bi : Bytes i) (bl : By
       ap (λ (x : List ℕ). get_or x (8 * length is + 4) 0) memory
       ∙ get_or-append o.answers (drop (length o.answers) d) 0 (8 * length is + 4) (omega (arith, shows.long ls is p q))
 
-  seen : (ls is : List Piece) (s : List ℕ) (w : WaitTicks) → ls ++ (whole s ∷ is) ≡ answered_pieces l (length d) → decoded_of s ≡ Done (ReadVia w 0)
+  seen : (ls is : List Piece) (s : List ℕ) (w : WaitTicks) → ls ++ (whole s ∷ is) ≡ answered_pieces l (length d) → decoded_of s ≡ Ok (One (ReadVia w 0))
       → bit 0 (get_or (call_answers i l d) (8 * length is + 4) 0) ≡ line_after_pieces m is
   seen ls is s w q f = ap (bit 0) (stands ls is (whole s) q) ∙ shows.reads ls is s w q f
 

@@ -1,4 +1,5 @@
 -- From the chip to a machine: the data line of any machine that drives the chip, and of this one after any pieces of a list.
+use Rattle.std.specs.Prelude.{Ok}
 use mathlib.Core.Path.{◌≡◌, refl, ap, ◌∙◌}
 use mathlib.Core.Bool.{Bool, true, false}
 use mathlib.Core.List.{List}
@@ -16,7 +17,8 @@ use Rattle.clock_spec.specs.Phase.{shown_level}
 use Rattle.clock_spec.specs.declared.Wires.{Wires}
 use Rattle.clock.specs.declared.Clock.{Clock}
 use Rattle.item_spec.specs.declared.Item.TheVariants.{ReadVia}
-use Rattle.item_spec.specs.declared.Decoded.TheVariants.{Done}
+use Rattle.item_spec.specs.Record.{answer_value}
+use Rattle.item_spec.specs.declared.Decoded.TheVariants.{One}
 use Rattle.item_spec.specs.Kinds.{decoded_of}
 use Rattle.machine_spec.specs.declared.Machine.{Machine}
 use Rattle.machine_spec.specs.Pins.{pin, wires_of}
@@ -66,9 +68,9 @@ read-line m w l =
     ∙ port-bit 0 m.via.ports.outb m.via.ports.dirb i (omega arith) l
     ∙ ap (λ (x : Bool). pin m.via.ports.outb m.via.ports.dirb 1 x) (line-in (shown_level m.clock.phase) m.inputs)
 
-answer-line : (m : Machine) (s : List ℕ) (w : WaitTicks) → decoded_of s ≡ Done (ReadVia w 0) → (turn_of m s).answer.value ≡ (step_of m (ReadVia w 0)).value
+answer-line : (m : Machine) (s : List ℕ) (w : WaitTicks) → decoded_of s ≡ Ok (One (ReadVia w 0)) → answer_value (turn_of m s).answer ≡ (step_of m (ReadVia w 0)).value
 unfolding refuses_of answer_of
-answer-line m s w d = ap (λ (t : Turn). t.answer.value) (carried-out m s (ReadVia w 0) d refl)
+answer-line m s w d = ap (λ (t : Turn). answer_value t.answer) (carried-out m s (ReadVia w 0) d refl)
 
 -- ---- this machine
 

@@ -1,4 +1,7 @@
 -- The data line in a run over bytes, from every accepted machine.
+use Rattle.std.specs.Prelude.{Some, Result, Ok, Err}
+use Rattle.refusal.specs.declared.Refusal.{Refusal}
+use Rattle.refusal.specs.declared.Refusal.TheVariants.{CutRecord, NoRoom, NotAccepted}
 use mathlib.Core.Path.{◌≡◌, refl, sym, ap, subst, ◌∙◌}
 use mathlib.Core.Bool.{Bool, true, false, cond}
 use mathlib.Core.List.{List, [], ◌∷◌, ◌++◌, append_assoc, append-nil}
@@ -10,8 +13,8 @@ use Rattle.clock_spec.specs.declared.Chip.{Chip}
 use lib.Seq.{get_or-append-add}
 use Rattle.octets.specs.Octets.{Bytes}
 use Rattle.via_bits.specs.Bytes.{bit}
-use Rattle.item_spec.specs.declared.Answer.{Answer}
-use Rattle.item_spec.specs.Record.{answer_bytes, no_of}
+use Rattle.item_spec.specs.declared.Shown.{Shown}
+use Rattle.item_spec.specs.Record.{answer_bytes, answer_value}
 use Rattle.item_spec.proofs.RecordLaws.{answer-long}
 use Rattle.via.specs.Via.{fresh_via}
 use Rattle.machine_spec.specs.declared.Machine.{Machine}
@@ -29,9 +32,9 @@ use Rattle.demand3_reads.proofs.Widths.{Narrow, run-narrow}
 
 -- ---- the answers of a run, piece by piece
 
-abbrev answer_by : Piece → Machine → Answer
+abbrev answer_by : Piece → Machine → Result Shown Refusal
 answer_by (whole s) m = (turn_of m s).answer
-answer_by broken m = no_of 1
+answer_by broken m = Err CutRecord
 
 -- Their bytes; the newest piece is the first of its list, and its answer the last.
 unfoldable bytes_of_pieces : Machine → List Piece → List ℕ
@@ -47,7 +50,7 @@ ran-bytes m before (broken ∷ ps) room = go (ltb room 8)
     M : Machine
     M = machine_after_pieces m before
 
-    go : (t : Bool) → bytes_of_pieces m before ++ (cond t (halt M 6) (on_piece M broken (λ m₁. run_pieces m₁ ps (room - 8)))).answers ≡ bytes_of_pieces m (cond t before (broken ∷ before))
+    go : (t : Bool) → bytes_of_pieces m before ++ (cond t (halt M (Some NoRoom)) (on_piece M broken (λ m₁. run_pieces m₁ ps (room - 8)))).answers ≡ bytes_of_pieces m (cond t before (broken ∷ before))
     go true = append-nil (bytes_of_pieces m before)
     go false = refl
 ran-bytes m before (whole s ∷ ps) room = go (ran-bytes m (whole s ∷ before) ps (room - 8)) (ltb room 8)
@@ -59,36 +62,33 @@ ran-bytes m before (whole s ∷ ps) room = go (ran-bytes m (whole s ∷ before) 
     rest = (run_pieces (turn_of M s).machine ps (room - 8)).answers
 
     go : bytes_of_pieces m (whole s ∷ before) ++ rest ≡ bytes_of_pieces m (answered_after (whole s ∷ before) ps (room - 8)) → (t : Bool)
-        → bytes_of_pieces m before ++ (cond t (halt M 6) (on_piece M (whole s) (λ m₁. run_pieces m₁ ps (room - 8)))).answers ≡ bytes_of_pieces m (cond t before (answered_after (whole s ∷ before) ps (room - 8)))
+        → bytes_of_pieces m before ++ (cond t (halt M (Some NoRoom)) (on_piece M (whole s) (λ m₁. run_pieces m₁ ps (room - 8)))).answers ≡ bytes_of_pieces m (cond t before (answered_after (whole s ∷ before) ps (room - 8)))
     go q true = append-nil (bytes_of_pieces m before)
     go q false = sym (append_assoc (bytes_of_pieces m before) (answer_bytes (turn_of M s).answer) rest) ∙ q
 
 answers-met : (m : Machine) → accepted_of m ≡ true → (list : List ℕ) (room : ℕ) → (run_of m list room).answers ≡ bytes_of_pieces m (answered_pieces list room)
 unfolding run_of state_after bytes_of_pieces
-answers-met m a list room = ap (λ (t : Bool). (cond t (run_pieces m (pieces list) room) (halt m 7)).answers) a ∙ ran-bytes m [] (pieces list) room
+answers-met m a list room = ap (λ (t : Bool). (cond t (run_pieces m (pieces list) room) (halt m (Some NotAccepted))).answers) a ∙ ran-bytes m [] (pieces list) room
 
 bytes-long : (m : Machine) (is : List Piece) → length (bytes_of_pieces m is) ≡ 8 * length is
 unfolding bytes_of_pieces
 bytes-long m [] = refl
 bytes-long m (p ∷ is) =
-    let a : Answer = answer_by p (machine_after_pieces m is) in
+    let a : Result Shown Refusal = answer_by p (machine_after_pieces m is) in
     omega (arith, length-append (bytes_of_pieces m is) (answer_bytes a), answer-long a, bytes-long m is)
 
-value-byte : (x : Answer) → get_or (answer_bytes x) 4 0 ≡ x.value
+value-byte : (x : Result Shown Refusal) → get_or (answer_bytes x) 4 0 ≡ answer_value x
 unfolding answer_bytes
-value-byte x = go x.ok
-  where
-    go : (t : Bool) → get_or (cond t (6 ∷ 0 ∷ 79 ∷ 75 ∷ x.value ∷ x.level ∷ x.lines ∷ x.sel ∷ []) (6 ∷ 0 ∷ 78 ∷ 79 ∷ x.value ∷ 0 ∷ 0 ∷ 0 ∷ [])) 4 0 ≡ x.value
-    go true = refl
-    go false = refl
+value-byte (Ok x) = refl
+value-byte (Err r) = refl
 
 -- The fifth byte of the answer to the piece p after is.
 value-met : (m : Machine) (ls : List Piece) (p : Piece) (is : List Piece)
     → (8 * length is + 8 ≤ length (bytes_of_pieces m (ls ++ (p ∷ is))))
-    × (get_or (bytes_of_pieces m (ls ++ (p ∷ is))) (8 * length is + 4) 0 ≡ (answer_by p (machine_after_pieces m is)).value)
+    × (get_or (bytes_of_pieces m (ls ++ (p ∷ is))) (8 * length is + 4) 0 ≡ answer_value (answer_by p (machine_after_pieces m is)))
 unfolding bytes_of_pieces
 value-met m [] p is =
-    let a : Answer = answer_by p (machine_after_pieces m is) in (
+    let a : Result Shown Refusal = answer_by p (machine_after_pieces m is) in (
       omega (arith, length-append (bytes_of_pieces m is) (answer_bytes a), answer-long a, bytes-long m is),
       ap (λ (k : ℕ). get_or (bytes_of_pieces m is ++ answer_bytes a) (k + 4) 0) (sym (bytes-long m is)) ∙ get_or-append-add (bytes_of_pieces m is) (answer_bytes a) 4 0 ∙ value-byte a,
     )

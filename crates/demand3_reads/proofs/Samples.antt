@@ -2,7 +2,7 @@
 use mathlib.Core.Path.{refl}
 use Rattle.levels.specs.Levels.{all_below}
 use Rattle.octets.specs.Octets.{le16_of, le32_of, replace}
-use Rattle.item_spec.specs.Record.{frame_of, answer_bytes, no_of}
+use Rattle.item_spec.specs.Record.{frame_of, answer_bytes}
 use Rattle.via.specs.Via.{fresh_via, port_level, tick_of, ticks, raised_of, asking, level_of, accepted_via}
 use Rattle.via.specs.Writes.{via_written, ports_written}
 use Rattle.via.specs.Registers.{register_read}
@@ -33,7 +33,7 @@ use Rattle.demand3_reads.specs.Shown.{read_at, sent_at, shown_at}
 use Rattle.demand3_reads.specs.Samples.{ReadSamples}
 
 pub read_samples : ReadSamples
-unfolding run_of run_pieces on_piece onto pieces_from cut turn_of frame_of le16_of le32_of decoded_of is_kind read_record write_record plain_record power_record found_of place_from answer_bytes no_of
+unfolding run_of run_pieces on_piece onto pieces_from cut turn_of frame_of le16_of le32_of decoded_of is_kind read_record write_record plain_record power_record found_of place_from answer_bytes
     step_of answer_of item_wait event_of acted_of via_read refuses_of accepted_of accepted_drives accepted_drive accepted_strobe all_below lines_off with_level line_levels lines_of
     accepted_via fresh_via port_level tick_of ticks raised_of asking level_of via_written ports_written register_read wires_of sel_of inputs_of interrupt_level
     accepted_phase unused_clear shown_level step_wires between next acts act put hear meant second_meant fetch replace

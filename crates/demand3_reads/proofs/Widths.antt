@@ -1,6 +1,7 @@
 -- In a run over bytes the directions of port B stay a byte.
+use Rattle.std.specs.Prelude.{Option, Some, None, Result, Ok, Err}
+use Rattle.refusal.specs.declared.Refusal.{Refusal}
 use mathlib.Core.Path.{◌≡◌, refl, sym, subst}
-use mathlib.Core.Bool.{Bool, true, false, cond}
 use mathlib.Core.List.{List, [], ◌∷◌, ◌++◌}
 use Prim.Native.Nat.{ℕ, zero, suc, ◌-◌, ◌<◌}
 use native.Mathlib.Omega.{arith}
@@ -20,9 +21,7 @@ use Rattle.item_spec.specs.declared.Item.{Item}
 use Rattle.item_spec.specs.declared.Item.TheVariants.{ReadVia, ReadIwm, WriteVia, WriteIwm, Blank, Second, Line, Sense, Reset, Power, Disk, Pulse}
 use Rattle.item_spec.specs.declared.Many.{Many}
 use Rattle.item_spec.specs.declared.Decoded.{Decoded}
-use Rattle.item_spec.specs.declared.Decoded.TheVariants.{Done, Refused}
-use Rattle.item_spec.specs.declared.Framed.{Framed}
-use Rattle.item_spec.specs.declared.Framed.TheVariants.{Whole, Cut}
+use Rattle.item_spec.specs.declared.Decoded.TheVariants.{One}
 use Rattle.item_spec.specs.Items.{ItemInWidth}
 use Rattle.item_spec.specs.Many.{single, singles_after, values_of}
 use Rattle.item_spec.specs.Kinds.{decoded_of}
@@ -33,7 +32,7 @@ use Rattle.machine_spec.specs.Accesses.{via_read, iwm_read, keyboard_pulse}
 use Rattle.machine_spec.specs.Action.{acted_of}
 use Rattle.machine_spec.specs.Stages.{item_wait, after_wait, refuses_of}
 use Rattle.machine_spec.specs.Step.{step_of, after_items}
-use Rattle.run_spec.specs.Turn.{refused_turn, done_turn, turn_by, turn_of}
+use Rattle.run_spec.specs.Turn.{turn_unless, turn_by, turn_of}
 use Rattle.run_spec.specs.Outcome.{Piece, whole, broken, pieces, cut, pieces_from}
 use Rattle.history.specs.Items.{state_after}
 use Rattle.demand3.specs.Runs.{after_piece, answered_after, answered_pieces}
@@ -83,14 +82,14 @@ many-narrow x [] m w bs h l = l
 many-narrow x (v ∷ vs) m w bs h l =
     many-narrow x vs (step_of m (single x w v)).machine (for_ticks 0) (λ j. bs (suc j)) (omega arith) (step-narrow (single x w v) m (single-width x w v h (bs 0)) l)
 
-turn-narrow : (s : List ℕ) (m : Machine) (d : Decoded) → decoded_of s ≡ d → Bytes s → Narrow m → Narrow (turn_by m s d).machine
-turn-narrow s m (Refused n) q bs l = l
-turn-narrow s m (Decoded.Many x) q bs l = many-narrow x (values_of s) m x.wait (drop-bytes 9 s bs) (many-width s x bs q) l
-turn-narrow s m (Done x) q bs l = go (eqb (refuses_of m x) 0)
+turn-narrow : (s : List ℕ) (m : Machine) (d : Result Decoded Refusal) → decoded_of s ≡ d → Bytes s → Narrow m → Narrow (turn_by m s d).machine
+turn-narrow s m (Err r) q bs l = l
+turn-narrow s m (Ok (Decoded.Many x)) q bs l = many-narrow x (values_of s) m x.wait (drop-bytes 9 s bs) (many-width s x bs q) l
+turn-narrow s m (Ok (One x)) q bs l = go (refuses_of m x)
   where
-    go : (t : Bool) → Narrow (cond t (done_turn (step_of m x)) (refused_turn m (refuses_of m x))).machine
-    go true = step-narrow x m (decoded-width s x bs q) l
-    go false = l
+    go : (o : Option Refusal) → Narrow (turn_unless m x o).machine
+    go None = step-narrow x m (decoded-width s x bs q) l
+    go (Some r) = l
 
 -- ---- pieces of bytes
 
@@ -112,10 +111,10 @@ unfolding state_after
 after-narrow m l [] a = l
 after-narrow m l (i ∷ is) (b, a) = met-narrow i (machine_after_pieces m is) b (after-narrow m l is a)
 
-cut-bytes : (f : Framed) (s : List ℕ) (go : ℕ → List Piece) → Bytes s → ((k : ℕ) → All (go k)) → All (cut f s go)
+cut-bytes : (f : Option ℕ) (s : List ℕ) (go : ℕ → List Piece) → Bytes s → ((k : ℕ) → All (go k)) → All (cut f s go)
 unfolding cut
-cut-bytes (Whole n) s go bs g = (take-bytes (n - 2) (drop 2 s) (drop-bytes 2 s bs), g (n - 1))
-cut-bytes Cut s go bs g = (tt, tt)
+cut-bytes (Some n) s go bs g = (take-bytes (n - 2) (drop 2 s) (drop-bytes 2 s bs), g (n - 1))
+cut-bytes None s go bs g = (tt, tt)
 
 pieces-bytes : (l : List ℕ) → Bytes l → (k : ℕ) → All (pieces_from k l)
 unfolding pieces_from

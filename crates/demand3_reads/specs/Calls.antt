@@ -1,9 +1,10 @@
 -- What a bench reads in a call of the C entry, by the history from the image's state.
+use Rattle.std.specs.Prelude.{Ok}
 use Rattle.std.specs.Prelude.{◌≡◌, false, List, ◌∷◌, ◌++◌, ℕ, ◌+◌, ◌*◌, ◌≤◌, length, get_or}
 use Rattle.units.specs.declared.WaitTicks.{WaitTicks}
 use Rattle.via_bits.specs.Bytes.{bit}
 use Rattle.item_spec.specs.declared.Item.TheVariants.{ReadVia}
-use Rattle.item_spec.specs.declared.Decoded.TheVariants.{Done}
+use Rattle.item_spec.specs.declared.Decoded.TheVariants.{One}
 use Rattle.item_spec.specs.Kinds.{decoded_of}
 use Rattle.machine_spec.specs.Pins.{pin}
 use Rattle.machine_spec.specs.Machine.{wires}
@@ -21,9 +22,9 @@ pub record CallShows (i l d i' : List ℕ) : Type 0 where
   -- The answer to the piece p, after those to the pieces is, stands in the memory.
   pub long : (ls is : List Piece) (p : Piece) → ls ++ (p ∷ is) ≡ answered_pieces l (length d) → 8 * length is + 8 ≤ length d
   -- A RD of register 0 after the pieces is: bit 0 of its answer's fifth byte is PB0's level.
-  pub reads : (ls is : List Piece) (s : List ℕ) (w : WaitTicks) → ls ++ (whole s ∷ is) ≡ answered_pieces l (length d) → decoded_of s ≡ Done (ReadVia w 0)
+  pub reads : (ls is : List Piece) (s : List ℕ) (w : WaitTicks) → ls ++ (whole s ∷ is) ≡ answered_pieces l (length d) → decoded_of s ≡ Ok (One (ReadVia w 0))
       → bit 0 (get_or (call_answers i l d) (8 * length is + 4) 0) ≡ line_after_pieces (machine_of i) is
   -- And with PB0 an input it is the level that the chip gives the line, by the history of the pieces is.
-  pub input : (ls is : List Piece) (s : List ℕ) (w : WaitTicks) → ls ++ (whole s ∷ is) ≡ answered_pieces l (length d) → decoded_of s ≡ Done (ReadVia w 0)
+  pub input : (ls is : List Piece) (s : List ℕ) (w : WaitTicks) → ls ++ (whole s ∷ is) ≡ answered_pieces l (length d) → decoded_of s ≡ Ok (One (ReadVia w 0))
       → bit 0 (machine_after_pieces (machine_of i) is).via.ports.dirb ≡ false
       → bit 0 (get_or (call_answers i l d) (8 * length is + 4) 0) ≡ shown_after_pieces (machine_of i) is

@@ -1,11 +1,13 @@
 -- What a bench reads in a run over a list of bytes: the wire in the machine handed back, and bit 0 of the answer to each RD of port B, by the history of the
 -- items before it.
+use Rattle.std.specs.Prelude.{Ok}
 use Rattle.std.specs.Prelude.{◌≡◌, Bool, List, ◌∷◌, ◌++◌, ℕ, ◌+◌, ◌*◌, ◌≤◌, ◌<◌, length, get_or}
 use Rattle.units.specs.declared.WaitTicks.{WaitTicks}
 use Rattle.via_bits.specs.Bytes.{bit}
 use Rattle.clock_spec.specs.Phase.{shown_level}
+use Rattle.item_spec.specs.Record.{answer_value}
 use Rattle.item_spec.specs.declared.Item.TheVariants.{ReadVia}
-use Rattle.item_spec.specs.declared.Decoded.TheVariants.{Done}
+use Rattle.item_spec.specs.declared.Decoded.TheVariants.{One}
 use Rattle.item_spec.specs.Kinds.{decoded_of}
 use Rattle.machine_spec.specs.declared.Machine.{Machine}
 use Rattle.machine_spec.specs.Pins.{pin}
@@ -35,8 +37,8 @@ pub record Shows (m : Machine) (is : List Piece) : Type 0 where
   pub wire : (wires (machine_after_pieces m is)).dataline ≡ line_after_pieces m is
   -- A RD of register 0 there, after whatever wait, has it in bit 0; and the answer to its record.
   pub read : (w : WaitTicks) → (machine_after_pieces m is).via.ports.dirb < 256 → bit 0 (step_of (machine_after_pieces m is) (ReadVia w 0)).value ≡ line_after_pieces m is
-  pub answer : (s : List ℕ) (w : WaitTicks) → decoded_of s ≡ Done (ReadVia w 0) → (machine_after_pieces m is).via.ports.dirb < 256
-      → bit 0 (turn_of (machine_after_pieces m is) s).answer.value ≡ line_after_pieces m is
+  pub answer : (s : List ℕ) (w : WaitTicks) → decoded_of s ≡ Ok (One (ReadVia w 0)) → (machine_after_pieces m is).via.ports.dirb < 256
+      → bit 0 (answer_value (turn_of (machine_after_pieces m is) s).answer) ≡ line_after_pieces m is
 
 -- Of a run of the list from the machine m, with so much room, that comes out as o.
 pub record RunShows (m : Machine) (list : List ℕ) (room : ℕ) (o : Out) : Type 0 where
@@ -45,5 +47,5 @@ pub record RunShows (m : Machine) (list : List ℕ) (room : ℕ) (o : Out) : Typ
   -- The pieces is, then p, then ls: the answer to p has eight bytes, after those of the answers before it.
   pub long : (ls is : List Piece) (p : Piece) → ls ++ (p ∷ is) ≡ answered_pieces list room → 8 * length is + 8 ≤ length o.answers
   -- The pieces is, then a RD of register 0, then ls: the fifth byte of its answer is the value read.
-  pub reads : (ls is : List Piece) (s : List ℕ) (w : WaitTicks) → ls ++ (whole s ∷ is) ≡ answered_pieces list room → decoded_of s ≡ Done (ReadVia w 0)
+  pub reads : (ls is : List Piece) (s : List ℕ) (w : WaitTicks) → ls ++ (whole s ∷ is) ≡ answered_pieces list room → decoded_of s ≡ Ok (One (ReadVia w 0))
       → bit 0 (get_or o.answers (8 * length is + 4) 0) ≡ line_after_pieces m is

@@ -1,6 +1,8 @@
 -- W-208 of the C entry: two calls with one image whose sequences of touches agree.
+use Rattle.std.specs.Prelude.{Some}
+use Rattle.refusal.specs.declared.Refusal.TheVariants.{NotAccepted}
 use Prim.Native.Nat.{ℕ}
-use mathlib.Core.Path.{◌≡◌, refl, sym, ap, subst⁻¹}
+use mathlib.Core.Path.{◌≡◌, refl, subst⁻¹}
 use mathlib.Core.Bool.{Bool, true, false, cond}
 use mathlib.Core.List.{List}
 use Rattle.machine_spec.specs.declared.Machine.{Machine}
@@ -19,7 +21,7 @@ calls i a b room_a room_b q = go (valid_image i) refl
     m : Machine
     m = machine_of i
 
-    go : (t : Bool) → valid_image i ≡ t → SameClock (cond t (run_of m a room_a) (halt m 7)).machine.clock (cond t (run_of m b room_b) (halt m 7)).machine.clock
+    go : (t : Bool) → valid_image i ≡ t → SameClock (cond t (run_of m a room_a) (halt m (Some NotAccepted))).machine.clock (cond t (run_of m b room_b) (halt m (Some NotAccepted))).machine.clock
     go true e = same-clock m (valid-is i e).accepted a b room_a room_b q
     go false e = same m.clock m.clock refl
 

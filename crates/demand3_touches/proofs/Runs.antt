@@ -1,9 +1,10 @@
 -- W-208: two runs from one accepted machine, with either chip, whose sequences of touches agree end with the same clock.
+use Rattle.std.specs.Prelude.{Option, Some, None, Result, Ok, Err, is_none}
+use Rattle.refusal.specs.declared.Refusal.{Refusal}
 use Prim.Native.Nat.{ℕ, ◌<◌}
 use mathlib.Core.Path.{◌≡◌, refl, sym, ap, ap₂, ◌∙◌}
 use mathlib.Core.Bool.{Bool, true, false, cond}
 use mathlib.Core.List.{List, [], ◌∷◌, ◌++◌}
-use lib.Dec.{eqb}
 use Rattle.units.specs.declared.WaitTicks.{WaitTicks}
 use Rattle.units.specs.Units.{for_ticks}
 use Rattle.clock_spec.specs.declared.Chip.{Chip}
@@ -12,7 +13,8 @@ use Rattle.item_spec.specs.declared.Item.{Item}
 use Rattle.item_spec.specs.declared.Item.TheVariants.{ReadVia, ReadIwm, WriteVia, WriteIwm, Blank, Second, Line, Sense, Reset, Power, Disk, Pulse}
 use Rattle.item_spec.specs.declared.Many.{Many}
 use Rattle.item_spec.specs.declared.Decoded.{Decoded}
-use Rattle.item_spec.specs.declared.Decoded.TheVariants.{Done, Refused}
+use Rattle.item_spec.specs.declared.Decoded.TheVariants.{One}
+use Rattle.item_spec.specs.Items.{LocationInRange}
 use Rattle.item_spec.specs.Many.{single, singles_after, values_of}
 use Rattle.item_spec.specs.Kinds.{decoded_of}
 use Rattle.item_spec.proofs.ItemRange.{many-range, single-range}
@@ -22,21 +24,21 @@ use Rattle.machine_spec.specs.Stages.{refuses_of}
 use Rattle.machine_spec.specs.Step.{step_of, after_items}
 use Rattle.machine_spec.proofs.MachineLaws.{parts}
 use Rattle.machine_spec.proofs.Keeps.{step_keeps}
-use Rattle.run_spec.specs.Turn.{refused_turn, done_turn, turn_by, turn_of}
+use Rattle.run_spec.specs.Turn.{turn_unless, turn_by, turn_of}
 use Rattle.run_spec.specs.Outcome.{Piece, whole, broken, run_of}
 use Rattle.run_spec.proofs.Keeps.{turn-keeps}
 use Rattle.history.specs.Items.{state_after}
 use Rattle.demand3.specs.Runs.{after_piece, answered_pieces}
 use Rattle.demand3.proofs.Runs.{ran-is, fresh_ok}
 use Rattle.demand3_touches.specs.Touches.{Touch, touches_of, touches_of_items, touches_by, touches_at, touches_of_pieces, touches, SameClock, TouchedAlike}
-use Rattle.demand3_touches.proofs.Seen.{Seen, seen_of, after_touches, after-append, Fits, done}
+use Rattle.demand3_touches.proofs.Seen.{Seen, seen_of, after_touches, after-append, done}
 
 -- ---- one piece of the list
 
 -- An MW, by its single WR items.
-many-touches : (x : Many) → x.number < 16 → (vs : List ℕ) (m : Machine) (w : WaitTicks) → accepted_of m ≡ true
+many-touches : (x : Many) → LocationInRange x.to → (vs : List ℕ) (m : Machine) (w : WaitTicks) → accepted_of m ≡ true
     → seen_of (after_items m (singles_after x w vs)) ≡ after_touches (touches_of_items (singles_after x w vs)) (seen_of m)
-unfolding touches_of_items after_touches
+unfolding touches_of_items
 many-touches x h [] m w a = refl
 many-touches x h (v ∷ vs) m w a =
     let i : Item = single x w v in
@@ -46,14 +48,14 @@ many-touches x h (v ∷ vs) m w a =
     ∙ ap (after_touches rest) (done m i (parts m a).phase)
     ∙ sym (after-append rest (touches_of i) (seen_of m))
 
-turn-touches : (m : Machine) (s : List ℕ) (d : Decoded) → decoded_of s ≡ d → accepted_of m ≡ true → seen_of (turn_by m s d).machine ≡ after_touches (touches_by m s d) (seen_of m)
-turn-touches m s (Refused n) p a = refl
-turn-touches m s (Decoded.Many x) p a = many-touches x (many-range s x p).number (values_of s) m x.wait a
-turn-touches m s (Done x) p a = go (eqb (refuses_of m x) 0)
+turn-touches : (m : Machine) (s : List ℕ) (d : Result Decoded Refusal) → decoded_of s ≡ d → accepted_of m ≡ true → seen_of (turn_by m s d).machine ≡ after_touches (touches_by m s d) (seen_of m)
+turn-touches m s (Err r) p a = refl
+turn-touches m s (Ok (Decoded.Many x)) p a = many-touches x (many-range s x p).number (values_of s) m x.wait a
+turn-touches m s (Ok (One x)) p a = go (refuses_of m x)
   where
-    go : (t : Bool) → seen_of (cond t (done_turn (step_of m x)) (refused_turn m (refuses_of m x))).machine ≡ after_touches (cond t (touches_of x) []) (seen_of m)
-    go true = done m x (parts m a).phase
-    go false = refl
+    go : (o : Option Refusal) → seen_of (turn_unless m x o).machine ≡ after_touches (cond (is_none o) (touches_of x) []) (seen_of m)
+    go None = done m x (parts m a).phase
+    go (Some r) = refl
 
 piece-touches : (p : Piece) (m : Machine) → accepted_of m ≡ true → seen_of (after_piece p m) ≡ after_touches (touches_at p m) (seen_of m)
 unfolding turn_of
@@ -87,7 +89,7 @@ run-touches m a list room = ap seen_of (ran-is m a list room) ∙ pieces-touch m
 -- ---- the sequence hangs on the list and the room alone
 
 -- Only DI is refused by the state, and DI is no touch.
-unrefused : (m : Machine) (x : Item) → cond (eqb (refuses_of m x) 0) (touches_of x) [] ≡ touches_of x
+unrefused : (m : Machine) (x : Item) → cond (is_none (refuses_of m x)) (touches_of x) [] ≡ touches_of x
 unfolding refuses_of touches_of
 unrefused m (ReadVia w r) = refl
 unrefused m (ReadIwm w k) = refl
@@ -100,16 +102,16 @@ unrefused m (Sense w d r v) = refl
 unrefused m (Reset w) = refl
 unrefused m (Power w s) = refl
 unrefused m (Pulse w l) = refl
-unrefused m (Disk w d i l b) = go (eqb (refuses_of m (Disk w d i l b)) 0)
+unrefused m (Disk w d i l b) = go (is_none (refuses_of m (Disk w d i l b)))
   where
     go : (t : Bool) → ◌≡◌ {A = List Touch} (cond t [] []) []
     go true = refl
     go false = refl
 
-any-by : (m n : Machine) (s : List ℕ) (d : Decoded) → touches_by m s d ≡ touches_by n s d
-any-by m n s (Done x) = unrefused m x ∙ sym (unrefused n x)
-any-by m n s (Decoded.Many x) = refl
-any-by m n s (Refused k) = refl
+any-by : (m n : Machine) (s : List ℕ) (d : Result Decoded Refusal) → touches_by m s d ≡ touches_by n s d
+any-by m n s (Ok (One x)) = unrefused m x ∙ sym (unrefused n x)
+any-by m n s (Ok (Decoded.Many x)) = refl
+any-by m n s (Err r) = refl
 
 any_at : (m n : Machine) (p : Piece) → touches_at p m ≡ touches_at p n
 any_at m n (whole s) = any-by m n s (decoded_of s)

@@ -1,11 +1,13 @@
 -- Who can touch the clock: request W-208. "Two lists run from one state, which agree in the sequence of items carried out that write VIA registers 0 and 2,
 -- reset, second ticks and power cuts, end with the same cells, seconds, protect, test and half-made command, whatever their waits and other items were."
+use Rattle.std.specs.Prelude.{Result, Ok, Err, is_none}
+use Rattle.refusal.specs.declared.Refusal.{Refusal}
 use Rattle.std.specs.Prelude.{ℕ, ◌≡◌, cond, List, [], ◌∷◌, ◌++◌, eqb}
 use Rattle.clock.specs.declared.Clock.{Clock}
 use Rattle.item_spec.specs.declared.Item.{Item}
 use Rattle.item_spec.specs.declared.Item.TheVariants.{ReadVia, ReadIwm, WriteVia, WriteIwm, Blank, Second, Line, Sense, Reset, Power, Disk, Pulse}
 use Rattle.item_spec.specs.declared.Decoded.{Decoded}
-use Rattle.item_spec.specs.declared.Decoded.TheVariants.{Done, Refused}
+use Rattle.item_spec.specs.declared.Decoded.TheVariants.{One}
 use Rattle.item_spec.specs.Many.{singles_of}
 use Rattle.item_spec.specs.Kinds.{decoded_of}
 use Rattle.machine_spec.specs.declared.Machine.{Machine}
@@ -51,10 +53,10 @@ touches_of_items [] = []
 touches_of_items (i ∷ is) = touches_of_items is ++ touches_of i
 
 -- "Items carried out": a refused record has none, nor have bytes that are no record.
-abbrev pub touches_by : Machine → List ℕ → Decoded → List Touch
-touches_by m s (Done x) = cond (eqb (refuses_of m x) 0) (touches_of x) []
-touches_by m s (Decoded.Many x) = touches_of_items (singles_of x s)
-touches_by m s (Refused n) = []
+abbrev pub touches_by : Machine → List ℕ → Result Decoded Refusal → List Touch
+touches_by m s (Ok (One x)) = cond (is_none (refuses_of m x)) (touches_of x) []
+touches_by m s (Ok (Decoded.Many x)) = touches_of_items (singles_of x s)
+touches_by m s (Err r) = []
 
 abbrev pub touches_at : Piece → Machine → List Touch
 touches_at (whole s) m = touches_by m s (decoded_of s)

@@ -1,6 +1,8 @@
 -- The disk lines: document 01, "Disk lines". A line is 0 (off) or 1 (on); the eight are kept as the byte of an answer.
-use Rattle.std.specs.Prelude.{ℕ, ◌+◌, ◌-◌, ◌*◌, ◌/◌, ◌%◌, ◌^◌, Bool, cond, ◌&&◌, List, [], ◌∷◌, eqb, get_or}
+use Rattle.std.specs.Prelude.{ℕ, ◌+◌, ◌-◌, ◌*◌, ◌/◌, ◌%◌, ◌^◌, cond, ◌&&◌, List, [], ◌∷◌, eqb, get_or}
 use Rattle.disk_lines.specs.declared.DiskLines.{DiskLines}
+use Rattle.disk_lines.specs.declared.Line.{Line}
+use Rattle.disk_lines.specs.declared.Line.TheVariants.{Ca0, Ca1, Ca2, Lstrb, Enable, Select, Q6, Q7}
 
 -- ---- the byte: "The disk-line byte has CA0, CA1, CA2, LSTRB, ENABLE, SELECT, Q6, Q7 in bits 0 to 7."
 
@@ -27,6 +29,17 @@ q6 d = d.lines / 64 % 2
 
 abbrev pub q7 : DiskLines → ℕ
 q7 d = d.lines / 128 % 2
+
+-- The level of a line by its name.
+abbrev pub level_of : Line → DiskLines → ℕ
+level_of Ca0 d = ca0 d
+level_of Ca1 d = ca1 d
+level_of Ca2 d = ca2 d
+level_of Lstrb d = lstrb d
+level_of Enable d = enable d
+level_of Select d = select d
+level_of Q6 d = q6 d
+level_of Q7 d = q7 d
 
 -- The eight levels, "in the order CA0, CA1, CA2, LSTRB, ENABLE, SELECT, Q6, Q7", and the lines that have them.
 unfoldable pub line_levels : DiskLines → List ℕ

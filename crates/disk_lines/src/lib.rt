@@ -1,23 +1,29 @@
-// The IWM as eight lines and a sense bit; the lines are the byte of an answer.
+//! The IWM as eight disk lines and a sense bit (document 01, "Disk lines"). The lines are kept as the byte of an answer.
 #![tactic(auto)]
 
-ghost use Rattle.std.specs.Prelude.{◌≡◌, true, ◌<◌, ◌+◌, ◌*◌, ◌%◌};
-ghost use Rattle.disk_lines.specs.Lines.{line_levels, lines_of, lines_off, with_level, after_access, read_line, sense_at};
+ghost use Rattle.std.specs.Prelude.{◌≡◌, true, ◌<◌, ◌+◌, ◌*◌, ◌%◌, eqb};
+ghost use Rattle.disk_lines.specs.Lines.{level_of, line_levels, lines_of, lines_off, with_level, after_access, read_line, sense_at};
 
-// CA0, CA1, CA2, LSTRB, ENABLE, SELECT, Q6, Q7 in bits 0 to 7: 0 is off, 1 is on.
-#[derive(Clone, Copy)]
+/// One of the eight disk lines. Its number is its bit in the lines' byte.
+#[derive(Clone, Copy, PartialEq, Eq)]
+pub enum Line {
+    Ca0,
+    Ca1,
+    Ca2,
+    Lstrb,
+    Enable,
+    Select,
+    Q6,
+    Q7,
+}
+
+/// The levels of the eight lines: the bit of a line is 0 where it is off, 1 where it is on.
+#[derive(Clone, Copy, PartialEq, Eq)]
 pub struct DiskLines {
     pub lines: u8,
 }
 
-#[tactic(auto, unfolding(crate::specs::Lines::lines_off))]
-pub fn off() -> DiskLines
-    ensures { result ≡ lines_off }
-{
-    DiskLines { lines: 0 }
-}
-
-// Bit i of the byte made this level.
+/// The byte with the line of bit `i` at this level.
 #[tactic(auto, unfolding(crate::specs::Lines::with_level))]
 fn with_level(lines: u8, i: u8, level: u8) -> u8
     requires { (i < 8) × (level < 2) }
@@ -28,7 +34,34 @@ fn with_level(lines: u8, i: u8, level: u8) -> u8
 }
 
 impl DiskLines {
-    // An access of location 0 to 15, read or write.
+    /// All lines off: fresh, and after a reset.
+    #[tactic(auto, unfolding(crate::specs::Lines::lines_off))]
+    pub fn off() -> DiskLines
+        ensures { result ≡ lines_off }
+    {
+        DiskLines { lines: 0 }
+    }
+
+    /// The lines with these levels.
+    #[tactic(auto, unfolding(crate::specs::Lines::lines_of))]
+    pub fn from_levels(l: [u8; 8]) -> DiskLines
+        ensures { result ≡ lines_of l }
+    {
+        let low = nibble(l[0], l[1], l[2], l[3]);
+        let high = nibble(l[4], l[5], l[6], l[7]);
+        DiskLines {
+            lines: low + 16 * high,
+        }
+    }
+
+    /// Whether a line is on.
+    pub fn is_on(self, line: Line) -> bool
+        ensures { result ≡ eqb (level_of line self) 1 }
+    {
+        (self.lines >> (line as u8)) % 2 == 1
+    }
+
+    /// The lines after an access, read or write, of location 0 to 15.
     #[tactic(auto, unfolding(crate::specs::Lines::after_access))]
     pub fn access(self, location: u8) -> DiskLines
         requires { location < 16 }
@@ -39,68 +72,57 @@ impl DiskLines {
         }
     }
 
-    // The value of a read, after its access; sense is the level at the sense address.
+    /// The value of a read, after its access. `sense` is the level at the sense address.
+    // Levels are numbers below 2, as in images and answers: `read_line`, `sense_at` and `pulse_of` calculate with them.
     #[tactic(auto, unfolding(crate::specs::Lines::read_line))]
     pub fn read(self, location: u8, sense: u8) -> u8
         requires { sense < 2 }
         ensures { result ≡ read_line location sense self }
     {
-        if location == 14 {
-            if self.lines / 64 % 2 == 1 {
-                if self.lines / 16 % 2 == 0 {
-                    return 128;
-                }
-                return 128 * sense;
+        if location == 14 && self.is_on(Line::Q6) {
+            if self.is_on(Line::Enable) {
+                128 * sense
+            } else {
+                128
             }
+        } else {
+            255
         }
-        255
+    }
+
+    /// The place of the sense among the 32 sense levels, the internal drive's 16 first. `sel` is the level of the VIA's line SEL.
+    #[tactic(auto, unfolding(crate::specs::Lines::sense_at))]
+    pub fn sense_at(self, sel: u8) -> u8
+        requires { sel < 2 }
+        ensures { (result ≡ sense_at self sel) × (result < 32) }
+    {
+        let register = 2 * (self.lines % 8) + sel;
+        let drive = self.lines / 32 % 2;
+        16 * drive + register
+    }
+
+    /// The levels of the eight lines, in their order.
+    #[tactic(auto, unfolding(crate::specs::Lines::line_levels))]
+    pub fn levels(self) -> [u8; 8]
+        ensures { result ≡ line_levels self }
+    {
+        let l = self.lines;
+        [
+            l % 2,
+            l / 2 % 2,
+            l / 4 % 2,
+            l / 8 % 2,
+            l / 16 % 2,
+            l / 32 % 2,
+            l / 64 % 2,
+            l / 128 % 2,
+        ]
     }
 }
 
-// The place of the sense among the 32 sense levels, the internal drive's 16 first.
-#[tactic(auto, unfolding(crate::specs::Lines::sense_at))]
-pub fn sense_at(d: DiskLines, sel: u8) -> u8
-    requires { sel < 2 }
-    ensures { (result ≡ sense_at d sel) × (result < 32) }
-{
-    let register = 2 * (d.lines % 8) + sel;
-    let drive = d.lines / 32 % 2;
-    16 * drive + register
-}
-
-// The levels of the eight lines, in their order.
-#[tactic(auto, unfolding(crate::specs::Lines::line_levels))]
-pub fn levels(d: DiskLines) -> [u8; 8]
-    ensures { result ≡ line_levels d }
-{
-    let l = d.lines;
-    [
-        l % 2,
-        l / 2 % 2,
-        l / 4 % 2,
-        l / 8 % 2,
-        l / 16 % 2,
-        l / 32 % 2,
-        l / 64 % 2,
-        l / 128 % 2,
-    ]
-}
-
-// Four levels as a number, the first in bit 0.
+/// Four levels as a number, the first in bit 0.
 fn nibble(a: u8, b: u8, c: u8, d: u8) -> u8
     ensures { (result ≡ a % 2 + 2 * (b % 2) + 4 * (c % 2) + 8 * (d % 2)) × (result < 16) }
 {
     a % 2 + 2 * (b % 2) + 4 * (c % 2) + 8 * (d % 2)
-}
-
-// The lines with these levels.
-#[tactic(auto, unfolding(crate::specs::Lines::lines_of))]
-pub fn lines_of(l: [u8; 8]) -> DiskLines
-    ensures { result ≡ lines_of l }
-{
-    let low = nibble(l[0], l[1], l[2], l[3]);
-    let high = nibble(l[4], l[5], l[6], l[7]);
-    DiskLines {
-        lines: low + 16 * high,
-    }
 }

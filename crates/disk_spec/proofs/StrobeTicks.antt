@@ -4,8 +4,10 @@ use mathlib.Core.Path.{◌≡◌, refl, sym, ap, ◌∙◌}
 use mathlib.Core.Bool.{Bool, true, false}
 use native.Mathlib.Nat.{add-zero, add-suc}
 use native.Mathlib.Omega.{arith}
-use borrow.Author.Tests.{lt-ltb, le-ltb}
-use lib.Dec.{ltb}
+use borrow.Author.Tests.{lt-ltb, le-ltb, leb-true, leb-false}
+use lib.Dec.{ltb, leb}
+use Rattle.std.proofs.Math.Nat.{min-eq_left, min-eq_right}
+use Rattle.std.specs.Prelude.{min}
 use Rattle.disk_spec.specs.Strobe.{with_ticks, strobe_tick_by, tick_strobe, strobe_ticks}
 use Rattle.disk_spec.specs.declared.Strobe.{Strobe}
 
@@ -59,3 +61,15 @@ stops n s e l h =
     ∙ strobe_ticks-add a r s
     ∙ ap (strobe_ticks r) (counts a s e (omega arith) ∙ ap (with_ticks s) m)
     ∙ full r (with_ticks s 391680) (omega arith)
+
+-- All of them at once: a count that still grows ends at 391,680 at most, and any other strobe stays as it is.
+pub capped : (n : ℕ) (s : Strobe) → s.steady ≡ true → s.ticks < 391680 → strobe_ticks n s ≡ with_ticks s (min 391680 (s.ticks + n))
+capped n s e l = by_test (leb (s.ticks + n) 391680) refl
+  where
+    by_test : (b : Bool) → leb (s.ticks + n) 391680 ≡ b → strobe_ticks n s ≡ with_ticks s (min 391680 (s.ticks + n))
+    by_test true h =
+        let k : s.ticks + n ≤ 391680 = leb-true (s.ticks + n) 391680 h in
+        counts n s e k ∙ ap (with_ticks s) (sym (min-eq_right k))
+    by_test false h =
+        let k : 391680 ≤ s.ticks + n = omega (arith, leb-false (s.ticks + n) 391680 h) in
+        stops n s e l k ∙ ap (with_ticks s) (sym (min-eq_left k))

@@ -1,4 +1,7 @@
 -- What a shell may rely on in a call: request W-201.
+use Rattle.std.specs.Prelude.{Some}
+use Rattle.refusal.specs.Numbers.{stop_of}
+use Rattle.refusal.specs.declared.Refusal.TheVariants.{NoRoom, NotAccepted}
 use Prim.Native.Nat.{ℕ, ◌-◌, ◌<◌, ◌≤◌}
 use mathlib.Core.Path.{◌≡◌, refl, sym, ap, subst⁻¹, ◌∙◌}
 use mathlib.Core.Bool.{Bool, true, false, cond}
@@ -53,7 +56,7 @@ no-state i h = go (valid_image i) refl
 
 -- The stop number is 7, both counts are 0, and the buffers that could be written keep their bytes; the list is only read.
 pub record Seven (i l d : List ℕ) : Type 0 where
-  pub stop : (call_of i l (length d)).stop ≡ 7
+  pub stop : (call_of i l (length d)).stop ≡ Some NotAccepted
   pub consumed : (call_of i l (length d)).consumed ≡ 0
   pub written : length (call_of i l (length d)).answers ≡ 0
   pub machine : (call_of i l (length d)).machine ≡ machine_of i
@@ -137,31 +140,31 @@ answers-long i l d = go (valid_image i) refl
 -- ---- no other call gets 7
 
 -- Going through the pieces of a list never stops with 7.
-stops : (ps : List Piece) (m : Machine) (room : ℕ) → (run_pieces m ps room).stop < 7
+stops : (ps : List Piece) (m : Machine) (room : ℕ) → stop_of (run_pieces m ps room).stop < 7
 unfolding run_pieces on_piece onto
 stops [] m room = omega arith
 stops (p ∷ ps) m room = go (ltb room 8) p (λ m₁. stops ps m₁ (room - 8))
   where
-    go : (b : Bool) (p : Piece) → ((m₁ : Machine) → (run_pieces m₁ ps (room - 8)).stop < 7)
-        → (cond b (halt m 6) (on_piece m p (λ m₁. run_pieces m₁ ps (room - 8)))).stop < 7
+    go : (b : Bool) (p : Piece) → ((m₁ : Machine) → stop_of (run_pieces m₁ ps (room - 8)).stop < 7)
+        → stop_of (cond b (halt m (Some NoRoom)) (on_piece m p (λ m₁. run_pieces m₁ ps (room - 8)))).stop < 7
     go true p rest = omega arith
     go false broken rest = omega arith
     go false (whole s) rest = rest (turn_of m s).machine
 
-pub seven-invalid : (i l : List ℕ) (room : ℕ) → (call_of i l room).stop ≡ 7 → valid_image i ≡ false
+pub seven-invalid : (i l : List ℕ) (room : ℕ) → (call_of i l room).stop ≡ Some NotAccepted → valid_image i ≡ false
 unfolding run_of
 seven-invalid i l room h = go (valid_image i) refl
   where
     go : (b : Bool) → valid_image i ≡ b → b ≡ false
     go true e =
         let r : run_of (machine_of i) l room ≡ run_pieces (machine_of i) (pieces l) room = simp (valid-is i e).accepted in
-        let k : (call_of i l room).stop ≡ (run_pieces (machine_of i) (pieces l) room).stop = ap (λ (o : Out). o.stop) (is-run i l room e ∙ r) in
-        let s : (run_pieces (machine_of i) (pieces l) room).stop < 7 = stops (pieces l) (machine_of i) room in
+        let k : 7 ≡ stop_of (run_pieces (machine_of i) (pieces l) room).stop = sym (ap stop_of h) ∙ ap (λ (o : Out). stop_of o.stop) (is-run i l room e ∙ r) in
+        let s : stop_of (run_pieces (machine_of i) (pieces l) room).stop < 7 = stops (pieces l) (machine_of i) room in
         absurd (omega arith)
     go false e = refl
 
 -- So 7 says that no accepted state has this image.
-pub only-seven : (i l : List ℕ) (room : ℕ) → (call_of i l room).stop ≡ 7 → NoState i
+pub only-seven : (i l : List ℕ) (room : ℕ) → (call_of i l room).stop ≡ Some NotAccepted → NoState i
 only-seven i l room e m h = no (sym (seven-invalid i l room e) ∙ has-valid i m h)
 
 -- ---- the image left

@@ -1,4 +1,6 @@
 -- What the C entry's contract says of a call, and how its code comes to it.
+use Rattle.std.specs.Prelude.{None}
+use Rattle.refusal.specs.Numbers.{stop_of}
 use Prim.Native.Nat.{ℕ, ◌-◌}
 use mathlib.Core.Path.{◌≡◌, refl, sym, ap, subst⁻¹, ◌∙◌}
 use mathlib.Core.Bool.{true, false}
@@ -21,7 +23,7 @@ module _ (i l d : List ℕ) where
   -- all that the entry's contract says
   abbrev pub Post : ℕ → ℕ → ℕ → List ℕ → List ℕ → Type 0
   Post r c w i' d' =
-      (r ≡ (call_of i l (length d)).stop)
+      (r ≡ stop_of (call_of i l (length d)).stop)
       × ((c ≡ (call_of i l (length d)).consumed)
       × ((w ≡ length (call_of i l (length d)).answers)
       × ((i' ≡ call_image i l (length d))
@@ -34,27 +36,28 @@ module _ (i l d : List ℕ) where
   pub refused : valid_image i ≡ false → Post 7 0 0 i d
   refused e =
       let s = seven i l d e in
-      (sym s.stop, (sym s.consumed, (sym s.written, (sym s.image, (sym s.answers, (refl, (sym s.machine, λ h. no (sym e ∙ h))))))))
+      (sym (ap stop_of s.stop), (sym s.consumed, (sym s.written, (sym s.image, (sym s.answers, (refl, (sym s.machine, λ h. no (sym e ∙ h))))))))
 
   -- Every other call is the run from the image's state, and leaves the image of the state reached.
-  pub ran : valid_image i ≡ true → (m : Machine) → m ≡ machine_of i → (r : Ran) → r ≡ ran_of (run_of m l (length d)) → (d' : List ℕ) → d' ≡ over (run_of m l (length d)) d
-      → (i' : List ℕ) → i' ≡ image_of r.machine → (accepted_of r.machine ≡ true → machine_of i' ≡ r.machine) → (accepted_of r.machine ≡ true → valid_image i' ≡ true) → Post r.stop r.consumed r.written i' d'
+  pub ran : valid_image i ≡ true → (m m' : Machine) → m ≡ machine_of i → m' ≡ (run_of m l (length d)).machine → (r : Ran) → r ≡ ran_of (run_of m l (length d)) → (d' : List ℕ) → d' ≡ over (run_of m l (length d)) d
+      → (i' : List ℕ) → i' ≡ image_of m' → (accepted_of m' ≡ true → machine_of i' ≡ m') → (accepted_of m' ≡ true → valid_image i' ≡ true) → Post (stop_of r.stop) r.consumed r.written i' d'
   unfolding call_answers
-  ran e m em r er d' ed i' ei er' ev =
+  ran e m m' em en r er d' ed i' ei er' ev =
       let n : ℕ = length d in
       let a : accepted_of (run_of m l n).machine ≡ true = accepted-kept m l n (ap accepted_of em ∙ (valid-is i e).accepted) in
-      let o : accepted_of r.machine ≡ true = ap (λ (x : Ran). accepted_of x.machine) er ∙ a in
+      let o : accepted_of m' ≡ true = ap accepted_of en ∙ a in
       let v : valid_image i' ≡ true = ev o in
       let q : run_of m l n ≡ call_of i l n = ap (λ (x : Machine). run_of x l n) em ∙ sym (is-run i l n e) in
       let k : r ≡ ran_of (call_of i l n) = er ∙ ap ran_of q in
-      let g : machine_of i' ≡ (call_of i l n).machine = er' o ∙ ap (λ (x : Ran). x.machine) k in
+      let f : m' ≡ (call_of i l n).machine = en ∙ ap (λ (x : Out). x.machine) q in
+      let g : machine_of i' ≡ (call_of i l n).machine = er' o ∙ f in
       let h : Run3 (machine_of i) l n (machine_of i') = subst⁻¹ (λ (x : Machine). Run3 (machine_of i) l n x) g (call3 i e l n) in (
-        ap (λ (x : Ran). x.stop) k,
+        ap (λ (x : Ran). stop_of x.stop) k,
         (
           ap (λ (x : Ran). x.consumed) k,
           (
             ap (λ (x : Ran). x.written) k,
-            (ei ∙ ap (λ (x : Ran). image_of x.machine) k ∙ sym (image-left i l n e), (ed ∙ ap (λ (o : Out). over o d) q, (v ∙ sym e, (g, λ y. h)))),
+            (ei ∙ ap image_of f ∙ sym (image-left i l n e), (ed ∙ ap (λ (o : Out). over o d) q, (v ∙ sym e, (g, λ y. h)))),
           ),
         ),
       )
@@ -67,7 +70,7 @@ module _ (i i' l k : List ℕ) (room : ℕ) (e : valid_image i ≡ true) (v : va
   next-call more = is-run i' k more (v ∙ e) ∙ ap (λ (m : Machine). run_of m k more) s
 
   -- And where the first came to the end of its list, the two are one call with both lists: answers joined, bytes consumed added, stop and state those of the second.
-  pub one-run : (call_of i l room).stop ≡ 0
+  pub one-run : (call_of i l room).stop ≡ None
       → call_of i (l ++ k) room ≡ onto (call_of i l room).answers (length l) (call_of i' k (room - length (call_of i l room).answers))
   one-run z =
       let r : call_of i l room ≡ run_of (machine_of i) l room = is-run i l room e in

@@ -1,4 +1,6 @@
 -- What a call with C linkage leaves: requests W-201 and W-206.
+use Rattle.std.specs.Prelude.{Some}
+use Rattle.refusal.specs.declared.Refusal.TheVariants.{NotAccepted}
 use Rattle.std.specs.Prelude.{ℕ, cond, List, length, ltb, eqb}
 use Rattle.octets.specs.Octets.{put_at}
 use Rattle.clock_spec.specs.Command.{cells_of}
@@ -10,7 +12,7 @@ use Rattle.image_spec.specs.Image.{image_length, image_of, machine_of, valid_ima
 
 -- "An image that no accepted state has gets refusal 7", both counts 0; every other is the state that the run starts from.
 unfoldable pub call_of : List ℕ → List ℕ → ℕ → Out
-call_of image list room = cond (valid_image image) (run_of (machine_of image) list room) (halt (machine_of image) 7)
+call_of image list room = cond (valid_image image) (run_of (machine_of image) list room) (halt (machine_of image) (Some NotAccepted))
 
 -- The image of the state reached; on 7 "all three buffers keep their bytes".
 unfoldable pub call_image : List ℕ → List ℕ → ℕ → List ℕ

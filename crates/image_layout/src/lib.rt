@@ -1,18 +1,27 @@
-// The layout of a state's image: how long each part is and where it stands; the head, and the parts that are levels, put there and taken out.
+//! The layout of a state's image: how long each part is and where it stands, and for each value of the state the bytes that stand for it.
+//!
+//! A part is a value with a `Layout`: `via_layout`, `clock_layout` and `disk_layout` have those of the VIA, the clock chip and the disk lines with the drives. What an image of the
+//! later chip has more, its tail, is in `clock_layout` too.
 #![tactic(auto)]
 
-ghost use Rattle.std.specs.Prelude.{◌≡◌, ◌≤◌, length};
+ghost use Rattle.std.specs.Prelude.{◌≡◌, ℕ, List, ◌+◌, ◌≤◌, length};
 ghost use Rattle.octets.specs.Octets.{put_at};
-ghost use Rattle.image_spec.specs.Layout.{lines_length, inputs_length, sense_length, lines_at, inputs_at, sense_at, tail_at, tail_length, image_length, part, kind_bytes, head_length, head_bytes, head_exact, chip_of, same_bytes};
+ghost use Rattle.image_spec.specs.Layout.{part, tail_length, image_length, kind_bytes, head_bytes, chip_of, same_bytes};
 
 use clock_spec::Chip;
+
+mod clock_layout;
+mod disk_layout;
+mod via_layout;
+
+pub use clock_layout::{PHASE_BYTES, Registers, cells, put_tail, second};
 
 // The kinds of images: the first chip's, and the later one's.
 const ST: [u8; 2] = *b"ST";
 
 const SX: [u8; 2] = *b"SX";
 
-// The length of each part.
+/// The length of each part in bytes.
 pub const HEAD_LENGTH: usize = 4;
 
 pub const VIA_LENGTH: usize = 20;
@@ -21,7 +30,7 @@ pub const PHASE_LENGTH: usize = 4;
 
 pub const REGISTERS_LENGTH: usize = 6;
 
-// The cells that every chip has.
+/// The cells that every chip has.
 pub const CELLS_LENGTH: usize = clock_command::FIRST_CELLS;
 
 pub const LINES_LENGTH: usize = 8;
@@ -34,8 +43,10 @@ pub const DRIVE_LENGTH: usize = 9;
 
 pub const STROBE_LENGTH: usize = 5;
 
-// Where each part begins, and the length of the whole.
-pub const VIA: usize = HEAD_LENGTH;
+/// Where each part begins, and the length of the whole.
+pub const HEAD: usize = 0;
+
+pub const VIA: usize = HEAD + HEAD_LENGTH;
 
 pub const PHASE: usize = VIA + VIA_LENGTH;
 
@@ -55,13 +66,14 @@ pub const EXTERNAL: usize = INTERNAL + DRIVE_LENGTH;
 
 pub const STROBE: usize = EXTERNAL + DRIVE_LENGTH;
 
-// What the later chip's images have after what all have: its other cells and a second command byte.
+/// What the later chip's images have after what all have: its other cells and a second command byte.
 pub const TAIL: usize = STROBE + STROBE_LENGTH;
 
 pub const MORE_CELLS: usize = clock_command::ALL_CELLS - clock_command::FIRST_CELLS;
 
 const TAIL_LENGTH: usize = MORE_CELLS + 1;
 
+/// The length of the tail by the image's chip.
 pub fn tail_length(chip: Chip) -> usize
     ensures { result ≡ tail_length chip }
 {
@@ -71,112 +83,115 @@ pub fn tail_length(chip: Chip) -> usize
     }
 }
 
-// The length of an image by its chip.
+/// The length of an image by its chip.
 pub fn image_length(chip: Chip) -> usize
     ensures { result ≡ image_length chip }
 {
     TAIL + tail_length(chip)
 }
 
-fn kind(chip: Chip) -> [u8; 2]
-    ensures { result ≡ kind_bytes chip }
+/// A value that stands in an image as `N` bytes.
+pub trait Layout<const N: usize>: Copy {
+    /// The bytes of a value, and the value that bytes stand for.
+    ghost bytes_of: { Self → List ℕ };
+
+    ghost value_of: { List ℕ → Self };
+
+    /// What the value's type says of its numbers.
+    ghost Fits: { Self → Type 0 };
+
+    fn to_bytes(self) -> [u8; N]
+        ensures { result ≡ bytes_of self };
+
+    fn from_bytes(bytes: [u8; N]) -> Self
+        ensures { result ≡ value_of bytes.entry };
+
+    /// What was written is read again.
+    ghost back: { (x : Self) → Fits x → value_of (bytes_of x) ≡ x };
+}
+
+/// The `N` bytes of an image from `at` on.
+pub fn part<const N: usize>(image: &[u8], at: usize) -> [u8; N]
+    requires { at + N ≤ length image.now }
+    ensures { result ≡ part at N image.now }
 {
-    match chip {
-        Chip::First => ST,
-        Chip::Later => SX,
+    let mut bytes = [0; N];
+    bytes.copy_from_slice(&image[at..at + N]);
+    bytes
+}
+
+/// Writes the bytes of a value into an image, from `at` on.
+pub fn put<T: Layout<N>, const N: usize>(image: &mut [u8], at: usize, value: T)
+    requires { at + N ≤ length image.old }
+    ensures { image.new ≡ put_at image.old at (T.bytes_of value) }
+{
+    image[at..at + N].copy_from_slice(&value.to_bytes());
+}
+
+/// Whether these are the very bytes of the value that they stand for. Compiled, this asks the flags alone.
+pub fn exact<T: Layout<N>, const N: usize>(bytes: [u8; N]) -> bool
+    ensures { result ≡ same_bytes (T.bytes_of (T.value_of bytes.entry)) bytes.entry }
+{
+    T::from_bytes(bytes).to_bytes() == bytes
+}
+
+/// The head stands for the chip: the length of what follows it, and the kind.
+impl Layout<HEAD_LENGTH> for Chip {
+    ghost use Rattle.image_layout.specs.Values.{AnyChip};
+    ghost use Rattle.image_layout.specs.Values.{chip_back};
+
+    ghost bytes_of = { head_bytes };
+
+    ghost value_of = { chip_of };
+
+    ghost Fits = { AnyChip };
+
+    #[tactic(auto, unfolding(image_spec::specs::Layout::head_bytes))]
+    fn to_bytes(self) -> [u8; HEAD_LENGTH]
+        ensures { result ≡ head_bytes self }
+    {
+        let [low, high] = (image_length(self) as u16 - 2).to_le_bytes();
+        let [first, second] = match self {
+            Chip::First => ST,
+            Chip::Later => SX,
+        };
+        [low, high, first, second]
     }
-}
 
-// The chip by an image's kind.
-pub fn chip_of(image: &[u8]) -> Chip
-    requires { tail_at ≤ length image.now }
-    ensures { result ≡ chip_of image.now }
-{
-    if image[3] == SX[1] {
-        return Chip::Later;
+    fn from_bytes(bytes: [u8; HEAD_LENGTH]) -> Chip
+        ensures { result ≡ chip_of bytes }
+    {
+        if bytes[3] == SX[1] {
+            Chip::Later
+        } else {
+            Chip::First
+        }
     }
-    Chip::First
+
+    ghost back = { chip_back };
 }
 
-// The length of what follows it, and the kind.
-#[tactic(auto, unfolding(image_spec::specs::Layout::head_bytes))]
-fn head(chip: Chip) -> [u8; HEAD_LENGTH]
-    ensures { result ≡ head_bytes chip }
-{
-    let n = image_length(chip) - 2;
-    let k = kind(chip);
-    [(n % 256) as u8, (n / 256 % 256) as u8, k[0], k[1]]
-}
+/// Levels and cells stand as they are.
+impl<const N: usize> Layout<N> for [u8; N] {
+    ghost use Rattle.image_layout.specs.Values.{any_bytes, AnyBytes, bytes_back};
 
-pub fn put_head(image: &mut [u8], chip: Chip)
-    requires { tail_at ≤ length image.old }
-    ensures { image.new ≡ put_at image.old 0 (head_bytes chip) }
-{
-    let b = head(chip);
-    octets::copy(image, 0, &b);
-}
+    ghost bytes_of = { any_bytes };
 
-// Whether the image has the chip's head.
-pub fn exact_head(image: &[u8], chip: Chip) -> bool
-    requires { tail_at ≤ length image.now }
-    ensures { result ≡ head_exact chip (part 0 head_length image.now) }
-{
-    let b = head(chip);
-    same(&b, &image[0..VIA])
-}
+    ghost value_of = { any_bytes };
 
-// The eight disk lines, the IN lines and the sense levels, written in their places.
-pub fn put_levels(
-    image: &mut [u8],
-    lines: [u8; LINES_LENGTH],
-    inputs: [u8; INPUTS_LENGTH],
-    sense: [u8; SENSE_LENGTH],
-)
-    requires { tail_at ≤ length image.old }
-    ensures { image.new ≡ put_at (put_at (put_at image.old lines_at lines) inputs_at inputs) sense_at sense }
-{
-    octets::copy(image, LINES, &lines);
-    octets::copy(image, INPUTS, &inputs);
-    octets::copy(image, SENSE, &sense);
-}
+    ghost Fits = { AnyBytes };
 
-pub fn lines(image: &[u8]) -> [u8; LINES_LENGTH]
-    requires { tail_at ≤ length image.now }
-    ensures { result ≡ part lines_at lines_length image.now }
-{
-    let mut own = [0; LINES_LENGTH];
-    octets::copy(&mut own, 0, &image[LINES..INPUTS]);
-    own
-}
-
-pub fn inputs(image: &[u8]) -> [u8; INPUTS_LENGTH]
-    requires { tail_at ≤ length image.now }
-    ensures { result ≡ part inputs_at inputs_length image.now }
-{
-    let mut own = [0; INPUTS_LENGTH];
-    octets::copy(&mut own, 0, &image[INPUTS..SENSE]);
-    own
-}
-
-pub fn sense(image: &[u8]) -> [u8; SENSE_LENGTH]
-    requires { tail_at ≤ length image.now }
-    ensures { result ≡ part sense_at sense_length image.now }
-{
-    let mut own = [0; SENSE_LENGTH];
-    octets::copy(&mut own, 0, &image[SENSE..INTERNAL]);
-    own
-}
-
-// Whether two byte strings of one length are the same. It looks at all of them, so that the compiler takes several at a time.
-pub fn same(a: &[u8], b: &[u8]) -> bool
-    requires { length a.now ≡ length b.now }
-    ensures { result ≡ same_bytes a.now b.now }
-{
-    let mut all = true;
-    let mut i: usize = 0;
-    while i < a.len() {
-        all = all & (a[i] == b[i]);
-        i += 1;
+    fn to_bytes(self) -> [u8; N]
+        ensures { result ≡ self.entry }
+    {
+        self
     }
-    all
+
+    fn from_bytes(bytes: [u8; N]) -> [u8; N]
+        ensures { result ≡ bytes.entry }
+    {
+        bytes
+    }
+
+    ghost back = { bytes_back };
 }

@@ -14,7 +14,7 @@ pub drive-long : (d : Drive) → length (drive_bytes d) ≡ drive_length
 unfolding drive_bytes
 drive-long d = refl
 
-drive-back : (d : Drive) → d.pending < 65536 → drive_of (drive_bytes d) ≡ d
+pub drive-back : (d : Drive) → d.pending < 65536 → drive_of (drive_bytes d) ≡ d
 unfolding drive_bytes drive_of
 drive-back d h = simp (back16 d.pending h, flag-back)
 
@@ -22,7 +22,7 @@ pub strobe-long : (s : Strobe) → length (strobe_bytes s) ≡ strobe_length
 unfolding strobe_bytes
 strobe-long s = refl
 
-strobe-back : (s : Strobe) → s.ticks < 4294967296 → strobe_of (strobe_bytes s) ≡ s
+pub strobe-back : (s : Strobe) → s.ticks < 4294967296 → strobe_of (strobe_bytes s) ≡ s
 unfolding strobe_bytes strobe_of
 strobe-back s h = simp (back32 s.ticks h, flag-back)
 

@@ -1,9 +1,10 @@
 -- Byte strings are the same exactly where they are equal.
 use Prim.Native.Nat.{ℕ}
-use mathlib.Core.Path.{◌≡◌, refl}
-use mathlib.Core.Bool.{true}
+use mathlib.Core.Path.{◌≡◌, refl, ap}
+use mathlib.Core.Bool.{Bool, true, ◌&&◌}
 use mathlib.Core.List.{List, [], ◌∷◌}
 use lib.Dec.{eqb}
+use lib.Pointwise.{pointwise}
 use borrow.Author.Tests.{eq-eqb, eqb-true}
 use Rattle.levels.proofs.Laws.{no, both}
 use Rattle.image_spec.specs.Layout.{same_bytes}
@@ -23,3 +24,11 @@ same-eq (x ∷ xs) (y ∷ ys) h =
     let e : x ≡ y = eqb-true x y p.0 in
     let f : xs ≡ ys = same-eq xs ys p.1 in
     cc
+
+-- It is what `==` answers.
+pub same-pointwise : (a b : List ℕ) → pointwise eqb a b ≡ same_bytes a b
+unfolding same_bytes
+same-pointwise [] [] = refl
+same-pointwise [] (y ∷ ys) = refl
+same-pointwise (x ∷ xs) [] = refl
+same-pointwise (x ∷ xs) (y ∷ ys) = ap (λ (t : Bool). eqb x y && t) (same-pointwise xs ys)

@@ -1,4 +1,4 @@
-// The decoder: the bytes of one record, its kind first, are an item or a refusal.
+//! The decoder: the bytes of one record, its kind first, are an item or a refusal.
 #![tactic(auto)]
 
 ghost use Rattle.std.specs.Prelude.{◌≡◌, ◌≤◌, length};
@@ -6,66 +6,47 @@ ghost use Rattle.item_spec.specs.Kinds.{is_kind, decoded_of};
 ghost use Rattle.item_many.specs.LastWrite.{as_last_write};
 ghost use Rattle.item_decode.specs.Values.{first_value};
 
-use item_spec::{Decoded, Plain};
+use item_spec::{Item, Plain};
+use refusal::Refusal;
 
-// Whether a record's kind is this one.
+/// Whether a record's kind is this one.
 #[tactic(auto, unfolding(item_spec::specs::Kinds::is_kind))]
-pub fn is(s: &[u8], kind: &[u8; 2]) -> bool
-    requires { 2 ≤ length s.now }
-    ensures { result ≡ is_kind s.now kind.now }
+pub fn is(bytes: &[u8], kind: &[u8; 2]) -> bool
+    requires { 2 ≤ length bytes.now }
+    ensures { result ≡ is_kind bytes.now kind.now }
 {
-    s[0] == kind[0] && s[1] == kind[1]
+    bytes.starts_with(kind)
 }
 
-// A record's bytes after its length: an item, or refusal 2, 3, 4, 5 or 9. Of an MW the item is its last write.
-#[tactic(auto, unfolding(item_spec::specs::Kinds::decoded_of))]
-pub fn decode(s: &[u8]) -> Decoded
-    requires { 2 ≤ length s.now }
-    ensures { result ≡ as_last_write s.now (decoded_of s.now) }
+/// A record's bytes after its length: an item, or refusal 2, 3, 4, 5 or 9. Of an MW the item is its last write.
+#[tactic(auto, unfolding(item_spec::specs::Kinds::decoded_of, item_spec::specs::Kinds::is_kind))]
+pub fn decode(bytes: &[u8]) -> Result<Item, Refusal>
+    ensures { result ≡ as_last_write bytes.now (decoded_of bytes.now) }
 {
-    if is(s, b"RD") {
-        return item_plain::read_item(s);
+    let Some(kind) = bytes.first_chunk::<2>() else {
+        return Err(Refusal::UnknownKind);
+    };
+    match kind {
+        b"RD" => item_plain::read_item(bytes),
+        b"WR" => item_plain::write_item(bytes),
+        b"VB" => item_plain::plain_item(bytes, Plain::Blank),
+        b"SE" => item_plain::plain_item(bytes, Plain::Second),
+        b"IN" => item_ranged::line_item(bytes),
+        b"SN" => item_ranged::sense_item(bytes),
+        b"RS" => item_plain::plain_item(bytes, Plain::Reset),
+        b"PW" => item_plain::power_item(bytes),
+        b"DI" => item_ranged::disk_item(bytes),
+        b"MW" => item_many::many_item(bytes),
+        b"KC" => item_ranged::pulse_item(bytes),
+        _ => Err(Refusal::UnknownKind),
     }
-    if is(s, b"WR") {
-        return item_plain::write_item(s);
-    }
-    if is(s, b"VB") {
-        return item_plain::plain_item(s, Plain::Blank);
-    }
-    if is(s, b"SE") {
-        return item_plain::plain_item(s, Plain::Second);
-    }
-    if is(s, b"IN") {
-        return item_ranged::line_item(s);
-    }
-    if is(s, b"SN") {
-        return item_ranged::sense_item(s);
-    }
-    if is(s, b"RS") {
-        return item_plain::plain_item(s, Plain::Reset);
-    }
-    if is(s, b"PW") {
-        return item_plain::power_item(s);
-    }
-    if is(s, b"DI") {
-        return item_ranged::disk_item(s);
-    }
-    if is(s, b"MW") {
-        return item_many::many_item(s);
-    }
-    if is(s, b"KC") {
-        return item_ranged::pulse_item(s);
-    }
-    Decoded::Refused(2)
 }
 
-// Where a record's values begin among its bytes after the length.
-pub fn first_value(s: &[u8]) -> usize
-    requires { 2 ≤ length s.now }
-    ensures { result ≡ first_value s.now }
+/// Where a record's values begin among its bytes after the length.
+// It asks for two bytes, as `is` does, and what calls it above: the last byte of none is nowhere.
+pub fn first_value(bytes: &[u8]) -> usize
+    requires { 2 ≤ length bytes.now }
+    ensures { result ≡ first_value bytes.now }
 {
-    if s[0] == b'M' {
-        return 9;
-    }
-    s.len() - 1
+    if bytes[0] == b'M' { 9 } else { bytes.len() - 1 }
 }

@@ -1,72 +1,30 @@
-// MW, its body read: W-211's many writes to one address. It is handed on as the last of its single WR items, after its wait; the values stay in the record.
+//! MW, its body read: W-211's many writes to one address. It is handed on as the last of its single WR items, after its wait; the values stay in the record.
 #![tactic(auto)]
 
-ghost use Rattle.std.specs.Prelude.{◌≡◌, ◌≤◌, length};
-ghost use Rattle.item_spec.specs.Many.{counted_record, many_record};
+ghost use Rattle.std.specs.Prelude.{◌≡◌};
+ghost use Rattle.item_spec.specs.Many.{many_record};
+ghost use Rattle.item_spec.specs.Kinds.{many};
 ghost use Rattle.item_many.specs.LastWrite.{as_last_write};
 
-use item_spec::{Decoded, Found, Item, Many};
+use item_spec::Item;
+use refusal::Refusal;
 
-// By the count and the length, where the address is right.
-#[tactic(auto, unfolding(item_spec::specs::Many::counted_record))]
-fn counted(s: &[u8], x: Many) -> Decoded
-    requires { 9 ≤ length s.now }
-    ensures { result ≡ as_last_write s.now (counted_record s.now x) }
+/// MW. A record is its bytes after the length.
+#[tactic(auto, unfolding(item_spec::specs::Many::many_record, item_spec::specs::Many::counted_record))]
+pub fn many_item(bytes: &[u8]) -> Result<Item, Refusal>
+    ensures { result ≡ as_last_write bytes.now (many (many_record bytes.now)) }
 {
-    let count = s[8];
-    if count == 0 {
-        return Decoded::Refused(5);
+    if bytes.len() < 9 {
+        return Err(Refusal::WrongLength);
     }
-    if 64 < count {
-        return Decoded::Refused(5);
+    let location = item_address::find(octets::le32(bytes, 4)).ok_or(Refusal::UnknownAddress)?;
+    let count = bytes[8];
+    if count == 0 || 64 < count {
+        return Err(Refusal::OutOfRange);
     }
-    if s.len() != 9 + count as usize {
-        return Decoded::Refused(3);
+    if bytes.len() != 9 + count as usize {
+        return Err(Refusal::WrongLength);
     }
-    let wait = x.wait;
-    let number = x.number;
-    let value = s[s.len() - 1];
-    if x.iwm {
-        return Decoded::Done(Item::WriteIwm {
-            wait,
-            location: number,
-            value,
-        });
-    }
-    Decoded::Done(Item::WriteVia {
-        wait,
-        register: number,
-        value,
-    })
-}
-
-// MW
-#[tactic(auto, unfolding(item_spec::specs::Many::many_record))]
-pub fn many_item(s: &[u8]) -> Decoded
-    requires { 2 ≤ length s.now }
-    ensures { result ≡ as_last_write s.now (many_record s.now) }
-{
-    if s.len() < 9 {
-        return Decoded::Refused(3);
-    }
-    let wait = item_wait::wait_of(s);
-    match item_address::find(octets::le32(s, 4)) {
-        Found::Via(register) => counted(
-            s,
-            Many {
-                wait,
-                iwm: false,
-                number: register,
-            },
-        ),
-        Found::Iwm(location) => counted(
-            s,
-            Many {
-                wait,
-                iwm: true,
-                number: location,
-            },
-        ),
-        Found::Nowhere => Decoded::Refused(4),
-    }
+    let last = bytes[bytes.len() - 1];
+    Ok(location.write(item_wait::wait_of(bytes), last))
 }

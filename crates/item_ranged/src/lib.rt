@@ -1,106 +1,90 @@
-// The items whose bytes have ranges, their bodies read: IN, SN, DI, KC.
+//! The items whose bytes have ranges, their bodies read: IN, SN, DI, KC. A record is its bytes after the length.
 #![tactic(auto)]
 
-ghost use Rattle.std.specs.Prelude.{◌≡◌, ◌≤◌, length};
+ghost use Rattle.std.specs.Prelude.{◌≡◌};
 ghost use Rattle.item_spec.specs.Ranged.{line_record, sense_record, is_retired, disk_record, pulse_record};
 
-use item_spec::{Decoded, Item};
+use item_spec::Item;
+use refusal::Refusal;
 
-// IN
+/// IN
 #[tactic(auto, unfolding(item_spec::specs::Ranged::line_record))]
-pub fn line_item(s: &[u8]) -> Decoded
-    requires { 2 ≤ length s.now }
-    ensures { result ≡ line_record s.now }
+pub fn line_item(bytes: &[u8]) -> Result<Item, Refusal>
+    ensures { result ≡ line_record bytes.now }
 {
-    if s.len() != 6 {
-        return Decoded::Refused(3);
+    let &[_, _, _, _, line, level] = bytes else {
+        return Err(Refusal::WrongLength);
+    };
+    if 6 < line || 1 < level {
+        return Err(Refusal::OutOfRange);
     }
-    let line = s[4];
-    let level = s[5];
-    if (6 < line) | (1 < level) {
-        return Decoded::Refused(5);
-    }
-    Decoded::Done(Item::Line {
-        wait: item_wait::wait_of(s),
-        line,
-        level,
-    })
+    let wait = item_wait::wait_of(bytes);
+    Ok(Item::Line { wait, line, level })
 }
 
-// Whether SN on this register has retired.
+/// Whether SN on this register has retired.
 #[tactic(auto, unfolding(item_spec::specs::Ranged::is_retired))]
 pub fn is_retired(register: u8) -> bool
     ensures { result ≡ is_retired register }
 {
-    (register < 6) | (register == 12) | (register == 15)
+    matches!(register, 0..=5 | 12 | 15)
 }
 
-// SN
+/// SN
 #[tactic(auto, unfolding(item_spec::specs::Ranged::sense_record))]
-pub fn sense_item(s: &[u8]) -> Decoded
-    requires { 2 ≤ length s.now }
-    ensures { result ≡ sense_record s.now }
+pub fn sense_item(bytes: &[u8]) -> Result<Item, Refusal>
+    ensures { result ≡ sense_record bytes.now }
 {
-    if s.len() != 7 {
-        return Decoded::Refused(3);
-    }
-    let drive = s[4];
-    let register = s[5];
-    let level = s[6];
-    if (1 < drive) | (15 < register) | (1 < level) {
-        return Decoded::Refused(5);
+    let &[_, _, _, _, drive, register, level] = bytes else {
+        return Err(Refusal::WrongLength);
+    };
+    if 1 < drive || 15 < register || 1 < level {
+        return Err(Refusal::OutOfRange);
     }
     if is_retired(register) {
-        return Decoded::Refused(9);
+        return Err(Refusal::RetiredRegister);
     }
-    Decoded::Done(Item::Sense {
-        wait: item_wait::wait_of(s),
+    let wait = item_wait::wait_of(bytes);
+    Ok(Item::Sense {
+        wait,
         drive,
         register,
         level,
     })
 }
 
-// DI
+/// DI
 #[tactic(auto, unfolding(item_spec::specs::Ranged::disk_record))]
-pub fn disk_item(s: &[u8]) -> Decoded
-    requires { 2 ≤ length s.now }
-    ensures { result ≡ disk_record s.now }
+pub fn disk_item(bytes: &[u8]) -> Result<Item, Refusal>
+    ensures { result ≡ disk_record bytes.now }
 {
-    if s.len() != 8 {
-        return Decoded::Refused(3);
+    let &[_, _, _, _, drive, insert, locked, sides] = bytes else {
+        return Err(Refusal::WrongLength);
+    };
+    if 1 < drive || 1 < insert || 1 < locked || 1 < sides {
+        return Err(Refusal::OutOfRange);
     }
-    let external = s[4];
-    let insert = s[5];
-    let locked = s[6];
-    let sides = s[7];
-    if (1 < external) | (1 < insert) | (1 < locked) | (1 < sides) {
-        return Decoded::Refused(5);
-    }
-    Decoded::Done(Item::Disk {
-        wait: item_wait::wait_of(s),
-        drive: external,
+    let wait = item_wait::wait_of(bytes);
+    Ok(Item::Disk {
+        wait,
+        drive,
         insert,
         locked,
         sides,
     })
 }
 
-// KC
+/// KC
 #[tactic(auto, unfolding(item_spec::specs::Ranged::pulse_record))]
-pub fn pulse_item(s: &[u8]) -> Decoded
-    requires { 2 ≤ length s.now }
-    ensures { result ≡ pulse_record s.now }
+pub fn pulse_item(bytes: &[u8]) -> Result<Item, Refusal>
+    ensures { result ≡ pulse_record bytes.now }
 {
-    if s.len() != 5 {
-        return Decoded::Refused(3);
-    }
-    let level = s[4];
+    let &[_, _, _, _, level] = bytes else {
+        return Err(Refusal::WrongLength);
+    };
     if 1 < level {
-        return Decoded::Refused(5);
+        return Err(Refusal::OutOfRange);
     }
-    Decoded::Done(Item::Pulse {
-        wait: item_wait::wait_of(s),
-        level,
-    })
+    let wait = item_wait::wait_of(bytes);
+    Ok(Item::Pulse { wait, level })
 }

@@ -2,44 +2,42 @@
 use Prim.Native.Nat.{ℕ, ◌+◌, ◌-◌, ◌≤◌}
 use mathlib.Core.Path.{◌≡◌, refl}
 use mathlib.Core.Bool.{Bool, true, false, cond}
-use mathlib.Core.List.{List, [], ◌∷◌, ◌++◌}
+use mathlib.Core.List.{List, ◌++◌}
 use native.Mathlib.Omega.{arith}
 use lib.ListN.{length, length-append, get_or-append}
 use lib.Dec.{ltb}
+use Rattle.std.specs.Prelude.{Option, Some, None, Result, Ok, Err}
+use Rattle.refusal.specs.declared.Refusal.{Refusal}
 use borrow.Author.Tests.{ltb-false, le-ltb}
 use Rattle.octets.specs.Octets.{le16_of}
 use Rattle.item_spec.specs.Record.{frame_of, answer_bytes}
-use Rattle.item_spec.specs.declared.Framed.TheVariants.{Whole, Cut}
-use Rattle.item_spec.specs.declared.Answer.{Answer}
+use Rattle.item_spec.specs.declared.Shown.{Shown}
 
 -- an answer is eight bytes
-pub answer-long : (x : Answer) → length (answer_bytes x) ≡ 8
+pub answer-long : (x : Result Shown Refusal) → length (answer_bytes x) ≡ 8
 unfolding answer_bytes
-answer-long x = go x.ok
-  where
-    go : (b : Bool) → length (cond b (6 ∷ 0 ∷ 79 ∷ 75 ∷ x.value ∷ x.level ∷ x.lines ∷ x.sel ∷ []) (6 ∷ 0 ∷ 78 ∷ 79 ∷ x.value ∷ 0 ∷ 0 ∷ 0 ∷ [])) ≡ 8
-    go true = refl
-    go false = refl
+answer-long (Ok x) = refl
+answer-long (Err r) = refl
 
 -- a whole record has four bytes at least, and lies within the list
-pub whole-fits : (s : List ℕ) (n : ℕ) → frame_of s ≡ Whole n → (4 ≤ n) × (n ≤ length s)
+pub whole-fits : (s : List ℕ) (n : ℕ) → frame_of s ≡ Some n → (4 ≤ n) × (n ≤ length s)
 unfolding frame_of
 whole-fits s n = go (ltb (length s) 2) (ltb (le16_of s 0) 2) (ltb (length s - 2) (le16_of s 0)) refl refl refl
   where
     go : (x y z : Bool) → ltb (length s) 2 ≡ x → ltb (le16_of s 0) 2 ≡ y → ltb (length s - 2) (le16_of s 0) ≡ z
-        → cond x Cut (cond y Cut (cond z Cut (Whole (le16_of s 0 + 2)))) ≡ Whole n → (4 ≤ n) × (n ≤ length s)
+        → ◌≡◌ {A = Option ℕ} (cond x None (cond y None (cond z None (Some (le16_of s 0 + 2))))) (Some n) → (4 ≤ n) × (n ≤ length s)
     go true y z p q r e = let h : ◌≡◌ {A = ℕ} 0 1 = cc in absurd (omega arith)
     go false true z p q r e = let h : ◌≡◌ {A = ℕ} 0 1 = cc in absurd (omega arith)
     go false false true p q r e = let h : ◌≡◌ {A = ℕ} 0 1 = cc in absurd (omega arith)
     go false false false p q r e = let h : le16_of s 0 + 2 ≡ n = cc in omega (arith, ltb-false)
 
 -- a whole record is one in every longer list
-pub whole_append : (s t : List ℕ) (n : ℕ) → frame_of s ≡ Whole n → frame_of (s ++ t) ≡ Whole n
+pub whole_append : (s t : List ℕ) (n : ℕ) → frame_of s ≡ Some n → frame_of (s ++ t) ≡ Some n
 unfolding frame_of le16_of
 whole_append s t n = go (ltb (length s) 2) (ltb (le16_of s 0) 2) (ltb (length s - 2) (le16_of s 0)) refl refl refl
   where
     go : (x y z : Bool) → ltb (length s) 2 ≡ x → ltb (le16_of s 0) 2 ≡ y → ltb (length s - 2) (le16_of s 0) ≡ z
-        → cond x Cut (cond y Cut (cond z Cut (Whole (le16_of s 0 + 2)))) ≡ Whole n → frame_of (s ++ t) ≡ Whole n
+        → ◌≡◌ {A = Option ℕ} (cond x None (cond y None (cond z None (Some (le16_of s 0 + 2))))) (Some n) → frame_of (s ++ t) ≡ Some n
     go true y z p q r e = let h : ◌≡◌ {A = ℕ} 0 1 = cc in absurd (omega arith)
     go false true z p q r e = let h : ◌≡◌ {A = ℕ} 0 1 = cc in absurd (omega arith)
     go false false true p q r e = let h : ◌≡◌ {A = ℕ} 0 1 = cc in absurd (omega arith)

@@ -2,7 +2,7 @@
 use mathlib.Core.Path.{refl}
 use Rattle.octets.specs.Octets.{le16_of, le32_of}
 use Rattle.item_spec.specs.Addresses.{place_from, found_of}
-use Rattle.item_spec.specs.Record.{frame_of, answer_bytes, no_of}
+use Rattle.item_spec.specs.Record.{frame_of, answer_bytes}
 use Rattle.item_spec.specs.Items.{plain_record, read_record, write_record, power_record}
 use Rattle.item_spec.specs.Ranged.{line_record, is_retired, sense_record, disk_record, pulse_record}
 use Rattle.item_spec.specs.Many.{counted_record, many_record}
@@ -10,7 +10,7 @@ use Rattle.item_spec.specs.Kinds.{is_kind, decoded_of}
 use Rattle.item_spec.specs.Samples.{Samples}
 
 pub samples : Samples
-unfolding le16_of le32_of is_kind place_from found_of plain_record read_record write_record line_record is_retired sense_record power_record disk_record pulse_record counted_record many_record decoded_of frame_of answer_bytes no_of
+unfolding le16_of le32_of is_kind place_from found_of plain_record read_record write_record line_record is_retired sense_record power_record disk_record pulse_record counted_record many_record decoded_of frame_of answer_bytes
 samples =
     record {
       s2 = refl;

@@ -1,49 +1,55 @@
 -- What the bytes of a record of each kind with no range to keep ask for: document 01, "Items and answers as bytes" and refusals 3 and 4; the ranges of every kind's item.
-use Rattle.std.specs.Prelude.{ℕ, ◌<◌, cond, List, length, get_or, eqb}
+use Rattle.std.specs.Prelude.{ℕ, ◌<◌, cond, List, length, get_or, eqb, Option, Some, None, Result, Ok, Err}
 use Rattle.octets.specs.Octets.{le16_of, le32_of}
 use Rattle.units.specs.Units.{for_ticks}
 use Rattle.units.specs.declared.WaitTicks.{WaitTicks}
 use Rattle.item_spec.specs.declared.Item.{Item}
 use Rattle.item_spec.specs.declared.Item.TheVariants.{ReadVia, ReadIwm, WriteVia, WriteIwm, Line, Sense, Power, Disk, Pulse}
-use Rattle.item_spec.specs.declared.Decoded.{Decoded}
-use Rattle.item_spec.specs.declared.Decoded.TheVariants.{Done, Refused}
+use Rattle.refusal.specs.Numbers.{number_of}
+use Rattle.refusal.specs.declared.Refusal.{Refusal}
+use Rattle.refusal.specs.declared.Refusal.TheVariants.{WrongLength, UnknownAddress}
 use Rattle.item_spec.specs.declared.Plain.{Plain}
 use Rattle.item_spec.specs.Addresses.{found_of}
-use Rattle.item_spec.specs.declared.Found.{Found}
-use Rattle.item_spec.specs.declared.Found.TheVariants.{Via, Iwm, Nowhere}
+use Rattle.item_spec.specs.declared.Location.{Location}
+use Rattle.item_spec.specs.declared.Location.TheVariants.{Via, Iwm}
 
--- "For an answer that is an enum, a definition gives this paper's number": the refusal's number, 0 of an item and of many writes.
-abbrev pub refusal_of : Decoded → ℕ
-refusal_of (Done x) = 0
-refusal_of (Decoded.Many x) = 0
-refusal_of (Refused n) = n
+-- "For an answer that is an enum, a definition gives this paper's number": the refusal's number, 0 where nothing is refused.
+abbrev pub refusal_of : {T : Type 0} → Result T Refusal → ℕ
+refusal_of (Ok x) = 0
+refusal_of (Err r) = number_of r
 
 -- Refusal 3, "length wrong for the kind".
-abbrev pub of_length : List ℕ → ℕ → Decoded → Decoded
-of_length s n x = cond (eqb (length s) n) x (Refused 3)
+abbrev pub of_length : {T : Type 0} → List ℕ → ℕ → Result T Refusal → Result T Refusal
+of_length s n x = cond (eqb (length s) n) x (Err WrongLength)
 
 -- Refusal 4, "address is none of the 32".
-abbrev pub at_address : Found → (ℕ → Decoded) → (ℕ → Decoded) → Decoded
-at_address (Via r) f g = f r
-at_address (Iwm k) f g = g k
-at_address Nowhere f g = Refused 4
+abbrev pub at_address : {T : Type 0} → Option Location → (Location → Result T Refusal) → Result T Refusal
+at_address (Some l) f = f l
+at_address None f = Err UnknownAddress
 
 -- "Every item's body begins with a wait in VIA ticks (2 bytes)."
 abbrev pub record_wait : List ℕ → WaitTicks
 record_wait s = for_ticks (le16_of s 2)
 
 -- RD, 8: "address (4): read".
-unfoldable pub read_record : List ℕ → Decoded
-read_record s = of_length s 8 (at_address (found_of (le32_of s 4)) (λ r. Done (ReadVia (record_wait s) r)) (λ k. Done (ReadIwm (record_wait s) k)))
+abbrev pub read_from : Location → WaitTicks → Item
+read_from (Via r) w = ReadVia w r
+read_from (Iwm k) w = ReadIwm w k
+
+unfoldable pub read_record : List ℕ → Result Item Refusal
+read_record s = of_length s 8 (at_address (found_of (le32_of s 4)) (λ l. Ok (read_from l (record_wait s))))
 
 -- WR, 9: "address (4), value (1)".
-unfoldable pub write_record : List ℕ → Decoded
-write_record s =
-    of_length s 9 (at_address (found_of (le32_of s 4)) (λ r. Done (WriteVia (record_wait s) r (get_or s 8 0))) (λ k. Done (WriteIwm (record_wait s) k (get_or s 8 0))))
+abbrev pub write_to : Location → WaitTicks → ℕ → Item
+write_to (Via r) w v = WriteVia w r v
+write_to (Iwm k) w v = WriteIwm w k v
+
+unfoldable pub write_record : List ℕ → Result Item Refusal
+write_record s = of_length s 9 (at_address (found_of (le32_of s 4)) (λ l. Ok (write_to l (record_wait s) (get_or s 8 0))))
 
 -- PW, 8: "power cut: seconds off (4)".
-unfoldable pub power_record : List ℕ → Decoded
-power_record s = of_length s 8 (Done (Power (record_wait s) (le32_of s 4)))
+unfoldable pub power_record : List ℕ → Result Item Refusal
+power_record s = of_length s 8 (Ok (Power (record_wait s) (le32_of s 4)))
 
 -- VB, SE, RS, 4: nothing after the wait.
 abbrev pub plain_item : Plain → WaitTicks → Item
@@ -51,8 +57,13 @@ plain_item Plain.Blank w = Item.Blank w
 plain_item Plain.Second w = Item.Second w
 plain_item Plain.Reset w = Item.Reset w
 
-unfoldable pub plain_record : List ℕ → Plain → Decoded
-plain_record s k = of_length s 4 (Done (plain_item k (record_wait s)))
+unfoldable pub plain_record : List ℕ → Plain → Result Item Refusal
+plain_record s k = of_length s 4 (Ok (plain_item k (record_wait s)))
+
+-- A location is one of sixteen.
+abbrev pub LocationInRange : Location → Type 0
+LocationInRange (Via r) = r < 16
+LocationInRange (Iwm k) = k < 16
 
 -- The numbers of an item are within the papers' ranges.
 abbrev pub ItemInRange : Item → Type 0

@@ -1,17 +1,15 @@
 -- Many writes in one item: request W-211.
-use Rattle.std.specs.Prelude.{ℕ, ◌+◌, ◌≤◌, ◌<◌, ◌≡◌, Bool, true, false, cond, List, [], ◌∷◌, length, get_or, drop, ltb, eqb}
+use Rattle.std.specs.Prelude.{ℕ, ◌+◌, ◌≤◌, ◌<◌, ◌≡◌, cond, List, [], ◌∷◌, length, get_or, drop, ltb, eqb, Some, Result, Ok, Err}
 use Rattle.units.specs.Units.{for_ticks}
 use Rattle.units.specs.declared.WaitTicks.{WaitTicks}
 use Rattle.octets.specs.Octets.{le32_of}
 use Rattle.item_spec.specs.Addresses.{found_of}
-use Rattle.item_spec.specs.Items.{of_length, at_address, record_wait}
-use Rattle.item_spec.specs.declared.Found.{Found}
-use Rattle.item_spec.specs.declared.Found.TheVariants.{Via, Iwm}
+use Rattle.item_spec.specs.Items.{of_length, at_address, record_wait, write_to, LocationInRange}
+use Rattle.item_spec.specs.declared.Location.{Location}
 use Rattle.item_spec.specs.declared.Item.{Item}
-use Rattle.item_spec.specs.declared.Item.TheVariants.{WriteVia, WriteIwm}
 use Rattle.item_spec.specs.declared.Many.{Many}
-use Rattle.item_spec.specs.declared.Decoded.{Decoded}
-use Rattle.item_spec.specs.declared.Decoded.TheVariants.{Refused}
+use Rattle.refusal.specs.declared.Refusal.{Refusal}
+use Rattle.refusal.specs.declared.Refusal.TheVariants.{WrongLength, OutOfRange}
 
 -- "MW, length 9 plus the number of values, has after its wait: address (4), count 1 to 64 (1), that many values."
 abbrev pub count_of : List ℕ → ℕ
@@ -21,29 +19,25 @@ abbrev pub values_of : List ℕ → List ℕ
 values_of s = drop 9 s
 
 -- "A count of 0 or above 64 is 5; a length other than 9 plus the count is 3."
-unfoldable pub counted_record : List ℕ → Many → Decoded
+unfoldable pub counted_record : List ℕ → Many → Result Many Refusal
 counted_record s x =
-    cond (eqb (count_of s) 0) (Refused 5)
-    (cond (ltb 64 (count_of s)) (Refused 5)
-    (of_length s (9 + count_of s) (Decoded.Many x)))
+    cond (eqb (count_of s) 0) (Err OutOfRange)
+    (cond (ltb 64 (count_of s)) (Err OutOfRange)
+    (of_length s (9 + count_of s) (Ok x)))
 
 -- Where the record writes to: a VIA register, or an IWM location.
-abbrev pub many_at : List ℕ → Bool → ℕ → Many
-many_at s iwm n = record { wait = record_wait s; iwm = iwm; number = n }
+abbrev pub many_at : List ℕ → Location → Many
+many_at s l = record { wait = record_wait s; to = l }
 
 -- "For MW this order replaces document 01's: a length below 9 is refusal 3; a wrong address 4", and then the count and the length.
-unfoldable pub many_record : List ℕ → Decoded
+unfoldable pub many_record : List ℕ → Result Many Refusal
 many_record s =
-    cond (ltb (length s) 9) (Refused 3)
-    (at_address (found_of (le32_of s 4)) (λ r. counted_record s (many_at s false r)) (λ k. counted_record s (many_at s true k)))
+    cond (ltb (length s) 9) (Err WrongLength)
+    (at_address (found_of (le32_of s 4)) (λ l. counted_record s (many_at s l)))
 
 -- One of the single WR items, after a wait.
-abbrev pub write_to : Bool → ℕ → WaitTicks → ℕ → Item
-write_to false n w v = WriteVia w n v
-write_to true n w v = WriteIwm w n v
-
 abbrev pub single : Many → WaitTicks → ℕ → Item
-single x w v = write_to x.iwm x.number w v
+single x w v = write_to x.to w v
 
 -- "The first value comes after the wait and the others with no wait."
 abbrev pub singles_after : Many → WaitTicks → List ℕ → List Item
@@ -67,14 +61,10 @@ abbrev pub single_records : List ℕ → List (List ℕ)
 single_records s = single_records_after s (get_or s 2 0) (get_or s 3 0) (values_of s)
 
 -- What an MW has of its record s: the wait, and the address, which is one of the 32; and s has 1 to 64 values.
-abbrev pub place_of : Bool → ℕ → Found
-place_of false n = Via n
-place_of true n = Iwm n
-
 pub record ManyInRange (s : List ℕ) (x : Many) : Type 0 where
   pub wait : x.wait ≡ record_wait s
-  pub found : found_of (le32_of s 4) ≡ place_of x.iwm x.number
-  pub number : x.number < 16
+  pub found : found_of (le32_of s 4) ≡ Some x.to
+  pub number : LocationInRange x.to
   pub least : 10 ≤ length s
   pub most : length s ≤ 73
 

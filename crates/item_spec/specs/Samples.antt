@@ -1,16 +1,16 @@
 -- Records and answers in samples: each kind with bytes that differ, each number of a refusal at the edges of its range. A record's bytes come after its length.
-use Rattle.std.specs.Prelude.{ℕ, zero, suc, ◌≡◌, true, false, List, [], ◌∷◌}
+use Rattle.std.specs.Prelude.{ℕ, zero, suc, ◌≡◌, List, [], ◌∷◌, Some, None, Ok, Err}
 use Rattle.units.specs.Units.{for_ticks}
-use Rattle.item_spec.specs.Record.{frame_of, answer_bytes, no_of}
+use Rattle.item_spec.specs.Record.{frame_of, answer_bytes}
 use Rattle.item_spec.specs.Items.{refusal_of}
 use Rattle.item_spec.specs.Many.{singles_of}
 use Rattle.item_spec.specs.Kinds.{decoded_of}
 use Rattle.item_spec.specs.declared.Item.{Item}
 use Rattle.item_spec.specs.declared.Item.TheVariants.{ReadVia, ReadIwm, WriteVia, WriteIwm, Line, Sense, Power, Disk, Pulse}
-use Rattle.item_spec.specs.declared.Many.{Many}
 use Rattle.item_spec.specs.declared.Decoded.{Decoded}
-use Rattle.item_spec.specs.declared.Decoded.TheVariants.{Done}
-use Rattle.item_spec.specs.declared.Framed.TheVariants.{Whole, Cut}
+use Rattle.item_spec.specs.declared.Decoded.TheVariants.{One}
+use Rattle.item_spec.specs.declared.Location.TheVariants.{Via, Iwm}
+use Rattle.refusal.specs.declared.Refusal.TheVariants.{DiskMismatch}
 
 -- The numbers of the refusals, 0 of an item.
 abbrev pub numbers : List (List ℕ) → List ℕ
@@ -28,37 +28,37 @@ many_bytes count n = 0x4d ∷ 0x57 ∷ 1 ∷ 2 ∷ 0xfe ∷ 0xf3 ∷ 0xef ∷ 0 
 
 pub record Samples : Type 0 where
   -- S2 and S4: RD $EFE1FE, WR $81 to $EFFDFE
-  pub s2 : decoded_of (0x52 ∷ 0x44 ∷ 0 ∷ 0 ∷ 0xfe ∷ 0xe1 ∷ 0xef ∷ 0 ∷ []) ≡ Done (ReadVia (for_ticks 0) 0)
-  pub s4 : decoded_of (0x57 ∷ 0x52 ∷ 0 ∷ 0 ∷ 0xfe ∷ 0xfd ∷ 0xef ∷ 0 ∷ 0x81 ∷ []) ≡ Done (WriteVia (for_ticks 0) 14 0x81)
+  pub s2 : decoded_of (0x52 ∷ 0x44 ∷ 0 ∷ 0 ∷ 0xfe ∷ 0xe1 ∷ 0xef ∷ 0 ∷ []) ≡ Ok (One (ReadVia (for_ticks 0) 0))
+  pub s4 : decoded_of (0x57 ∷ 0x52 ∷ 0 ∷ 0 ∷ 0xfe ∷ 0xfd ∷ 0xef ∷ 0 ∷ 0x81 ∷ []) ≡ Ok (One (WriteVia (for_ticks 0) 14 0x81))
   -- ---- each kind, after a wait of 513 VIA ticks
   -- RD, WR: $EFF3FE is VIA register 9, $DFEDFF IWM location 6
-  pub read_via : decoded_of (0x52 ∷ 0x44 ∷ 1 ∷ 2 ∷ 0xfe ∷ 0xf3 ∷ 0xef ∷ 0 ∷ []) ≡ Done (ReadVia (for_ticks 513) 9)
-  pub read_iwm : decoded_of (0x52 ∷ 0x44 ∷ 1 ∷ 2 ∷ 0xff ∷ 0xed ∷ 0xdf ∷ 0 ∷ []) ≡ Done (ReadIwm (for_ticks 513) 6)
-  pub write_via : decoded_of (0x57 ∷ 0x52 ∷ 1 ∷ 2 ∷ 0xfe ∷ 0xf3 ∷ 0xef ∷ 0 ∷ 0xa7 ∷ []) ≡ Done (WriteVia (for_ticks 513) 9 0xa7)
-  pub write_iwm : decoded_of (0x57 ∷ 0x52 ∷ 1 ∷ 2 ∷ 0xff ∷ 0xed ∷ 0xdf ∷ 0 ∷ 0xa7 ∷ []) ≡ Done (WriteIwm (for_ticks 513) 6 0xa7)
+  pub read_via : decoded_of (0x52 ∷ 0x44 ∷ 1 ∷ 2 ∷ 0xfe ∷ 0xf3 ∷ 0xef ∷ 0 ∷ []) ≡ Ok (One (ReadVia (for_ticks 513) 9))
+  pub read_iwm : decoded_of (0x52 ∷ 0x44 ∷ 1 ∷ 2 ∷ 0xff ∷ 0xed ∷ 0xdf ∷ 0 ∷ []) ≡ Ok (One (ReadIwm (for_ticks 513) 6))
+  pub write_via : decoded_of (0x57 ∷ 0x52 ∷ 1 ∷ 2 ∷ 0xfe ∷ 0xf3 ∷ 0xef ∷ 0 ∷ 0xa7 ∷ []) ≡ Ok (One (WriteVia (for_ticks 513) 9 0xa7))
+  pub write_iwm : decoded_of (0x57 ∷ 0x52 ∷ 1 ∷ 2 ∷ 0xff ∷ 0xed ∷ 0xdf ∷ 0 ∷ 0xa7 ∷ []) ≡ Ok (One (WriteIwm (for_ticks 513) 6 0xa7))
   -- VB, SE, RS
-  pub blank : decoded_of (0x56 ∷ 0x42 ∷ 1 ∷ 2 ∷ []) ≡ Done (Item.Blank (for_ticks 513))
-  pub second : decoded_of (0x53 ∷ 0x45 ∷ 1 ∷ 2 ∷ []) ≡ Done (Item.Second (for_ticks 513))
-  pub reset : decoded_of (0x52 ∷ 0x53 ∷ 1 ∷ 2 ∷ []) ≡ Done (Item.Reset (for_ticks 513))
+  pub blank : decoded_of (0x56 ∷ 0x42 ∷ 1 ∷ 2 ∷ []) ≡ Ok (One (Item.Blank (for_ticks 513)))
+  pub second : decoded_of (0x53 ∷ 0x45 ∷ 1 ∷ 2 ∷ []) ≡ Ok (One (Item.Second (for_ticks 513)))
+  pub reset : decoded_of (0x52 ∷ 0x53 ∷ 1 ∷ 2 ∷ []) ≡ Ok (One (Item.Reset (for_ticks 513)))
   -- IN: line, level
-  pub line : decoded_of (0x49 ∷ 0x4e ∷ 1 ∷ 2 ∷ 6 ∷ 1 ∷ []) ≡ Done (Line (for_ticks 513) 6 1)
+  pub line : decoded_of (0x49 ∷ 0x4e ∷ 1 ∷ 2 ∷ 6 ∷ 1 ∷ []) ≡ Ok (One (Line (for_ticks 513) 6 1))
   -- SN: drive, register, level
-  pub sense : decoded_of (0x53 ∷ 0x4e ∷ 1 ∷ 2 ∷ 1 ∷ 14 ∷ 0 ∷ []) ≡ Done (Sense (for_ticks 513) 1 14 0)
+  pub sense : decoded_of (0x53 ∷ 0x4e ∷ 1 ∷ 2 ∷ 1 ∷ 14 ∷ 0 ∷ []) ≡ Ok (One (Sense (for_ticks 513) 1 14 0))
   -- PW: $07060504 seconds off
-  pub power : decoded_of (0x50 ∷ 0x57 ∷ 1 ∷ 2 ∷ 4 ∷ 5 ∷ 6 ∷ 7 ∷ []) ≡ Done (Power (for_ticks 513) 0x07060504)
+  pub power : decoded_of (0x50 ∷ 0x57 ∷ 1 ∷ 2 ∷ 4 ∷ 5 ∷ 6 ∷ 7 ∷ []) ≡ Ok (One (Power (for_ticks 513) 0x07060504))
   -- DI: drive, insert, locked, double-sided
-  pub insert : decoded_of (0x44 ∷ 0x49 ∷ 1 ∷ 2 ∷ 0 ∷ 1 ∷ 1 ∷ 0 ∷ []) ≡ Done (Disk (for_ticks 513) 0 1 1 0)
-  pub remove : decoded_of (0x44 ∷ 0x49 ∷ 1 ∷ 2 ∷ 1 ∷ 0 ∷ 0 ∷ 1 ∷ []) ≡ Done (Disk (for_ticks 513) 1 0 0 1)
+  pub insert : decoded_of (0x44 ∷ 0x49 ∷ 1 ∷ 2 ∷ 0 ∷ 1 ∷ 1 ∷ 0 ∷ []) ≡ Ok (One (Disk (for_ticks 513) 0 1 1 0))
+  pub remove : decoded_of (0x44 ∷ 0x49 ∷ 1 ∷ 2 ∷ 1 ∷ 0 ∷ 0 ∷ 1 ∷ []) ≡ Ok (One (Disk (for_ticks 513) 1 0 0 1))
   -- MW: address, count, values; to VIA register 9 and to IWM location 6
-  pub many_via : decoded_of (0x4d ∷ 0x57 ∷ 1 ∷ 2 ∷ 0xfe ∷ 0xf3 ∷ 0xef ∷ 0 ∷ 2 ∷ 0xa7 ∷ 0x5c ∷ []) ≡ Decoded.Many (record { wait = for_ticks 513; iwm = false; number = 9 })
-  pub many_iwm : decoded_of (0x4d ∷ 0x57 ∷ 1 ∷ 2 ∷ 0xff ∷ 0xed ∷ 0xdf ∷ 0 ∷ 1 ∷ 0xa7 ∷ []) ≡ Decoded.Many (record { wait = for_ticks 513; iwm = true; number = 6 })
+  pub many_via : decoded_of (0x4d ∷ 0x57 ∷ 1 ∷ 2 ∷ 0xfe ∷ 0xf3 ∷ 0xef ∷ 0 ∷ 2 ∷ 0xa7 ∷ 0x5c ∷ []) ≡ Ok (Decoded.Many (record { wait = for_ticks 513; to = Via 9 }))
+  pub many_iwm : decoded_of (0x4d ∷ 0x57 ∷ 1 ∷ 2 ∷ 0xff ∷ 0xed ∷ 0xdf ∷ 0 ∷ 1 ∷ 0xa7 ∷ []) ≡ Ok (Decoded.Many (record { wait = for_ticks 513; to = Iwm 6 }))
   -- its single WR items: the first after the wait, the others with none
-  pub singles_via : singles_of (record { wait = for_ticks 513; iwm = false; number = 9 }) (0x4d ∷ 0x57 ∷ 1 ∷ 2 ∷ 0xfe ∷ 0xf3 ∷ 0xef ∷ 0 ∷ 3 ∷ 0xa7 ∷ 0x5c ∷ 0x31 ∷ [])
+  pub singles_via : singles_of (record { wait = for_ticks 513; to = Via 9 }) (0x4d ∷ 0x57 ∷ 1 ∷ 2 ∷ 0xfe ∷ 0xf3 ∷ 0xef ∷ 0 ∷ 3 ∷ 0xa7 ∷ 0x5c ∷ 0x31 ∷ [])
       ≡ WriteVia (for_ticks 513) 9 0xa7 ∷ WriteVia (for_ticks 0) 9 0x5c ∷ WriteVia (for_ticks 0) 9 0x31 ∷ []
-  pub singles_iwm : singles_of (record { wait = for_ticks 513; iwm = true; number = 6 }) (0x4d ∷ 0x57 ∷ 1 ∷ 2 ∷ 0xff ∷ 0xed ∷ 0xdf ∷ 0 ∷ 2 ∷ 0xa7 ∷ 0x5c ∷ [])
+  pub singles_iwm : singles_of (record { wait = for_ticks 513; to = Iwm 6 }) (0x4d ∷ 0x57 ∷ 1 ∷ 2 ∷ 0xff ∷ 0xed ∷ 0xdf ∷ 0 ∷ 2 ∷ 0xa7 ∷ 0x5c ∷ [])
       ≡ WriteIwm (for_ticks 513) 6 0xa7 ∷ WriteIwm (for_ticks 0) 6 0x5c ∷ []
   -- KC: level
-  pub pulse : decoded_of (0x4b ∷ 0x43 ∷ 1 ∷ 2 ∷ 1 ∷ []) ≡ Done (Pulse (for_ticks 513) 1)
+  pub pulse : decoded_of (0x4b ∷ 0x43 ∷ 1 ∷ 2 ∷ 1 ∷ []) ≡ Ok (One (Pulse (for_ticks 513) 1))
   -- ---- refusals
   -- 2: "ZZ", "rd", "RE", "WD", "BV", "ST", whatever their length
   pub kinds : numbers ((0x5a ∷ 0x5a ∷ 1 ∷ []) ∷ (0x72 ∷ 0x64 ∷ 0 ∷ 0 ∷ 0xfe ∷ 0xe1 ∷ 0xef ∷ 0 ∷ []) ∷ (0x52 ∷ 0x45 ∷ 0 ∷ 0 ∷ []) ∷ (0x57 ∷ 0x44 ∷ 0 ∷ 0 ∷ []) ∷ (0x42 ∷ 0x56 ∷ 0 ∷ 0 ∷ []) ∷ (0x53 ∷ 0x54 ∷ 0 ∷ 0 ∷ []) ∷ [])
@@ -100,12 +100,12 @@ pub record Samples : Type 0 where
   pub many_length : numbers (many_bytes 2 3 ∷ many_bytes 2 1 ∷ many_bytes 64 65 ∷ many_bytes 64 63 ∷ many_bytes 1 0 ∷ []) ≡ 3 ∷ 3 ∷ 3 ∷ 3 ∷ 3 ∷ []
   -- ---- framed, and answers
   -- The length counts what follows it, low byte first, and is 2 or more.
-  pub whole : frame_of (3 ∷ 0 ∷ 1 ∷ 2 ∷ 3 ∷ 4 ∷ []) ≡ Whole 5
-  pub least : frame_of (2 ∷ 0 ∷ 1 ∷ 2 ∷ []) ≡ Whole 4
-  pub low : frame_of (1 ∷ 0 ∷ 1 ∷ 2 ∷ []) ≡ Cut
-  pub short : frame_of (3 ∷ 0 ∷ 1 ∷ 2 ∷ []) ≡ Cut
-  pub high : frame_of (2 ∷ 1 ∷ 1 ∷ 2 ∷ []) ≡ Cut
-  pub stray : frame_of (2 ∷ []) ≡ Cut
+  pub whole : frame_of (3 ∷ 0 ∷ 1 ∷ 2 ∷ 3 ∷ 4 ∷ []) ≡ Some 5
+  pub least : frame_of (2 ∷ 0 ∷ 1 ∷ 2 ∷ []) ≡ Some 4
+  pub low : frame_of (1 ∷ 0 ∷ 1 ∷ 2 ∷ []) ≡ None
+  pub short : frame_of (3 ∷ 0 ∷ 1 ∷ 2 ∷ []) ≡ None
+  pub high : frame_of (2 ∷ 1 ∷ 1 ∷ 2 ∷ []) ≡ None
+  pub stray : frame_of (2 ∷ []) ≡ None
   -- value, level, disk lines, SEL; the refusal's number
-  pub answer : answer_bytes (record { ok = true; value = 0xa7; level = 5; lines = 0x93; sel = 1 }) ≡ 6 ∷ 0 ∷ 0x4f ∷ 0x4b ∷ 0xa7 ∷ 5 ∷ 0x93 ∷ 1 ∷ []
-  pub refusal : answer_bytes (no_of 8) ≡ 6 ∷ 0 ∷ 0x4e ∷ 0x4f ∷ 8 ∷ 0 ∷ 0 ∷ 0 ∷ []
+  pub answer : answer_bytes (Ok (record { value = 0xa7; level = 5; lines = 0x93; sel = 1 })) ≡ 6 ∷ 0 ∷ 0x4f ∷ 0x4b ∷ 0xa7 ∷ 5 ∷ 0x93 ∷ 1 ∷ []
+  pub refusal : answer_bytes (Err DiskMismatch) ≡ 6 ∷ 0 ∷ 0x4e ∷ 0x4f ∷ 8 ∷ 0 ∷ 0 ∷ 0 ∷ []

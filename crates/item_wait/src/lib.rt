@@ -1,4 +1,4 @@
-// The wait at the front of every item's body.
+//! The wait at the front of every item's body.
 #![tactic(auto)]
 
 ghost use Rattle.std.specs.Prelude.{◌≡◌, ◌≤◌, length};
@@ -6,11 +6,11 @@ ghost use Rattle.item_spec.specs.Items.{record_wait};
 
 use units::WaitTicks;
 
-// The wait of a record, its bytes after the length.
+/// The wait of a record, its bytes after the length, in VIA ticks.
 #[tactic(auto, unfolding(octets::specs::Octets::le16_of))]
-pub fn wait_of(s: &[u8]) -> WaitTicks
-    requires { 4 ≤ length s.now }
-    ensures { result ≡ record_wait s.now }
+pub fn wait_of(bytes: &[u8]) -> WaitTicks
+    requires { 4 ≤ length bytes.now }
+    ensures { result ≡ record_wait bytes.now }
 {
-    units::record_wait(s[2], s[3])
+    WaitTicks::from_le_bytes([bytes[2], bytes[3]])
 }

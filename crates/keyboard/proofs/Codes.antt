@@ -1,6 +1,6 @@
 -- The codes held as a list, against their eight places.
 use Prim.Native.Nat.{ℕ, zero, suc, ◌+◌, ◌-◌, ◌≤◌, ◌<◌}
-use mathlib.Core.Path.{◌≡◌, refl, ap, ap₂, ◌∙◌}
+use mathlib.Core.Path.{◌≡◌, refl, sym, ap, ap₂, ◌∙◌}
 use mathlib.Core.Bool.{Bool, true, ◌||◌}
 use mathlib.Core.List.{List, [], ◌∷◌, ◌++◌}
 use native.Mathlib.Omega.{arith}
@@ -11,7 +11,7 @@ use borrow.Author.Tests.{leb-true, eq-eqb, le-leb}
 use Rattle.keyboard.specs.declared.Keyboard.{Keyboard}
 use Rattle.keyboard.specs.State.{codes_of, places, with_codes, with_left, all_zero, accepted_of}
 use Rattle.levels.proofs.Laws.{both, joined}
-use Rattle.keyboard.proofs.Lists.{pushed, longer, are-zeros}
+use Rattle.keyboard.proofs.Lists.{pushed, longer, zeros-are, are-zeros}
 
 -- what an accepted state has
 pub record Accepted (k : Keyboard) : Type 0 where
@@ -88,6 +88,16 @@ codes-back k cs = take_at cs (replicate (8 - length cs) 0) (length cs) refl
 pub none-held : (k : Keyboard) → k.held ≡ 0 → codes_of k ≡ []
 unfolding codes_of
 none-held k e = ap (λ (n : ℕ). take n k.codes) e
+
+-- no code held: eight places of 0
+pub emptied : (k : Keyboard) → length k.codes ≡ 8 → accepted_of k ≡ true → codes_of k ≡ [] → with_codes k [] ≡ k
+unfolding codes_of places
+emptied k l a e =
+    let p = parts k a in
+    let h : length (take k.held k.codes) ≡ k.held = length-take-le k.held k.codes (omega (arith, p.few)) in
+    let z : 0 ≡ k.held = ap length (sym e) ∙ h in
+    let s : replicate 8 0 ≡ k.codes = ap (λ (n : ℕ). replicate n 0) (sym l) ∙ sym (zeros-are k.codes (ap (λ (n : ℕ). all_zero (drop n k.codes)) z ∙ p.unused)) in
+    ap₂ (λ (i : ℕ) (c : List ℕ). record { model = k.model; held = i; codes = c; left = k.left }) z s
 
 -- ---- the ranges stay
 

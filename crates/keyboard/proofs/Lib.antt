@@ -1,4 +1,4 @@
 pub mod Lists
 pub mod Codes
-pub mod Ticks
 pub mod Checked
+pub mod Ticks

@@ -1,5 +1,6 @@
 -- What a shell may rely on: an image stays one, a refusal leaves its bytes, a wait may be cut anywhere.
 use Prim.Native.Nat.{ℕ, ◌+◌, ◌-◌, ◌≤◌}
+use Rattle.std.specs.Prelude.{Err}
 use mathlib.Core.Path.{◌≡◌, refl, sym, ap, ◌∙◌}
 use mathlib.Core.Bool.{Bool, true, false, cond}
 use mathlib.Core.List.{List}
@@ -9,10 +10,9 @@ use lib.Seq.{length-take-le}
 use lib.Dec.{eqb}
 use Rattle.octets.specs.Octets.{Bytes}
 use Rattle.keyboard.specs.declared.Keyboard.{Keyboard}
-use Rattle.keyboard.specs.declared.Stepped.{Stepped}
-use Rattle.keyboard.specs.declared.Response.TheVariants.{OutOfRange}
+use Rattle.refusal.specs.declared.Refusal.TheVariants.{NotAccepted}
 use Rattle.keyboard.specs.Numbers.{refusal_of}
-use Rattle.keyboard.specs.Steps.{respond, wait_of}
+use Rattle.keyboard.specs.Steps.{Stepped, respond, wait_of}
 use Rattle.keyboard.proofs.Codes.{parts}
 use Rattle.keyboard_history.specs.Events.{Event, wait, step_of, or_else}
 use Rattle.keyboard_history.proofs.Cases.{Good, fair}
@@ -31,19 +31,19 @@ good s v =
     record { ranges = w.state; eight = length-take-le 8 (drop 6 s) (omega arith) }
 
 -- on a valid image a call is the step, on others nothing
-called : (f : Keyboard → Stepped) (s : List ℕ) → valid_image s ≡ true → call_of f s ≡ f (keyboard_of s)
+pub called : (f : Keyboard → Stepped) (s : List ℕ) → valid_image s ≡ true → call_of f s ≡ f (keyboard_of s)
 unfolding call_of
-called f s v = ap (λ (b : Bool). cond b (f (keyboard_of s)) (respond (keyboard_of s) OutOfRange)) v
+called f s v = ap (λ (b : Bool). cond b (f (keyboard_of s)) (respond (keyboard_of s) (Err NotAccepted))) v
 
-uncalled : (f : Keyboard → Stepped) (s : List ℕ) → valid_image s ≡ false → call_of f s ≡ respond (keyboard_of s) OutOfRange
+pub uncalled : (f : Keyboard → Stepped) (s : List ℕ) → valid_image s ≡ false → call_of f s ≡ respond (keyboard_of s) (Err NotAccepted)
 unfolding call_of
-uncalled f s v = ap (λ (b : Bool). cond b (f (keyboard_of s)) (respond (keyboard_of s) OutOfRange)) v
+uncalled f s v = ap (λ (b : Bool). cond b (f (keyboard_of s)) (respond (keyboard_of s) (Err NotAccepted))) v
 
-image-of : (f : Keyboard → Stepped) (s : List ℕ) → valid_image s ≡ true → call_image f s ≡ image_of (f (keyboard_of s)).keyboard
+pub image-of : (f : Keyboard → Stepped) (s : List ℕ) → valid_image s ≡ true → call_image f s ≡ image_of (f (keyboard_of s)).keyboard
 unfolding call_image
 image-of f s v = ap (λ (b : Bool). cond b (image_of (call_of f s).keyboard) s) v ∙ ap (λ (t : Stepped). image_of t.keyboard) (called f s v)
 
-image-kept : (f : Keyboard → Stepped) (s : List ℕ) → valid_image s ≡ false → call_image f s ≡ s
+pub image-kept : (f : Keyboard → Stepped) (s : List ℕ) → valid_image s ≡ false → call_image f s ≡ s
 unfolding call_image
 image-kept f s v = ap (λ (b : Bool). cond b (image_of (call_of f s).keyboard) s) v
 

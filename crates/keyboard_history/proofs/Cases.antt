@@ -1,21 +1,20 @@
 -- What one event leaves of a keyboard in its ranges: the ranges, the codes in their order.
 use Prim.Native.Nat.{ℕ, zero, suc, ◌+◌, ◌-◌, ◌≤◌, ◌<◌}
+use Rattle.std.specs.Prelude.{Some, None, Ok}
 use mathlib.Core.Path.{◌≡◌, refl, sym, ap, ◌∙◌}
 use mathlib.Core.Bool.{Bool, true, false, cond, not, ◌&&◌, ◌||◌}
 use mathlib.Core.List.{List, [], ◌∷◌, ◌++◌, append-nil}
 use native.Mathlib.Omega.{arith}
 use lib.ListN.{length, take, replicate, length-append, length-replicate}
 use lib.Dec.{eqb, leb}
-use borrow.Author.Tests.{eq-eqb, eqb-true, eqb-false, leb-true, leb-false}
+use borrow.Author.Tests.{eq-eqb, eqb-true, eqb-false}
 use Rattle.keyboard.specs.declared.Keyboard.{Keyboard}
-use Rattle.keyboard.specs.declared.Stepped.{Stepped}
-use Rattle.keyboard.specs.declared.Response.{Response}
-use Rattle.keyboard.specs.declared.Response.TheVariants.{Null, Model, Ack, Nothing}
-use Rattle.keyboard.specs.Numbers.{refusal_of}
+use Rattle.keyboard.specs.declared.Reply.TheVariants.{Null, Model, Ack}
+use Rattle.keyboard.specs.Numbers.{Response, refusal_of}
 use Rattle.keyboard.specs.State.{codes_of, places, with_left, accepted_of}
-use Rattle.keyboard.specs.Steps.{respond, oldest_else, instant, inquiry, answer_to, command_of, key_by, key_of, ticks, wait_of}
+use Rattle.keyboard.specs.Steps.{Stepped, respond, oldest_else, instant, inquiry, answer_to, command_of, key_by, key_of, wait_of}
 use Rattle.keyboard.proofs.Codes.{parts, whole, codes-back, none-held, ended-accepted, codes-accepted}
-use Rattle.keyboard.proofs.Ticks.{idle, counts, ends}
+use Rattle.keyboard.proofs.Ticks.{wait-is}
 use Rattle.keyboard.proofs.Checked.{passed}
 use Rattle.keyboard_history.specs.Events.{Event, command, key, wait, step_of, code_in, code_out}
 
@@ -60,25 +59,7 @@ eight-places cs h =
     let f : length zeros ≡ 8 - length cs = length-replicate (8 - length cs) 0 in
     e ∙ omega (arith, f)
 
--- ---- a wait: how many ticks are left, and whether the Null comes
-
-waited-by : (n : ℕ) (k : Keyboard) (a b : Bool) → eqb k.left 0 ≡ a → leb k.left n ≡ b
-    → ticks n (respond k Nothing) ≡ respond (with_left k (k.left - n)) (cond (not a && b) Null Nothing)
-waited-by n k true b e f =
-    let z : k.left ≡ 0 = eqb-true _ _ e in
-    let m : k.left ≡ k.left - n = omega arith in
-    idle n (respond k Nothing) z ∙ ap (λ (l : ℕ). respond (with_left k l) Nothing) m
-waited-by n k false true e f =
-    let z : k.left ≡ 0 → ⊥ = eqb-false _ _ e in
-    let h : k.left ≤ n = leb-true _ _ f in
-    let m : 0 ≡ k.left - n = omega arith in
-    ends n (respond k Nothing) (omega (arith, z)) h ∙ ap (λ (l : ℕ). respond (with_left k l) Null) m
-waited-by n k false false e f = counts n (respond k Nothing) (leb-false _ _ f)
-
-pub wait-is : (n : ℕ) (k : Keyboard) → accepted_of k ≡ true
-    → wait_of n k ≡ respond (with_left k (k.left - n)) (cond (not (eqb k.left 0) && leb k.left n) Null Nothing)
-unfolding wait_of
-wait-is n k a = passed k _ a ∙ waited-by n k _ _ refl refl
+-- ---- a wait
 
 still-alone : (a h n : ℕ) (b : Bool) → eqb a 0 ≡ b → (b || eqb h 0) ≡ true → (eqb (a - n) 0 || eqb h 0) ≡ true
 still-alone a h n true e p = let z : a ≡ 0 = eqb-true _ _ e in ap (λ (x : Bool). x || eqb h 0) (eq-eqb (a - n) 0 (omega arith))
@@ -88,7 +69,7 @@ still-alone a h n false e p = ap (λ (x : Bool). eqb (a - n) 0 || x) p ∙ or-tr
     or-true true = refl
     or-true false = refl
 
-no_code : (b : Bool) → code_out (cond b Null Nothing) ≡ []
+no_code : (b : Bool) → code_out (cond b (Ok (Some Null)) (Ok None)) ≡ []
 no_code true = refl
 no_code false = refl
 
@@ -98,7 +79,7 @@ waited-accepted n k a =
     let m : k.left - n ≤ 195840 = omega (arith, p.soon) in
     whole (with_left k (k.left - n)) (record { few = p.few; unused = p.unused; soon = m; alone = still-alone k.left k.held n _ refl p.alone })
 
-fair-wait-by : (n : ℕ) (k : Keyboard) (b : Bool) → Good k → Fair (wait n) k (respond (with_left k (k.left - n)) (cond b Null Nothing))
+fair-wait-by : (n : ℕ) (k : Keyboard) (b : Bool) → Good k → Fair (wait n) k (respond (with_left k (k.left - n)) (cond b (Ok (Some Null)) (Ok None)))
 unfolding codes_of
 fair-wait-by n k b g =
     record {
@@ -129,7 +110,7 @@ fair-oldest b k (c ∷ cs) other g z e f =
 fair-same : (b : ℕ) (k : Keyboard) (r : Response) → Good k → code_out r ≡ [] → Fair (command b) k (respond k r)
 fair-same b k r g e = record { good = g; order = append-nil (codes_of k) ∙ ap (λ (cs : List ℕ). cs ++ codes_of k) (sym e) }
 
-waiting : (b : ℕ) (k : Keyboard) → Good k → codes_of k ≡ [] → Fair (command b) k (respond (with_left k 195840) Nothing)
+waiting : (b : ℕ) (k : Keyboard) → Good k → codes_of k ≡ [] → Fair (command b) k (respond (with_left k 195840) (Ok None))
 unfolding codes_of
 waiting b k g e =
     let p = parts k g.ranges in
@@ -143,9 +124,9 @@ fair-answer : (b : ℕ) (k : Keyboard) → Good k → k.left ≡ 0 → Fair (com
 unfolding answer_to inquiry instant
 fair-answer b k g z =
     fair-cond (command b) k (eqb b 16) _ _ (fair-oldest b k (codes_of k) _ g z refl (λ e. waiting b k g e))
-    (fair-cond (command b) k (eqb b 20) _ _ (fair-oldest b k (codes_of k) _ g z refl (λ e. fair-same b k Null g refl))
-    (fair-cond (command b) k (eqb b 22) _ _ (fair-same b k (Model k.model) g refl)
-    (fair-cond (command b) k (eqb b 54) _ _ (fair-same b k Ack g refl) (fair-same b k Nothing g refl))))
+    (fair-cond (command b) k (eqb b 20) _ _ (fair-oldest b k (codes_of k) _ g z refl (λ e. fair-same b k (Ok (Some Null)) g refl))
+    (fair-cond (command b) k (eqb b 22) _ _ (fair-same b k (Ok (Some (Model k.model))) g refl)
+    (fair-cond (command b) k (eqb b 54) _ _ (fair-same b k (Ok (Some Ack)) g refl) (fair-same b k (Ok None) g refl))))
 
 fair-command : (b : ℕ) (k : Keyboard) → Good k → Fair (command b) k (command_of b k)
 unfolding command_of codes_of

@@ -1,5 +1,6 @@
 -- A Null comes exactly where 195,840 VIA ticks pass with no key and no command, and at an Instant with no code held.
 use Prim.Native.Nat.{ℕ, ◌+◌, ◌-◌, ◌≤◌, ◌<◌}
+use Rattle.std.specs.Prelude.{Some, None, Ok}
 use mathlib.Core.Path.{◌≡◌, refl, sym, ap, ◌∙◌}
 use mathlib.Core.Bool.{Bool, true, false, cond, not, ◌&&◌}
 use mathlib.Core.List.{List, [], ◌∷◌}
@@ -7,15 +8,15 @@ use native.Mathlib.Omega.{arith}
 use lib.Dec.{eqb, ltb, leb}
 use borrow.Author.Tests.{eq-eqb, ne_eqb, eqb-true, le-leb, lt-leb, ltb-true, ltb-false, leb-true, leb-false}
 use Rattle.keyboard.specs.declared.Keyboard.{Keyboard}
-use Rattle.keyboard.specs.declared.Stepped.{Stepped}
-use Rattle.keyboard.specs.declared.Response.TheVariants.{Null, Model, Ack, Nothing}
+use Rattle.keyboard.specs.declared.Reply.TheVariants.{Null, Model, Ack}
 use Rattle.keyboard.specs.State.{codes_of, with_left, accepted_of}
-use Rattle.keyboard.specs.Steps.{respond, oldest_else, instant, inquiry, answer_to, command_of, key_by, key_of}
+use Rattle.keyboard.specs.Steps.{Stepped, respond, oldest_else, instant, inquiry, answer_to, command_of, key_by, key_of}
 use Rattle.keyboard.proofs.Codes.{parts}
 use Rattle.keyboard.proofs.Checked.{passed}
+use Rattle.keyboard.proofs.Ticks.{wait-is}
 use Rattle.keyboard_history.specs.Events.{Event, command, key, wait, step_of, keyboard_after, response_to}
 use Rattle.keyboard_history.specs.Nulls.{is_null, none, inquiry_open, ticks_since, null_at}
-use Rattle.keyboard_history.proofs.Cases.{Good, wait-is}
+use Rattle.keyboard_history.proofs.Cases.{Good}
 use Rattle.keyboard_history.proofs.Order.{good-after}
 
 -- ---- one event: the ticks left after it, and whether its response is Null
@@ -23,11 +24,11 @@ use Rattle.keyboard_history.proofs.Order.{good-after}
 -- a command, by its tests and the codes held, with no Inquiry waiting
 abbrev pub answered : Bool → Bool → Bool → Bool → List ℕ → Keyboard → Stepped
 answered i t m s cs k =
-    cond i (oldest_else (respond (with_left k 195840) Nothing) cs k)
-    (cond t (oldest_else (respond k Null) cs k)
-    (cond m (respond k (Model k.model))
-    (cond s (respond k Ack)
-    (respond k Nothing))))
+    cond i (oldest_else (respond (with_left k 195840) (Ok None)) cs k)
+    (cond t (oldest_else (respond k (Ok (Some Null))) cs k)
+    (cond m (respond k (Ok (Some (Model k.model))))
+    (cond s (respond k (Ok (Some Ack)))
+    (respond k (Ok None)))))
 
 left_by : (i t m s : Bool) (cs : List ℕ) (k : Keyboard) → k.left ≡ 0 → (answered i t m s cs k).keyboard.left ≡ cond (i && none cs) 195840 0
 left_by true t m s [] k e = refl
@@ -98,7 +99,7 @@ left_is k (wait n ∷ es) g =
 
 -- ---- the theorem
 
-is-null : (b : Bool) → is_null (cond b Null Nothing) ≡ b
+is-null : (b : Bool) → is_null (cond b (Ok (Some Null)) (Ok None)) ≡ b
 is-null true = refl
 is-null false = refl
 

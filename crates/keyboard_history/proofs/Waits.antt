@@ -1,5 +1,6 @@
 -- Waits add, so that a shell may cut a wait anywhere; a refusal changes nothing.
 use Prim.Native.Nat.{ℕ, ◌+◌, ◌-◌, ◌≤◌, ◌<◌}
+use Rattle.std.specs.Prelude.{Some, None, Ok, Err}
 use mathlib.Core.Path.{◌≡◌, refl, sym, ap, ap₂, ◌∙◌}
 use mathlib.Core.Bool.{Bool, true, false, cond, not, ◌&&◌, ◌||◌}
 use mathlib.Core.List.{List, [], ◌∷◌}
@@ -8,20 +9,20 @@ use lib.Dec.{eqb, leb}
 use borrow.Author.Tests.{eq-eqb, ne_eqb, eqb-true, le-leb, lt-leb, leb-true, leb-false}
 use Rattle.levels.proofs.Laws.{no}
 use Rattle.keyboard.specs.declared.Keyboard.{Keyboard}
-use Rattle.keyboard.specs.declared.Stepped.{Stepped}
-use Rattle.keyboard.specs.declared.Response.{Response}
-use Rattle.keyboard.specs.declared.Response.TheVariants.{Code, Null, Model, Ack, Nothing, OutOfRange}
-use Rattle.keyboard.specs.Numbers.{refusal_of}
+use Rattle.refusal.specs.declared.Refusal.TheVariants.{NotAccepted}
+use Rattle.keyboard.specs.declared.Reply.TheVariants.{Code, Null, Model, Ack}
+use Rattle.keyboard.specs.Numbers.{Response, refusal_of}
 use Rattle.keyboard.specs.State.{codes_of, with_left, accepted_of}
-use Rattle.keyboard.specs.Steps.{respond, if_accepted, inquiry, instant, answer_to, command_of, key_by, key_of, wait_of}
+use Rattle.keyboard.specs.Steps.{Stepped, respond, if_accepted, inquiry, instant, answer_to, command_of, key_by, key_of, wait_of}
 use Rattle.keyboard.proofs.Checked.{failed}
+use Rattle.keyboard.proofs.Ticks.{wait-is}
 use Rattle.keyboard_history.specs.Events.{Event, command, key, wait, step_of, or_else, both_waits}
-use Rattle.keyboard_history.proofs.Cases.{wait-is, waited-accepted}
+use Rattle.keyboard_history.proofs.Cases.{waited-accepted}
 use Rattle.keyboard_history.proofs.Nulls.{answered}
 
 -- ---- waits add
 
-either : (p q : Bool) → or_else (cond p Null Nothing) (cond q Null Nothing) ≡ cond (p || q) Null Nothing
+either : (p q : Bool) → or_else (cond p (Ok (Some Null)) (Ok None)) (cond q (Ok (Some Null)) (Ok None)) ≡ cond (p || q) (Ok (Some Null)) (Ok None)
 either true q = refl
 either false q = refl
 
@@ -47,18 +48,18 @@ add-accepted a b k h =
     let e : l - (a + b) ≡ l - a - b = omega arith in
     let w = wait-is b (with_left k (l - a)) (waited-accepted a k h) in
     wait-is (a + b) k h
-    ∙ ap₂ (λ (m : ℕ) (r : Response). respond (with_left k m) r) e (ap (λ (x : Bool). cond x Null Nothing) (sym (halves l a b)) ∙ sym (either (not (eqb l 0) && leb l a) (not (eqb (l - a) 0) && leb (l - a) b)))
-    ∙ ap (λ (t : Stepped). both_waits (respond (with_left k (l - a)) (cond (not (eqb l 0) && leb l a) Null Nothing)) t) (sym w)
+    ∙ ap₂ (λ (m : ℕ) (r : Response). respond (with_left k m) r) e (ap (λ (x : Bool). cond x (Ok (Some Null)) (Ok None)) (sym (halves l a b)) ∙ sym (either (not (eqb l 0) && leb l a) (not (eqb (l - a) 0) && leb (l - a) b)))
+    ∙ ap (λ (t : Stepped). both_waits (respond (with_left k (l - a)) (cond (not (eqb l 0) && leb l a) (Ok (Some Null)) (Ok None))) t) (sym w)
     ∙ ap (λ (s : Stepped). both_waits s (wait_of b s.keyboard)) (sym (wait-is a k h))
 
-refused-wait : (n : ℕ) (k : Keyboard) → accepted_of k ≡ false → wait_of n k ≡ respond k OutOfRange
+refused-wait : (n : ℕ) (k : Keyboard) → accepted_of k ≡ false → wait_of n k ≡ respond k (Err NotAccepted)
 unfolding wait_of
 refused-wait n k h = failed k _ h
 
 add-refused : (a b : ℕ) (k : Keyboard) → accepted_of k ≡ false → wait_of (a + b) k ≡ both_waits (wait_of a k) (wait_of b (wait_of a k).keyboard)
 add-refused a b k h =
     refused-wait (a + b) k h
-    ∙ ap (λ (t : Stepped). both_waits (respond k OutOfRange) t) (sym (refused-wait b k h))
+    ∙ ap (λ (t : Stepped). both_waits (respond k (Err NotAccepted)) t) (sym (refused-wait b k h))
     ∙ ap (λ (s : Stepped). both_waits s (wait_of b s.keyboard)) (sym (refused-wait a k h))
 
 -- A wait of a + b ticks is one of a, then one of b, whatever the state.
@@ -78,7 +79,7 @@ Kept k s = eqb (refusal_of s.response) 0 ≡ false → s.keyboard ≡ k
 kept-range : (k : Keyboard) (s : Stepped) → (accepted_of k ≡ true → Kept k s) → Kept k (if_accepted k s)
 kept-range k s f = by (accepted_of k) refl
   where
-    by : (t : Bool) → accepted_of k ≡ t → Kept k (cond t s (respond k OutOfRange))
+    by : (t : Bool) → accepted_of k ≡ t → Kept k (cond t s (respond k (Err NotAccepted)))
     by true h = f h
     by false h = λ r. refl
 
@@ -87,24 +88,24 @@ fine k q r e h = no (sym h ∙ ap (λ (n : ℕ). eqb n 0) e)
 
 answered-kept : (k q : Keyboard) (i t m s : Bool) (cs : List ℕ) → Kept k (answered i t m s cs q)
 unfolding refusal_of
-answered-kept k q true t m s [] = fine k _ Nothing refl
-answered-kept k q true t m s (c ∷ cs) = fine k _ (Code c) refl
-answered-kept k q false true m s [] = fine k _ Null refl
-answered-kept k q false true m s (c ∷ cs) = fine k _ (Code c) refl
-answered-kept k q false false true s cs = fine k _ (Model q.model) refl
-answered-kept k q false false false true cs = fine k _ Ack refl
-answered-kept k q false false false false cs = fine k _ Nothing refl
+answered-kept k q true t m s [] = fine k _ (Ok None) refl
+answered-kept k q true t m s (c ∷ cs) = fine k _ (Ok (Some (Code c))) refl
+answered-kept k q false true m s [] = fine k _ (Ok (Some Null)) refl
+answered-kept k q false true m s (c ∷ cs) = fine k _ (Ok (Some (Code c))) refl
+answered-kept k q false false true s cs = fine k _ (Ok (Some (Model q.model))) refl
+answered-kept k q false false false true cs = fine k _ (Ok (Some Ack)) refl
+answered-kept k q false false false false cs = fine k _ (Ok None) refl
 
 key-kept : (c : ℕ) (k : Keyboard) (a b : Bool) → Kept k (key_by a b c k)
 unfolding refusal_of
-key-kept c k false b = fine k _ (Code c) refl
+key-kept c k false b = fine k _ (Ok (Some (Code c))) refl
 key-kept c k true true = λ h. refl
-key-kept c k true false = fine k _ Nothing refl
+key-kept c k true false = fine k _ (Ok None) refl
 
-wait-kept : (k q : Keyboard) (b : Bool) → Kept k (respond q (cond b Null Nothing))
+wait-kept : (k q : Keyboard) (b : Bool) → Kept k (respond q (cond b (Ok (Some Null)) (Ok None)))
 unfolding refusal_of
-wait-kept k q true = fine k q Null refl
-wait-kept k q false = fine k q Nothing refl
+wait-kept k q true = fine k q (Ok (Some Null)) refl
+wait-kept k q false = fine k q (Ok None) refl
 
 -- "both change nothing": whatever the event and the state.
 pub refusal-keeps : (e : Event) (k : Keyboard) → eqb (refusal_of (step_of e k).response) 0 ≡ false → (step_of e k).keyboard ≡ k

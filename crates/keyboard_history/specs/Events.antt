@@ -1,12 +1,10 @@
 -- Events one after the other, by request W-210: "command bytes, key codes and waits go in; answer bytes come out". Every list of events has the
 -- newest first; lists of codes have the oldest first. Time is in VIA ticks.
-use Rattle.std.specs.Prelude.{ℕ, cond, List, [], ◌∷◌, ◌++◌, eqb}
+use Rattle.std.specs.Prelude.{ℕ, cond, List, [], ◌∷◌, ◌++◌, eqb, Some, None, Ok, Err}
 use Rattle.keyboard.specs.declared.Keyboard.{Keyboard}
-use Rattle.keyboard.specs.declared.Stepped.{Stepped}
-use Rattle.keyboard.specs.declared.Response.{Response}
-use Rattle.keyboard.specs.declared.Response.TheVariants.{Code, Null, Model, Ack, Nothing, Full, OutOfRange}
-use Rattle.keyboard.specs.Numbers.{refusal_of}
-use Rattle.keyboard.specs.Steps.{respond, command_of, key_of, wait_of}
+use Rattle.keyboard.specs.declared.Reply.TheVariants.{Code, Null, Model, Ack}
+use Rattle.keyboard.specs.Numbers.{Response, refusal_of}
+use Rattle.keyboard.specs.Steps.{Stepped, respond, command_of, key_of, wait_of}
 
 pub data Event : Type 0 where
   command : ℕ → Event
@@ -46,13 +44,12 @@ codes_in k (e ∷ es) = codes_in k es ++ code_in e (response_to e k es)
 
 -- A response that is a key code went out.
 abbrev pub code_out : Response → List ℕ
-code_out (Code c) = c ∷ []
-code_out Null = []
-code_out (Model m) = []
-code_out Ack = []
-code_out Nothing = []
-code_out Full = []
-code_out OutOfRange = []
+code_out (Ok (Some (Code c))) = c ∷ []
+code_out (Ok (Some Null)) = []
+code_out (Ok (Some (Model m))) = []
+code_out (Ok (Some Ack)) = []
+code_out (Ok None) = []
+code_out (Err e) = []
 
 unfoldable pub codes_out : Keyboard → List Event → List ℕ
 codes_out k [] = []
@@ -62,13 +59,9 @@ codes_out k (e ∷ es) = codes_out k es ++ code_out (response_to e k es)
 
 -- What the two parts say together: the first part's response, or the second's where the first says nothing.
 abbrev pub or_else : Response → Response → Response
-or_else (Code c) r = Code c
-or_else Null r = Null
-or_else (Model m) r = Model m
-or_else Ack r = Ack
-or_else Nothing r = r
-or_else Full r = Full
-or_else OutOfRange r = OutOfRange
+or_else (Ok (Some a)) r = Ok (Some a)
+or_else (Ok None) r = r
+or_else (Err e) r = Err e
 
 abbrev pub both_waits : Stepped → Stepped → Stepped
 both_waits s t = respond t.keyboard (or_else s.response t.response)

@@ -1,20 +1,19 @@
 -- Where a Null comes, from the events alone but for the codes held: request W-210, "Null once 195,840 VIA ticks pass with no key". Every list of events
 -- has the newest first.
-use Rattle.std.specs.Prelude.{ℕ, ◌+◌, ◌-◌, Bool, true, false, not, ◌&&◌, List, [], ◌∷◌, eqb, ltb, leb}
+use Rattle.std.specs.Prelude.{ℕ, ◌+◌, ◌-◌, Bool, true, false, not, ◌&&◌, List, [], ◌∷◌, eqb, ltb, leb, Some, None, Ok, Err}
 use Rattle.keyboard.specs.declared.Keyboard.{Keyboard}
-use Rattle.keyboard.specs.declared.Response.{Response}
-use Rattle.keyboard.specs.declared.Response.TheVariants.{Code, Null, Model, Ack, Nothing, Full, OutOfRange}
+use Rattle.keyboard.specs.declared.Reply.TheVariants.{Code, Null, Model, Ack}
 use Rattle.keyboard.specs.State.{codes_of}
+use Rattle.keyboard.specs.Numbers.{Response}
 use Rattle.keyboard_history.specs.Events.{Event, command, key, wait, keyboard_after}
 
 abbrev pub is_null : Response → Bool
-is_null (Code c) = false
-is_null Null = true
-is_null (Model m) = false
-is_null Ack = false
-is_null Nothing = false
-is_null Full = false
-is_null OutOfRange = false
+is_null (Ok (Some (Code c))) = false
+is_null (Ok (Some Null)) = true
+is_null (Ok (Some (Model m))) = false
+is_null (Ok (Some Ack)) = false
+is_null (Ok None) = false
+is_null (Err e) = false
 
 abbrev pub none : List ℕ → Bool
 none [] = true

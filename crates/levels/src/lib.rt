@@ -1,25 +1,19 @@
-// Line levels: one loop for every array of them.
+//! Line levels: one test for every array of them.
 #![tactic(auto)]
 
 ghost use Rattle.std.specs.Prelude.{◌≡◌};
 ghost use Rattle.levels.specs.Levels.{all_below, all_levels};
 
-// Whether every number of the slice is below n. It looks at all of them, so that the compiler takes several at a time.
-pub fn all_below(s: &[u8], n: u8) -> bool
-    ensures { result ≡ all_below n s.now }
+/// Whether every number of the slice is below the limit.
+pub fn all_below(numbers: &[u8], limit: u8) -> bool
+    ensures { result ≡ all_below limit numbers.now }
 {
-    let mut all = true;
-    let mut i: usize = 0;
-    while i < s.len() {
-        all = all & (s[i] < n);
-        i += 1;
-    }
-    all
+    numbers.iter().all(|&number| number < limit)
 }
 
-// Whether every number of the slice is a line level, 0 or 1.
-pub fn all_levels(s: &[u8]) -> bool
-    ensures { result ≡ all_levels s.now }
+/// Whether every number of the slice is a line level, 0 or 1.
+pub fn all_levels(levels: &[u8]) -> bool
+    ensures { result ≡ all_levels levels.now }
 {
-    all_below(s, 2)
+    all_below(levels, 2)
 }

@@ -1,221 +1,145 @@
-// An item over the machine in parts: its wait, and its action with the clock's look at its wires. The board, the clock's core and the drives go in by value; the cells
-// and the sense registers are lent.
+//! One item over a machine that is lent: its wait, its action, and then what the clock and the strobe make of it.
 #![tactic(auto)]
 
-ghost use Rattle.std.specs.Prelude.{◌≡◌, true, ℕ, ◌<◌, ◌+◌, ◌*◌, List, length, get_or};
+ghost use Rattle.std.specs.Prelude.{◌≡◌, ◌<◌, true, length};
 ghost use Rattle.levels.specs.Levels.{all_levels};
-ghost use Rattle.clock_spec.specs.Phase.{shown_level};
-ghost use Rattle.disk_lines.specs.Lines.{read_line, sense_at};
-ghost use Rattle.disk_spec.specs.Drives.{drives_shown, drives_after};
 ghost use Rattle.item_spec.specs.Items.{ItemInRange};
-ghost use Rattle.via.specs.Registers.{value_read, flags_read};
-ghost use Rattle.via.specs.Setters.{with_sr, with_flags, with_pulses};
-ghost use Rattle.via.specs.Shift.{pulses_accessed};
-ghost use Rattle.machine_spec.specs.Pins.{sel_of};
-ghost use Rattle.machine_spec.specs.Wiring.{inputs_of};
-ghost use Rattle.machine_pins.specs.declared.Board.{Board};
-ghost use Rattle.machine_spec.specs.Machine.{Levels};
-ghost use Rattle.machine_spec.specs.Stages.{item_wait};
+ghost use Rattle.machine_spec.specs.Machine.{Levels, accepted_of};
+ghost use Rattle.machine_spec.specs.Stages.{item_wait, after_wait};
+ghost use Rattle.machine_spec.specs.Accesses.{via_read, iwm_read, keyboard_pulse};
 ghost use Rattle.machine_spec.specs.Action.{acted_of};
-ghost use Rattle.machine_write.specs.Values.{via_after, spoilt_if, register_written};
-ghost use Rattle.machine_act.specs.declared.Change.TheVariants.{Shift};
-ghost use Rattle.machine_act.specs.Parts.{whole_machine, board_via, board_change, sense_change, machine_after, clocked_by, sel_moved, ChangeInRange, PhaseAccepted};
+ghost use Rattle.machine_write.specs.Values.{step_with};
+ghost use Rattle.machine_act.specs.Idle.{idled_by};
 
-use clock_command::Engine;
-use clock_parts::Core;
+use clock::Clock;
+use clock_command::Lookup;
+use clock_spec::Phase;
 use disk_lines::DiskLines;
-use disk_spec::{Drives, Watched};
 use item_spec::Item;
-use machine_pins::Board;
 use machine_spec::Machine;
 use units::WaitTicks;
-use via::{Ports, Via};
 
-// What an item changes on the board or in the sense registers: at most one thing.
-#[derive(Clone, Copy)]
-pub enum Change {
-    Nothing,
-    // The VIA's flags.
-    Flags(u8),
-    // The VIA's ports, by a write to port B or to its direction.
-    Ports(Ports),
-    // Another VIA register, to which the item's values are written.
-    Register(u8),
-    // An IN line, and a sense register, each with its level.
-    Line(usize, u8),
-    Sense(usize, u8),
-    // The VIA by RS and by PW.
-    Reset,
-    Fresh,
-    // The VIA's register 10, its flags and its count of pulses.
-    Shift(u8, u8, u8),
-}
-
-// What an item leaves: the value read, the disk lines, the clock's core, the drives, and the change.
-#[derive(Clone, Copy)]
-pub struct Acted {
-    pub value: u8,
-    pub disk: DiskLines,
-    pub core: Core,
-    pub drives: Drives,
-    pub change: Change,
-}
-
-// The machine put together.
-pub fn whole_machine(b: Board, k: Core, cells: [u8; 256], d: Drives, sense: [u8; 32]) -> Machine
-    ensures { result ≡ whole_machine b k cells d sense }
-{
-    let v = b.via;
-    let l = b.disk;
-    let inputs = b.inputs;
-    Machine {
-        via: v,
-        clock: clock_parts::whole_clock(k, cells),
-        disk: l,
-        inputs: inputs,
-        sense: sense,
-        drives: d,
-    }
-}
-
-// The item's wait.
+/// An item's wait.
 #[tactic(auto, unfolding(machine_spec::specs::Stages::item_wait))]
 pub fn wait_of(item: Item) -> WaitTicks
     ensures { result.0 ≡ item_wait item }
 {
     match item {
-        Item::ReadVia { wait, .. } => wait,
-        Item::ReadIwm { wait, .. } => wait,
-        Item::WriteVia { wait, .. } => wait,
-        Item::WriteIwm { wait, .. } => wait,
-        Item::Blank { wait } => wait,
-        Item::Second { wait } => wait,
-        Item::Line { wait, .. } => wait,
-        Item::Sense { wait, .. } => wait,
-        Item::Reset { wait } => wait,
-        Item::Power { wait, .. } => wait,
-        Item::Disk { wait, .. } => wait,
-        Item::Pulse { wait, .. } => wait,
+        Item::ReadVia { wait, .. }
+        | Item::ReadIwm { wait, .. }
+        | Item::WriteVia { wait, .. }
+        | Item::WriteIwm { wait, .. }
+        | Item::Blank { wait }
+        | Item::Second { wait }
+        | Item::Line { wait, .. }
+        | Item::Sense { wait, .. }
+        | Item::Reset { wait }
+        | Item::Power { wait, .. }
+        | Item::Disk { wait, .. }
+        | Item::Pulse { wait, .. } => wait,
     }
 }
 
-// What RD of a VIA register gives.
-fn via_value(b: Board, k: Core, register: u8) -> u8
-    requires register_bound { register < 16 }
-    requires inputs_value { all_levels b.inputs ≡ true }
-    ensures { result ≡ value_read register (inputs_of (shown_level k.phase) b.inputs) b.via }
+// The wait passes in the VIA and in the drives. Where both counters only count, and where no drive and no strobe waits, there is less to do.
+fn wait(machine: &mut Machine, wait: WaitTicks)
+    ensures { machine.new ≡ after_wait wait.0 machine.old }
 {
-    let p = k.phase;
-    let inputs = b.inputs;
-    let outside = machine_pins::inputs_of(clock_phase::shown_line(p), inputs);
-    via_registers::value_read(b.via, register, outside)
+    if machine.via.only_counts(wait) {
+        machine.via = machine.via.count(wait);
+    } else {
+        machine.via = machine.via.wait(wait);
+    }
+    if disk_drives::busy(machine.drives) {
+        machine.drives = disk_drives::wait(machine.drives, wait);
+    }
 }
 
-// What RD of a VIA register changes: flags, and by register 10 the count of pulses.
-fn read_change(via: Via, register: u8) -> Change
-    ensures { result ≡ Shift via.sr (flags_read register via) (pulses_accessed register via.pulses) }
+// RD of a VIA register.
+#[tactic(auto, unfolding(machine_spec::specs::Accesses::via_read, via::specs::Registers::register_read))]
+fn read_via(machine: &mut Machine, register: u8) -> u8
+    requires { all_levels machine.old.inputs ≡ true }
+    ensures value { result ≡ (via_read register machine.old).value }
+    ensures machine_after { machine.new ≡ (via_read register machine.old).machine }
 {
-    let flags = via_registers::flags_read(via, register);
-    let pulses = via_registers::pulses_accessed(register, via.pulses);
-    Change::Shift(via.sr, flags, pulses)
+    let line = clock_phase::shown_line(machine.clock.phase);
+    let inputs = machine_pins::inputs_of(line, &machine.inputs);
+    let value = via_registers::value_read(machine.via, register, inputs);
+    machine.via.flags = via_registers::flags_read(machine.via, register);
+    machine.via.pulses = via_registers::pulses_accessed(register, machine.via.pulses);
+    value
 }
 
-// What RD of an IWM location gives, the lines being those after the access. Location 14 alone asks the sense.
-#[tactic(auto, unfolding(disk_lines::specs::Lines::read_line))]
-fn iwm_value(d: DiskLines, drives: Drives, location: u8, ports: Ports, sense: &[u8; 32]) -> u8
-    requires { all_levels sense.now ≡ true }
-    ensures { result ≡ read_line location (drives_shown (sense_at d (sel_of ports)) (get_or sense.now (sense_at d (sel_of ports)) 0) drives) d }
+// RD of an IWM location. Location 14 alone asks the sense.
+#[tactic(auto, unfolding(machine_spec::specs::Accesses::iwm_read, disk_lines::specs::Lines::read_line))]
+fn read_iwm(machine: &mut Machine, location: u8) -> u8
+    requires location_in_range { location < 16 }
+    requires levels { all_levels machine.old.sense ≡ true }
+    ensures value { result ≡ (iwm_read location machine.old).value }
+    ensures machine_after { machine.new ≡ (iwm_read location machine.old).machine }
 {
+    machine.disk = machine.disk.access(location);
     if location != 14 {
         return 255;
     }
-    let at = disk_lines::sense_at(d, machine_pins::sel_of(ports));
-    let stored = sense[at as usize];
-    d.read(location, disk_drives::shown(drives, at, stored))
+    let at = machine
+        .disk
+        .sense_at(machine_pins::sel_of(machine.via.ports));
+    let shown = disk_drives::shown(machine.drives, at, machine.sense[at as usize]);
+    machine.disk.read(location, shown)
 }
 
-// What these values change, written to a VIA register, from these ports.
-#[tactic(auto, unfolding(crate::specs::Parts::board_change, crate::specs::Parts::sense_change))]
-fn via_change(ports: Ports, register: u8, values: &[u8]) -> Change
-    requires register_bound { register < 16 }
-    requires values_nonzero { 0 < length values.now }
-    ensures b_value { (b : Board) → b.via.ports ≡ ports → board_change result values.now b ≡ board_via b (via_after register values.now b.via) }
-    ensures by_index { (s : List ℕ) → sense_change result s ≡ s }
-    ensures change_in_range { ChangeInRange result }
+// KC. A pulse changes register 10, the flags and the count of pulses: to store the whole VIA anew would cost a quarter more.
+#[tactic(auto, unfolding(machine_spec::specs::Accesses::keyboard_pulse))]
+fn pulse(machine: &mut Machine, level: u8) -> u8
+    requires { level < 2 }
+    ensures value { result ≡ (keyboard_pulse level machine.old).value }
+    ensures machine_after { machine.new ≡ (keyboard_pulse level machine.old).machine }
 {
-    if (register != 0) & (register != 2) {
-        return Change::Register(register);
-    }
-    Change::Ports(machine_write::ports_after(ports, register, values))
+    let after = machine.via.pulse(level);
+    machine.via.sr = after.via.sr;
+    machine.via.flags = after.via.flags;
+    machine.via.pulses = after.via.pulses;
+    after.value
 }
 
-// The place of a sense register among the 32.
-fn sense_index(drive: u8, register: u8) -> usize
-    requires { (drive < 2) × (register < 16) }
-    ensures { (result ≡ 16 * drive + register) × (result < 32) }
+/// What an item does, its wait having passed; and the value read, 0 where nothing is read.
+#[tactic(auto, unfolding(machine_spec::specs::Action::acted_of, clock_spec::specs::Shared::advance, clock_spec::specs::Shared::elapse, via::specs::Via::raised_of))]
+pub fn act(machine: &mut Machine, item: Item) -> u8
+    requires in_range { ItemInRange item }
+    requires levels { Levels machine.old }
+    ensures value { result ≡ (acted_of machine.old item).value }
+    ensures machine_after { machine.new ≡ (acted_of machine.old item).machine }
 {
-    (16 * drive + register) as usize
-}
-
-// What an item with these values does, its wait having passed, and the clock's look at its wires.
-#[tactic(auto, unfolding(crate::specs::Parts::board_change, crate::specs::Parts::sense_change, machine_spec::specs::Accesses::iwm_read, machine_spec::specs::Accesses::keyboard_pulse, machine_spec::specs::Accesses::via_read, machine_spec::specs::Action::acted_of, machine_spec::specs::Pins::wires_of, machine_write::specs::Values::register_written, via::specs::Registers::register_read, via::specs::Via::fresh_via, via::specs::Via::raised_of, via::specs::Via::reset_of))]
-pub fn act(
-    engine: Engine,
-    b: Board,
-    k: Core,
-    d: Drives,
-    item: Item,
-    values: &[u8],
-    sense: &[u8; 32],
-    cells: &mut [u8; 256],
-) -> Acted
-    requires item_in_range { ItemInRange item × (0 < length values.now) }
-    requires levels { Levels (whole_machine b k cells.old d sense.now) × PhaseAccepted (whole_machine b k cells.old d sense.now) }
-    ensures sense_after { machine_after result b values.now cells.new sense.now ≡ clocked_by (whole_machine b k cells.old d sense.now) item values.now }
-    ensures value_value { result.value ≡ (acted_of (whole_machine b k cells.old d sense.now) item).value }
-    ensures change_in_range { ChangeInRange result.change }
-{
-    let mut value: u8 = 0;
-    let mut disk = b.disk;
-    let mut core = k;
-    let mut drives = d;
-    let mut change = Change::Nothing;
     match item {
-        Item::ReadVia { register, .. } => {
-            value = via_value(b, k, register);
-            change = read_change(b.via, register);
-        }
-        Item::ReadIwm { location, .. } => {
-            disk = b.disk.access(location);
-            value = iwm_value(disk, d, location, b.via.ports, sense);
-        }
-        Item::WriteVia { register, .. } => {
-            core = machine_write::clocked(engine, k, b.via.ports, register, values, cells);
-            change = via_change(b.via.ports, register, values);
-        }
-        Item::WriteIwm { location, .. } => disk = b.disk.access(location),
-        Item::Blank { .. } => change = Change::Flags(b.via.flags | 2),
+        Item::ReadVia { register, .. } => return read_via(machine, register),
+        Item::ReadIwm { location, .. } => return read_iwm(machine, location),
+        Item::WriteVia {
+            register,
+            value,
+            ..
+        } => machine.via = machine.via.write(register, value),
+        Item::WriteIwm { location, .. } => machine.disk = machine.disk.access(location),
+        Item::Blank { .. } => machine.via.flags |= 2,
         Item::Second { .. } => {
-            core = clock_parts::add_seconds(k, 1);
-            change = Change::Flags(b.via.flags | 1);
+            machine.via.flags |= 1;
+            clock_store::add_seconds(&mut machine.clock.store, 1);
         }
-        Item::Line { line, level, .. } => change = Change::Line(line as usize, level),
+        Item::Line { line, level, .. } => machine.inputs[line as usize] = level,
         Item::Sense {
             drive,
             register,
             level,
             ..
-        } => change = Change::Sense(sense_index(drive, register), level),
+        } => machine.sense[(16 * drive + register) as usize] = level,
         Item::Reset { .. } => {
-            disk = disk_lines::off();
-            core = clock_parts::idle(k);
-            change = Change::Reset;
+            machine.via = machine.via.reset();
+            machine.disk = DiskLines::off();
         }
         Item::Power { seconds, .. } => {
-            disk = disk_lines::off();
-            core = clock_parts::idle(clock_parts::add_seconds(k, seconds));
-            drives = disk_drives::power_cut(d);
-            change = Change::Fresh;
+            machine.via = via::fresh();
+            machine.disk = DiskLines::off();
+            machine.drives = disk_drives::power_cut(machine.drives);
+            clock_store::add_seconds(&mut machine.clock.store, seconds);
         }
         Item::Disk {
             drive,
@@ -223,56 +147,47 @@ pub fn act(
             locked,
             sides,
             ..
-        } => drives = disk_drives::place(d, drive == 1, insert == 1, locked == 1, sides == 1),
-        Item::Pulse { level, .. } => {
-            let p = b.via.pulse(level);
-            value = p.value;
-            change = Change::Shift(p.via.sr, p.via.flags, p.via.pulses);
+        } => {
+            machine.drives = disk_drives::place(
+                machine.drives,
+                drive == 1,
+                insert == 1,
+                locked == 1,
+                sides == 1,
+            );
         }
+        Item::Pulse { level, .. } => return pulse(machine, level),
     }
-    Acted {
-        value: value,
-        disk: disk,
-        core: core,
-        drives: drives,
-        change: change,
+    0
+}
+
+// What the clock makes of an item that writes to no VIA register: RS and PW alone move its wires, and leave enable undriven.
+fn idle_where_undriven(clock: &mut Clock, item: Item)
+    ensures { clock.new ≡ idled_by item clock.old }
+{
+    if let Item::Reset { .. } | Item::Power { .. } = item {
+        clock.phase = Phase::Idle;
     }
 }
 
-// The VIA with these values in register 10, the flags and the count of pulses.
-pub fn with_shift(mut via: Via, sr: u8, flags: u8, pulses: u8) -> Via
-    ensures { result ≡ with_pulses (with_flags (with_sr via sr) flags) pulses }
+/// Carries out an item with the values of its record, which it writes one after the other where it writes to a VIA register; and the value read, 0 where nothing is read.
+// `accepted` stays a clause (as in machine_write, run_record and run): between an action and the looks no type with that invariant could hold the machine, and `run` takes any, by refusal 7.
+pub fn step<L: Lookup>(machine: &mut Machine, item: Item, values: &[u8]) -> u8
+    requires in_range { ItemInRange item }
+    requires some_values { 0 < length values.now }
+    requires accepted { accepted_of machine.old ≡ true }
+    ensures value { result ≡ (step_with machine.old item values.now).value }
+    ensures machine_after { machine.new ≡ (step_with machine.old item values.now).machine }
 {
-    via.sr = sr;
-    via.flags = flags;
-    via.pulses = pulses;
-    via
-}
-
-// The drives after an item with these values, whose wait and action are over: the levels before and after it, and the ports after it. SEL may have moved between.
-#[tactic(auto, unfolding(machine_write::specs::Values::register_written))]
-pub fn strobed(
-    d: Drives,
-    before: Watched,
-    after: Watched,
-    item: Item,
-    values: &[u8],
-    ports: Ports,
-) -> Drives
-    ensures { result ≡ spoilt_if (sel_moved (register_written item) values.now ports before.sel) (drives_after before after d) }
-{
-    let next = disk_drives::after(d, before, after);
-    match item {
-        Item::WriteVia { register, .. } => {
-            if machine_write::moves_sel(ports, register, values, before.sel) {
-                let spoilt = disk_strobe::off();
-                return Drives {
-                    strobe: spoilt,
-                    ..next
-                };
-            }
-            next
-        }
-        _ => next,
+    wait(machine, wait_of(item));
+    if let Item::WriteVia { register, .. } = item {
+        machine_write::write::<L>(machine, register, values);
+        return 0;
     }
+    let disk = machine.disk;
+    let ports = machine.via.ports;
+    let value = act(machine, item);
+    idle_where_undriven(&mut machine.clock, item);
+    machine_write::strobe(machine, disk, ports);
+    value
 }

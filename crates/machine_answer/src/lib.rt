@@ -1,47 +1,40 @@
-// What an item gets for an answer: its refusal by the state, or what is shown after it was carried out.
+//! What an item gets for an answer: its refusal by the state, or what is shown after it was carried out.
 #![tactic(auto)]
 
-ghost use Rattle.std.specs.Prelude.{◌≡◌, true, List, ℕ};
+ghost use Rattle.std.specs.Prelude.{◌≡◌, true};
 ghost use Rattle.levels.specs.Levels.{all_levels};
-ghost use Rattle.clock.specs.declared.Clock.{Clock};
-ghost use Rattle.disk_spec.specs.declared.Drives.{Drives};
-ghost use Rattle.machine_spec.specs.declared.Machine.{Machine};
 ghost use Rattle.machine_spec.specs.Stages.{refuses_of};
 ghost use Rattle.machine_spec.specs.Step.{answer_of};
-ghost use Rattle.machine_pins.specs.Board.{on_board};
 
-use disk_spec::Drives;
-use item_spec::{Answer, Item};
-use machine_pins::Board;
+use item_spec::{Item, Shown};
+use machine_spec::Machine;
+use refusal::Refusal;
 
-// The item refused by a state with these drives: its number, or 0.
+/// The refusal of an item that looks at the state, if there is one: a disk where one is, or none to take out.
 #[tactic(auto, unfolding(machine_spec::specs::Stages::refuses_of))]
-pub fn refuses(d: Drives, item: Item) -> u8
-    ensures { (m : Machine) → m.drives ≡ d → result ≡ refuses_of m item }
+pub fn refuses(machine: &Machine, item: Item) -> Option<Refusal>
+    ensures { result ≡ refuses_of machine.now item }
 {
     match item {
-        Item::Disk { drive, insert, .. } => {
-            if disk_drives::refuses_place(d, drive == 1, insert == 1) {
-                return 8;
-            }
-            0
+        Item::Disk { drive, insert, .. }
+            if disk_drives::refuses_place(machine.drives, drive == 1, insert == 1) => {
+            Some(Refusal::DiskMismatch)
         }
-        _ => 0,
+        _ => None,
     }
 }
 
-// The answer to an item that was carried out: the board after it, and the value read. What stands beside the board has no part in it.
+/// What the answer to an item that was carried out shows: the machine after it, and the value read.
 #[tactic(auto, unfolding(machine_spec::specs::Step::answer_of))]
-pub fn answer(b: Board, value: u8) -> Answer
-    requires { all_levels b.inputs ≡ true }
-    ensures { (c : Clock) (s : List ℕ) (d : Drives) → result ≡ answer_of (record { machine = on_board b c s d; value = value }) }
+pub fn answer(machine: &Machine, value: u8) -> Shown
+    requires { all_levels machine.now.inputs ≡ true }
+    ensures { result ≡ answer_of (record { machine = machine.now; value = value }) }
 {
-    let inputs = b.inputs;
-    Answer {
-        ok: true,
-        value: value,
-        level: machine_pins::interrupt_level(via_flags::level(b.via), inputs[5], inputs[6]),
-        lines: b.disk.lines,
-        sel: machine_pins::sel_of(b.via.ports),
+    let [_, _, _, _, _, serial, switch] = machine.inputs;
+    Shown {
+        value,
+        level: machine_pins::interrupt_level(via_flags::level(machine.via), serial, switch),
+        lines: machine.disk.lines,
+        sel: machine_pins::sel_of(machine.via.ports),
     }
 }

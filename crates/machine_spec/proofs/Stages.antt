@@ -20,6 +20,8 @@ use Rattle.disk_spec.specs.declared.Watched.{Watched}
 use Rattle.disk_spec.specs.declared.Drives.{Drives}
 use Rattle.disk_spec.specs.Drives.{accepted_drives, drives_after, place_refused}
 use Rattle.disk_spec.proofs.DrivesLaws.{drives-untouched}
+use Rattle.std.specs.Prelude.{Some, None}
+use Rattle.refusal.specs.declared.Refusal.TheVariants.{DiskMismatch}
 use Rattle.item_spec.specs.declared.Item.{Item}
 use Rattle.item_spec.specs.declared.Item.TheVariants.{ReadVia, ReadIwm, WriteVia, WriteIwm, Blank, Second, Line, Sense, Reset, Power, Disk, Pulse}
 use Rattle.item_spec.specs.contracts.Item.{the_type}
@@ -46,7 +48,7 @@ unmoved m w v p q h k =
 abbrev unrefused-kinds : List ℕ
 unrefused-kinds = 0 ∷ 1 ∷ 2 ∷ 3 ∷ 4 ∷ 5 ∷ 6 ∷ 7 ∷ 8 ∷ 9 ∷ 11 ∷ []
 
-pub kinds-unrefused : (m : Machine) (i : Item) → OneOf unrefused-kinds (tag_of the_type i) → 0 ≡ refuses_of m i
+pub kinds-unrefused : (m : Machine) (i : Item) → OneOf unrefused-kinds (tag_of the_type i) → None ≡ refuses_of m i
 unfolding refuses_of
 kinds-unrefused m (ReadVia w r) h = refl
 kinds-unrefused m (ReadIwm w k) h = refl
@@ -62,6 +64,6 @@ kinds-unrefused m (Disk w d i l b) h = absurd (miss unrefused-kinds 10 tt h)
 kinds-unrefused m (Pulse w l) h = refl
 
 -- "Inserting where a disk is, or removing where none is, gets refusal 8."
-pub clash : (m : Machine) (w : WaitTicks) (d i l b : ℕ) → place_refused (eqb d 1) (eqb i 1) m.drives ≡ true → refuses_of m (Disk w d i l b) ≡ 8
+pub clash : (m : Machine) (w : WaitTicks) (d i l b : ℕ) → place_refused (eqb d 1) (eqb i 1) m.drives ≡ true → refuses_of m (Disk w d i l b) ≡ Some DiskMismatch
 unfolding refuses_of
 clash m w d i l b h = simp h

@@ -1,7 +1,7 @@
 -- One item, by document 01: "only then does its wait pass, and only then its action"; then the clock compares its wires, and by request
 -- W-203 the drives' strobe its levels. And the answer.
-use Rattle.std.specs.Prelude.{true, List, [], ◌∷◌, get_or}
-use Rattle.item_spec.specs.declared.Answer.{Answer}
+use Rattle.std.specs.Prelude.{List, [], ◌∷◌, get_or}
+use Rattle.item_spec.specs.declared.Shown.{Shown}
 use Rattle.via.specs.Via.{level_of}
 use Rattle.item_spec.specs.declared.Item.{Item}
 use Rattle.machine_spec.specs.declared.Machine.{Machine}
@@ -26,10 +26,9 @@ after_items m [] = m
 after_items m (i ∷ is) = after_items (after_item m i) is
 
 -- "Level, lines and SEL are those after the item."
-unfoldable pub answer_of : Did → Answer
+unfoldable pub answer_of : Did → Shown
 answer_of d =
     record {
-      ok = true;
       value = d.value;
       level = interrupt_level (level_of d.machine.via) (get_or d.machine.inputs 5 0) (get_or d.machine.inputs 6 0);
       lines = d.machine.disk.lines;

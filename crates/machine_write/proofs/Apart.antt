@@ -29,7 +29,10 @@ use Rattle.item_spec.specs.declared.Item.{Item}
 use Rattle.item_spec.specs.declared.Item.TheVariants.{ReadVia, ReadIwm, WriteVia, WriteIwm, Blank, Second, Line, Sense, Reset, Power, Disk, Pulse}
 use Rattle.item_spec.specs.Items.{ItemInRange}
 use Rattle.item_spec.specs.declared.Many.{Many}
-use Rattle.item_spec.specs.Many.{write_to, single, singles_after}
+use Rattle.item_spec.specs.declared.Location.{Location}
+use Rattle.item_spec.specs.declared.Location.TheVariants.{Via, Iwm}
+use Rattle.item_spec.specs.Items.{write_to}
+use Rattle.item_spec.specs.Many.{single, singles_after}
 use Rattle.machine_spec.specs.declared.Machine.{Machine}
 use Rattle.machine_spec.specs.Pins.{sel_of}
 use Rattle.machine_spec.specs.Machine.{wires, strobe_levels, accepted_of}
@@ -39,7 +42,7 @@ use Rattle.machine_spec.specs.Step.{step_of, after_items}
 use Rattle.machine_spec.proofs.MachineLaws.{parts}
 use Rattle.machine_spec.proofs.Stages.{waited-wires, waited-watched}
 use Rattle.machine_spec.proofs.Keeps.{step_keeps}
-use Rattle.machine_write.specs.Values.{via_after, clock_after, register_written, step_with}
+use Rattle.machine_write.specs.Values.{via_after, clock_after, writes_of, register_written, step_with}
 use Rattle.machine_write.proofs.Strobes.{strobes_after}
 
 -- ---- a VIA register
@@ -56,7 +59,7 @@ apart_of r vs m =
       drives = strobes_after r vs m.disk m.via.ports m.drives;
     }
 
-via-apart : (w : WaitTicks) (r : ℕ) (vs : List ℕ) (m : Machine) → after_items m (singles_after (record { wait = w; iwm = false; number = r }) (for_ticks 0) vs) ≡ apart_of r vs m
+via-apart : (w : WaitTicks) (r : ℕ) (vs : List ℕ) (m : Machine) → after_items m (singles_after (record { wait = w; to = Via r }) (for_ticks 0) vs) ≡ apart_of r vs m
 unfolding step_of item_wait acted_of ticks drives_ticks drive_ticks strobe_ticks via_written via_after clock_after strobes_after
 via-apart w r [] m = refl
 via-apart w r (v ∷ vs) m = via-apart w r vs (step_of m (WriteVia (for_ticks 0) r v)).machine
@@ -66,13 +69,13 @@ via-apart w r (v ∷ vs) m = via-apart w r vs (step_of m (WriteVia (for_ticks 0)
 -- A WR after a wait is the wait, and then the WR with none.
 wait-apart : (m : Machine) (x : Many) (w : WaitTicks) (v : ℕ) → (step_of (after_wait w.0 m) (single x (for_ticks 0) v)).machine ≡ (step_of m (single x w v)).machine
 unfolding step_of item_wait acted_of ticks drives_ticks drive_ticks strobe_ticks
-wait-apart m x w v = go x.iwm
+wait-apart m x w v = go x.to
   where
-    go : (t : Bool) → (step_of (after_wait w.0 m) (write_to t x.number (for_ticks 0) v)).machine ≡ (step_of m (write_to t x.number w v)).machine
-    go true = ap₂ (λ (u : Wires) (l : Watched). after_strobe l (after_wires u (acted_of (after_wait w.0 m) (write_to true x.number w v)).machine)) (waited-wires w.0 m) (waited-watched w.0 m)
-    go false = ap₂ (λ (u : Wires) (l : Watched). after_strobe l (after_wires u (acted_of (after_wait w.0 m) (write_to false x.number w v)).machine)) (waited-wires w.0 m) (waited-watched w.0 m)
+    go : (l : Location) → (step_of (after_wait w.0 m) (write_to l (for_ticks 0) v)).machine ≡ (step_of m (write_to l w v)).machine
+    go (Iwm k) = ap₂ (λ (u : Wires) (l : Watched). after_strobe l (after_wires u (acted_of (after_wait w.0 m) (WriteIwm w k v)).machine)) (waited-wires w.0 m) (waited-watched w.0 m)
+    go (Via r) = ap₂ (λ (u : Wires) (l : Watched). after_strobe l (after_wires u (acted_of (after_wait w.0 m) (WriteVia w r v)).machine)) (waited-wires w.0 m) (waited-watched w.0 m)
 
-waited : (m : Machine) (x : Many) (w : WaitTicks) (vs : List ℕ) → 0 < length vs → after_items m (singles_after x w vs) ≡ after_items (after_wait w.0 m) (singles_after x (for_ticks 0) vs)
+pub waited : (m : Machine) (x : Many) (w : WaitTicks) (vs : List ℕ) → 0 < length vs → after_items m (singles_after x w vs) ≡ after_items (after_wait w.0 m) (singles_after x (for_ticks 0) vs)
 waited m x w [] h = absurd (omega arith)
 waited m x w (v ∷ vs) h = ap (λ (n : Machine). after_items n (singles_after x (for_ticks 0) vs)) (sym (wait-apart m x w v))
 
@@ -124,14 +127,14 @@ idle-access m k v a e =
     (still m.clock (wires m) p.phase) (drives-untouched (strobe_levels m) m.drives p.drives)
 
 idle-accesses : (m : Machine) (w : WaitTicks) (k : ℕ) (vs : List ℕ) → accepted_of m ≡ true → after_access k m.disk ≡ m.disk
-    → after_items m (singles_after (record { wait = w; iwm = true; number = k }) (for_ticks 0) vs) ≡ m
+    → after_items m (singles_after (record { wait = w; to = Iwm k }) (for_ticks 0) vs) ≡ m
 idle-accesses m w k [] a e = refl
 idle-accesses m w k (v ∷ vs) a e =
-    ap (λ (n : Machine). after_items n (singles_after (record { wait = w; iwm = true; number = k }) (for_ticks 0) vs)) (idle-access m k v a e)
+    ap (λ (n : Machine). after_items n (singles_after (record { wait = w; to = Iwm k }) (for_ticks 0) vs)) (idle-access m k v a e)
     ∙ idle-accesses m w k vs a e
 
 iwm-once : (m : Machine) (w : WaitTicks) (k v : ℕ) (vs : List ℕ) → accepted_of m ≡ true → k < 16 → 0 < length vs
-    → after_items m (singles_after (record { wait = w; iwm = true; number = k }) w vs) ≡ (step_of m (WriteIwm w k v)).machine
+    → after_items m (singles_after (record { wait = w; to = Iwm k }) w vs) ≡ (step_of m (WriteIwm w k v)).machine
 unfolding step_of acted_of item_wait
 iwm-once m w k v [] a h n = absurd (omega arith)
 iwm-once m w k v (u ∷ vs) a h n =
@@ -161,7 +164,7 @@ unfolding step_with register_written item_wait
 written_step m (ReadVia w r) vs q o n = absurd (none-ne-some q o)
 written_step m (ReadIwm w k) vs q o n = absurd (none-ne-some q o)
 written_step m (WriteVia w r v) vs q o n =
-    waited m (record { wait = w; iwm = false; number = r }) w vs n ∙ via-apart w r vs (after_wait w.0 m)
+    waited m (record { wait = w; to = Via r }) w vs n ∙ via-apart w r vs (after_wait w.0 m)
     ∙ ap (λ (k : ℕ). apart_of k vs (after_wait w.0 m)) (some-injective r q o)
 written_step m (WriteIwm w k v) vs q o n = absurd (none-ne-some q o)
 written_step m (Blank w) vs q o n = absurd (none-ne-some q o)
@@ -172,3 +175,8 @@ written_step m (Reset w) vs q o n = absurd (none-ne-some q o)
 written_step m (Power w s) vs q o n = absurd (none-ne-some q o)
 written_step m (Disk w d i l b) vs q o n = absurd (none-ne-some q o)
 written_step m (Pulse w l) vs q o n = absurd (none-ne-some q o)
+
+-- The single WR items, with no wait left, are the writes of the values.
+pub singles-writes : (w : WaitTicks) (r : ℕ) (vs : List ℕ) → singles_after (record { wait = w; to = Via r }) (for_ticks 0) vs ≡ writes_of r vs
+singles-writes w r [] = refl
+singles-writes w r (v ∷ vs) = ap (λ (l : List Item). WriteVia (for_ticks 0) r v ∷ l) (singles-writes w r vs)

@@ -1,3 +1,4 @@
 pub mod Values
 pub mod Strobes
 pub mod Apart
+pub mod Writes

@@ -2,6 +2,7 @@
 use Rattle.std.specs.Prelude.{ℕ, Bool, true, false, cond, not, List, [], ◌∷◌, eqb}
 use Rattle.std.specs.Bool.{beq}
 use Rattle.std.proofs.Math.Option.{Option, none, some}
+use Rattle.units.specs.Units.{for_ticks}
 use Rattle.via.specs.declared.Ports.{Ports}
 use Rattle.via.specs.declared.Via.{Via}
 use Rattle.via.specs.Writes.{ports_written, via_written}
@@ -13,6 +14,7 @@ use Rattle.disk_spec.specs.Strobe.{no_strobe}
 use Rattle.disk_spec.specs.Drives.{with_strobe}
 use Rattle.item_spec.specs.declared.Item.{Item}
 use Rattle.item_spec.specs.declared.Item.TheVariants.{ReadVia, ReadIwm, WriteVia, WriteIwm, Blank, Second, Line, Sense, Reset, Power, Disk, Pulse}
+use Rattle.item_spec.specs.declared.Location.{Location}
 use Rattle.item_spec.specs.Many.{singles_after}
 use Rattle.machine_spec.specs.declared.Machine.{Machine}
 use Rattle.machine_spec.specs.declared.Did.{Did}
@@ -45,6 +47,11 @@ abbrev pub spoilt_if : Bool → Drives → Drives
 spoilt_if true d = with_strobe d no_strobe
 spoilt_if false d = d
 
+-- The single WR items: each writes one of the values, with no wait.
+abbrev pub writes_of : ℕ → List ℕ → List Item
+writes_of r [] = []
+writes_of r (v ∷ vs) = WriteVia (for_ticks 0) r v ∷ writes_of r vs
+
 -- ---- an item with its values
 
 -- The VIA register that it writes its values to, if it does.
@@ -66,8 +73,8 @@ register_written (Pulse w l) = none
 abbrev pub singles_with : Item → List ℕ → List Item
 singles_with (ReadVia w r) vs = ReadVia w r ∷ []
 singles_with (ReadIwm w k) vs = ReadIwm w k ∷ []
-singles_with (WriteVia w r v) vs = singles_after (record { wait = w; iwm = false; number = r }) w vs
-singles_with (WriteIwm w k v) vs = singles_after (record { wait = w; iwm = true; number = k }) w vs
+singles_with (WriteVia w r v) vs = singles_after (record { wait = w; to = Location.Via r }) w vs
+singles_with (WriteIwm w k v) vs = singles_after (record { wait = w; to = Location.Iwm k }) w vs
 singles_with (Blank w) vs = Blank w ∷ []
 singles_with (Second w) vs = Second w ∷ []
 singles_with (Line w l v) vs = Line w l v ∷ []

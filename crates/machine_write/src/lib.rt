@@ -1,92 +1,76 @@
-// What one record writes to a VIA register, value after value: a WR has one, an MW up to 64. What the values leave of the ports, the VIA and the clock, and whether they
-// move SEL.
+//! What the clock and the strobe make of an item once its action is over, and the values that one record writes to a VIA register, one after the other: a WR has one, an MW up to 64.
 #![tactic(auto)]
 
-ghost use Rattle.std.specs.Prelude.{◌≡◌, true, ◌<◌, length};
-ghost use Rattle.clock_spec.specs.Phase.{shown_level, accepted_phase};
-ghost use Rattle.clock_parts.specs.Parts.{whole_clock};
-ghost use Rattle.via.specs.Writes.{ports_written};
-ghost use Rattle.machine_spec.specs.Pins.{wires_of};
-ghost use Rattle.machine_write.specs.Values.{ports_after, via_after, clock_after, moves_sel};
+ghost use Rattle.std.specs.Prelude.{◌≡◌, true, not, eqb, ◌&&◌, ◌<◌};
+ghost use Rattle.disk_spec.specs.Watched.{watched_of};
+ghost use Rattle.disk_spec.specs.Drives.{accepted_drives};
+ghost use Rattle.machine_spec.specs.Pins.{sel_of};
+ghost use Rattle.machine_spec.specs.Machine.{accepted_of};
+ghost use Rattle.machine_spec.specs.Stages.{after_strobe};
+ghost use Rattle.machine_spec.specs.Step.{after_items};
+ghost use Rattle.machine_write.specs.Values.{writes_of};
 
-use clock_command::Engine;
-use clock_parts::Core;
-use via::{Ports, Via};
+use clock_command::Lookup;
+use disk_lines::{DiskLines, Line};
+use machine_spec::Machine;
+use via::Ports;
 
-// The ports once a value is written to a register. They are made whole, not changed byte by byte: a byte stored makes the next look at all four wait for it.
-#[tactic(auto, unfolding(via::specs::Writes::ports_written))]
-fn ports_written(p: Ports, register: u8, value: u8) -> Ports
-    ensures { result ≡ ports_written register value p }
+/// The strobe compares its levels with what they were before the item, with these disk lines and ports. LSTRB is asked first: compiled code makes all seven levels wherever they are named,
+/// a fifth of a VB.
+#[inline(always)]
+pub fn strobe(machine: &mut Machine, disk: DiskLines, ports: Ports)
+    requires { accepted_drives (watched_of disk (sel_of ports)) machine.old.drives ≡ true }
+    ensures { machine.new ≡ after_strobe (watched_of disk (sel_of ports)) machine.old }
 {
-    Ports {
-        outb: via_bits::pick(register == 0, value, p.outb),
-        outa: via_bits::pick((register == 1) | (register == 15), value, p.outa),
-        dirb: via_bits::pick(register == 2, value, p.dirb),
-        dira: via_bits::pick(register == 3, value, p.dira),
+    let was = disk.is_on(Line::Lstrb);
+    let is = machine.disk.is_on(Line::Lstrb);
+    if was | is {
+        let before = disk_strobe::watched_of(disk, machine_pins::sel_of(ports));
+        let after = machine_pins::strobe_levels(machine);
+        machine.drives = disk_drives::after(machine.drives, before, after);
     }
 }
 
-// The ports after the values: the last one counts.
-pub fn ports_after(p: Ports, register: u8, values: &[u8]) -> Ports
-    requires { 0 < length values.now }
-    ensures { result ≡ ports_after register values.now p }
+// The values where LSTRB is on and none of them moves a wire of the clock: the strobe looks after each.
+#[inline(never)]
+fn write_under_strobe(machine: &mut Machine, register: u8, values: &[u8])
+    requires register_in_range { register < 16 }
+    requires no_wire { (not (eqb register 0) && not (eqb register 2)) ≡ true }
+    requires accepted { accepted_of machine.old ≡ true }
+    ensures { machine.new ≡ after_items machine.old (writes_of register values.now) }
 {
-    ports_written(p, register, values[values.len() - 1])
-}
-
-// The VIA after the values.
-pub fn via_after(mut via: Via, register: u8, values: &[u8]) -> Via
-    requires { register < 16 }
-    ensures { result ≡ via_after register values.now via }
-{
-    let mut i: usize = 0;
-    while i < values.len() {
-        via = via.write(register, values[i]);
-        i += 1;
+    for &value in values {
+        let ports = machine.via.ports;
+        machine.via = machine.via.write(register, value);
+        strobe(machine, machine.disk, ports);
     }
-    via
 }
 
-// The clock after the values: it looks at its wires after each. Port B's output and its direction alone move them.
-pub fn clocked(
-    engine: Engine,
-    k: Core,
-    mut ports: Ports,
-    register: u8,
-    values: &[u8],
-    cells: &mut [u8; 256],
-) -> Core
-    requires { accepted_phase k.chip k.phase (wires_of ports (shown_level k.phase)).enable ≡ true }
-    ensures { whole_clock result cells.new ≡ clock_after register values.now ports (whole_clock k cells.old) }
+/// Writes the values to a VIA register, each a WR of its own with no wait. Port B and its direction move the clock's wires alone, the other registers at most SEL, at which the
+/// strobe looks while LSTRB is on.
+pub fn write<L: Lookup>(machine: &mut Machine, register: u8, values: &[u8])
+    requires register_in_range { register < 16 }
+    requires accepted { accepted_of machine.old ≡ true }
+    ensures { machine.new ≡ after_items machine.old (writes_of register values.now) }
 {
-    let mut core = k;
+    let mut via = machine.via;
     if (register != 0) & (register != 2) {
-        return core;
-    }
-    let mut i: usize = 0;
-    while i < values.len() {
-        let p = core.phase;
-        let line = clock_phase::shown_line(p);
-        let before = machine_pins::wires_of(ports, line);
-        ports = ports_written(ports, register, values[i]);
-        let after = machine_pins::wires_of(ports, line);
-        core = clock_parts::step(engine, core, before, after, cells);
-        i += 1;
-    }
-    core
-}
-
-// Whether SEL has another level than this after one of the values.
-pub fn moves_sel(ports: Ports, register: u8, values: &[u8], sel: bool) -> bool
-    ensures { result ≡ moves_sel register values.now ports sel }
-{
-    let mut i: usize = 0;
-    while i < values.len() {
-        let p = ports_written(ports, register, values[i]);
-        if (machine_pins::sel_of(p) == 1) != sel {
-            return true;
+        if machine.disk.is_on(Line::Lstrb) {
+            write_under_strobe(machine, register, values);
+        } else {
+            for &value in values {
+                via = via.write(register, value);
+            }
+            machine.via = via;
         }
-        i += 1;
+    } else {
+        for &value in values {
+            let line = clock_phase::shown_line(machine.clock.phase);
+            let before = machine_pins::wires_of(via.ports, line);
+            via = via.write(register, value);
+            let after = machine_pins::wires_of(via.ports, line);
+            machine.clock.look::<L>(before, after);
+        }
+        machine.via = via;
     }
-    false
 }

@@ -1,11 +1,11 @@
 -- W-207: "runs with either give the same answers, counts and state on every list, from every accepted state of both chips".
 use Rattle.std.specs.Prelude.{◌≡◌, List, ℕ}
-use Rattle.run_spec.specs.declared.Ran.{Ran}
+use Rattle.run_engines.specs.declared.Reached.{Reached}
 
 -- What two runs hand back, t with the answer memory a and p with b.
-pub record Same (t p : Ran) (a b : List ℕ) : Type 0 where
+pub record Same (t p : Reached) (a b : List ℕ) : Type 0 where
   pub state : t.machine ≡ p.machine
-  pub stop : t.stop ≡ p.stop
-  pub consumed : t.consumed ≡ p.consumed
-  pub written : t.written ≡ p.written
+  pub stop : t.ran.stop ≡ p.ran.stop
+  pub consumed : t.ran.consumed ≡ p.ran.consumed
+  pub written : t.ran.written ≡ p.ran.written
   pub answers : a ≡ b

@@ -1,9 +1,10 @@
 -- The cut list of W-212 in two calls of the C entry, with images of every kind.
+use Rattle.std.specs.Prelude.{Some, None, is_some}
+use Rattle.refusal.specs.declared.Refusal.TheVariants.{NotAccepted}
 use Prim.Native.Nat.{ℕ, ◌-◌}
 use mathlib.Core.Path.{◌≡◌, refl, sym, ap, subst, ◌∙◌}
-use mathlib.Core.Bool.{Bool, true, false}
+use mathlib.Core.Bool.{Bool, true, false, true≢false}
 use mathlib.Core.List.{List, ◌++◌}
-use native.Mathlib.Omega.{arith}
 use lib.ListN.{length, drop, length-drop}
 use Rattle.run_spec.specs.Outcome.{Out, onto, run_of, over}
 use Rattle.image_spec.specs.Image.{image_of, machine_of, valid_image}
@@ -14,17 +15,17 @@ use Rattle.run_laws.specs.Laws.{room_left, JoinedAs, CutCall}
 use Rattle.run_laws.proofs.Proved.{onto-joined, laws}
 
 -- A call that stops with 0 had a valid image.
-stop0-valid : (i l : List ℕ) (room : ℕ) → (call_of i l room).stop ≡ 0 → valid_image i ≡ true
+stop0-valid : (i l : List ℕ) (room : ℕ) → (call_of i l room).stop ≡ None → valid_image i ≡ true
 unfolding call_of
 stop0-valid i l room z = go (valid_image i) refl
   where
     go : (t : Bool) → valid_image i ≡ t → t ≡ true
     go true e = refl
     go false e =
-        let s : (call_of i l room).stop ≡ 7 = simp e refl in
-        absurd (omega (arith, s, z))
+        let s : (call_of i l room).stop ≡ Some NotAccepted = simp e refl in
+        absurd (true≢false (ap is_some (sym s ∙ z)))
 
-module _ (i left a b : List ℕ) (room : ℕ) (v : valid_image left ≡ valid_image i) (s : machine_of left ≡ (call_of i a room).machine) (z : (call_of i a room).stop ≡ 0) where
+module _ (i left a b : List ℕ) (room : ℕ) (v : valid_image left ≡ valid_image i) (s : machine_of left ≡ (call_of i a room).machine) (z : (call_of i a room).stop ≡ None) where
   valid : valid_image i ≡ true
   valid = stop0-valid i a room z
 

@@ -1,4 +1,6 @@
 -- The laws of W-212 hold of every state.
+use Rattle.std.specs.Prelude.{Some, None}
+use Rattle.refusal.specs.declared.Refusal.TheVariants.{NotAccepted}
 use Prim.Native.Nat.{ℕ, ◌+◌, ◌-◌, ◌<◌}
 use mathlib.Core.Path.{◌≡◌, refl, sym, ap, ap₂, subst, ◌∙◌}
 use mathlib.Core.Bool.{Bool, true, false, cond}
@@ -102,11 +104,11 @@ nothing-consumed : (m : Machine) (room : ℕ) → (run_of m [] room).consumed �
 unfolding run_of run_pieces pieces_from
 nothing-consumed m room = go (accepted_of m)
   where
-    go : (t : Bool) → (cond t (halt m 0) (halt m 7)).consumed ≡ 0
+    go : (t : Bool) → (cond t (halt m None) (halt m (Some NotAccepted))).consumed ≡ 0
     go true = refl
     go false = refl
 
-first-whole : (m : Machine) (a : List ℕ) (room : ℕ) → (run_of m a room).stop ≡ 0 → (run_of m a room).consumed ≡ length a
+first-whole : (m : Machine) (a : List ℕ) (room : ℕ) → (run_of m a room).stop ≡ None → (run_of m a room).consumed ≡ length a
 unfolding onto
 first-whole m a room h =
     let o = run_of m a room in
@@ -134,7 +136,7 @@ onto-joined first second =
       memory = memory-joined first.answers second.answers;
     }
 
-cut-joined : (m : Machine) (a b : List ℕ) (room : ℕ) → (run_of m a room).stop ≡ 0
+cut-joined : (m : Machine) (a b : List ℕ) (room : ℕ) → (run_of m a room).stop ≡ None
     → JoinedAs (run_of m a room) (run_of (run_of m a room).machine b (room_left room (run_of m a room))) (run_of m (a ++ b) room)
 unfolding room_left
 cut-joined m a b room h =

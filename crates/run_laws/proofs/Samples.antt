@@ -15,7 +15,7 @@ use Rattle.disk_spec.specs.Sense.{accepted_drive}
 use Rattle.disk_spec.specs.Watched.{watched_of, held_still, unspoilt, register_of}
 use Rattle.disk_spec.specs.Strobe.{tick_strobe, strobe_ticks, strobe_after, long_enough, strobe_writes, accepted_strobe}
 use Rattle.disk_spec.specs.Drives.{drives_ticks, drives_powered, drives_after, accepted_drives}
-use Rattle.item_spec.specs.Record.{frame_of, answer_bytes, no_of}
+use Rattle.item_spec.specs.Record.{frame_of, answer_bytes}
 use Rattle.item_spec.specs.Items.{plain_record}
 use Rattle.item_spec.specs.Kinds.{is_kind, decoded_of}
 use Rattle.machine_spec.specs.declared.Machine.{Machine}
@@ -35,7 +35,7 @@ pub samples : (k : Chip) → Samples k
 unfolding wait_between seconds_off room_left step_of answer_of item_wait refuses_of acted_of accepted_of wires_of sel_of interrupt_level fresh_via latch_of tick_of ticks raised_of reset_of asking level_of
     accepted_via via_written unused_clear act between shown_level accepted_phase next acts step_wires lines_off after_access with_level line_levels lines_of drive_ticks tick_drive accepted_drive watched_of
     held_still unspoilt register_of tick_strobe strobe_ticks strobe_after long_enough strobe_writes accepted_strobe drives_ticks drives_powered drives_after accepted_drives all_below
-    le16_of frame_of answer_bytes no_of plain_record is_kind decoded_of turn_of cut pieces_from onto on_piece run_pieces run_of
+    le16_of frame_of answer_bytes plain_record is_kind decoded_of turn_of cut pieces_from onto on_piece run_pieces run_of
 samples First =
     record {
       wait2 = refl;

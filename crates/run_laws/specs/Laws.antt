@@ -1,4 +1,5 @@
 -- W-212: "Laws we cut captures by." Of every state m, accepted or not, of either clock chip. A wait is in VIA ticks, the time off in seconds, a room in bytes.
+use Rattle.std.specs.Prelude.{None}
 use Rattle.std.specs.Prelude.{ℕ, ◌+◌, ◌-◌, ◌%◌, ◌<◌, ◌≡◌, true, List, ◌++◌, length, drop}
 use Rattle.units.specs.Units.{for_ticks}
 use Rattle.units.specs.declared.WaitTicks.{WaitTicks}
@@ -51,10 +52,10 @@ pub record Laws (m : Machine) : Type 0 where
   -- That one is a PW that can be written: its seconds fit four bytes.
   pub seconds_fit : (s t : ℕ) → seconds_off s t < 4294967296
   -- "Running a list cut between records equals running the whole, answers joined, where the first part stops with 0 and the second gets the answer room left."
-  pub cut_list : (a b : List ℕ) (room : ℕ) → (run_of m a room).stop ≡ 0
+  pub cut_list : (a b : List ℕ) (room : ℕ) → (run_of m a room).stop ≡ None
       → JoinedAs (run_of m a room) (run_of (run_of m a room).machine b (room_left room (run_of m a room))) (run_of m (a ++ b) room)
   -- The first part is then read to its end: it holds whole records alone.
-  pub first_whole : (a : List ℕ) (room : ℕ) → (run_of m a room).stop ≡ 0 → (run_of m a room).consumed ≡ length a
+  pub first_whole : (a : List ℕ) (room : ℕ) → (run_of m a room).stop ≡ None → (run_of m a room).consumed ≡ length a
 
 -- The same in calls of the C entry: the first with the image i, the second with the image `left` by it; a room is the length of the memory lent for answers.
 pub record CallsJoined (i left a b : List ℕ) (room : ℕ) : Type 0 where
@@ -69,5 +70,5 @@ pub record CallsJoined (i left a b : List ℕ) (room : ℕ) : Type 0 where
 -- Of every image i, valid or not. By the entry's contract the image left is as valid as i, and its state is the one reached: the first two premises.
 abbrev pub CutCall : List ℕ → Type 0
 CutCall i =
-    (left a b : List ℕ) (room : ℕ) → valid_image left ≡ valid_image i → machine_of left ≡ (call_of i a room).machine → (call_of i a room).stop ≡ 0
+    (left a b : List ℕ) (room : ℕ) → valid_image left ≡ valid_image i → machine_of left ≡ (call_of i a room).machine → (call_of i a room).stop ≡ None
     → CallsJoined i left a b room

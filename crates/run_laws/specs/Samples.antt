@@ -1,5 +1,6 @@
 -- Samples of W-212's laws on either chip, with values that tell a law from its misreadings.
 use Rattle.std.specs.Prelude.{ℕ, ◌≡◌, List, [], ◌∷◌, ◌++◌}
+use Rattle.refusal.specs.Numbers.{stop_of}
 use Rattle.units.specs.Units.{for_ticks}
 use Rattle.clock_spec.specs.declared.Chip.{Chip}
 use Rattle.clock_spec.specs.Store.{with_seconds, with_test}
@@ -43,7 +44,7 @@ part_b = 4 ∷ 0 ∷ 86 ∷ 66 ∷ 2 ∷ 0 ∷ 4 ∷ 0 ∷ 82 ∷ 83 ∷ 0 ∷ 0
 
 -- The stop number, the bytes consumed and the bytes written.
 abbrev pub ending : Out → List ℕ
-ending o = o.stop ∷ o.consumed ∷ (ran_of o).written ∷ []
+ending o = stop_of o.stop ∷ o.consumed ∷ (ran_of o).written ∷ []
 
 -- Part A with room for two answers and 4 bytes more, and part B after it with so much room.
 abbrev pub ran_a : Chip → Out

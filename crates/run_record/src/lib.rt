@@ -1,32 +1,40 @@
-// One whole record: what it says is decoded, and judged by the state.
+//! One whole record: decoded, judged by the state, carried out and answered.
 #![tactic(auto)]
 
-ghost use Rattle.std.specs.Prelude.{◌≡◌, ◌≤◌, length};
-ghost use Rattle.machine_spec.specs.declared.Machine.{Machine};
+ghost use Rattle.std.specs.Prelude.{◌≡◌, ◌≤◌, length, true};
+ghost use Rattle.machine_spec.specs.Machine.{accepted_of};
 ghost use Rattle.run_spec.specs.Turn.{turn_of};
 ghost use Rattle.item_decode.specs.Values.{values_in};
 ghost use Rattle.run_record.specs.Judged.{turn_judged, JudgedInRange};
 
-use disk_spec::Drives;
-use item_spec::Decoded;
+use clock_command::Lookup;
+use item_spec::{Answer, Item};
+use machine_spec::Machine;
+use refusal::Refusal;
 
-// The item of a record's bytes after the length, or the number of its refusal by the bytes or by a state with these drives.
+/// The item of a record's bytes after the length, or its refusal by the bytes or by the state.
 #[tactic(auto, unfolding(crate::specs::Judged::turn_judged))]
-pub fn judge(d: Drives, s: &[u8]) -> Decoded
-    requires { 2 ≤ length s.now }
-    ensures s_value { (m : Machine) → m.drives ≡ d → turn_of m s.now ≡ turn_judged m s.now (values_in s.now) result }
-    ensures judged_in_range { JudgedInRange (values_in s.now) result }
+pub fn judge(machine: &Machine, bytes: &[u8]) -> Result<Item, Refusal>
+    requires { 2 ≤ length bytes.now }
+    ensures turn { turn_of machine.now bytes.now ≡ turn_judged machine.now (values_in bytes.now) result }
+    ensures judged_in_range { JudgedInRange (values_in bytes.now) result }
 {
-    let x = item_decode::decode(s);
-    match x {
-        Decoded::Done(item) => {
-            let n = machine_answer::refuses(d, item);
-            if n != 0 {
-                return Decoded::Refused(n);
-            }
-            x
-        }
-        Decoded::Many(_) => x,
-        Decoded::Refused(_) => x,
+    let item = item_decode::decode(bytes)?;
+    match machine_answer::refuses(machine, item) {
+        Some(refusal) => Err(refusal),
+        None => Ok(item),
     }
+}
+
+/// Carries out the record, or refuses it: its answer.
+pub fn turn<L: Lookup>(machine: &mut Machine, bytes: &[u8]) -> Answer
+    requires long { 2 ≤ length bytes.now }
+    requires accepted { accepted_of machine.old ≡ true }
+    ensures answer { result ≡ (turn_of machine.old bytes.now).answer }
+    ensures machine_after { machine.new ≡ (turn_of machine.old bytes.now).machine }
+{
+    let item = judge(machine, bytes)?;
+    let values = &bytes[item_decode::first_value(bytes)..];
+    let value = machine_act::step::<L>(machine, item, values);
+    Ok(machine_answer::answer(machine, value))
 }

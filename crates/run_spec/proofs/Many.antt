@@ -1,7 +1,7 @@
 -- W-211: "Final state and answer equal those of the last of the single WR items."
+use Rattle.std.specs.Prelude.{None, Ok}
 use Prim.Native.Nat.{ℕ, ◌+◌, ◌*◌, ◌≤◌}
 use mathlib.Core.Path.{◌≡◌, refl, sym, ap, ◌∙◌}
-use mathlib.Core.Bool.{Bool, true, false}
 use mathlib.Core.List.{List, [], ◌∷◌}
 use native.Mathlib.Omega.{arith}
 use lib.ListN.{length, get_or, length-drop}
@@ -9,7 +9,11 @@ use Rattle.units.specs.Units.{for_ticks}
 use Rattle.units.specs.declared.WaitTicks.{WaitTicks}
 use Rattle.item_spec.specs.declared.Many.{Many}
 use Rattle.item_spec.specs.declared.Decoded.{Decoded}
-use Rattle.item_spec.specs.Many.{write_to, single, values_of, singles_after, single_bytes, single_records_after, single_records}
+use Rattle.item_spec.specs.Items.{write_to}
+use Rattle.item_spec.specs.declared.Location.{Location}
+use Rattle.item_spec.specs.declared.Location.TheVariants.{Via, Iwm}
+use Rattle.item_spec.specs.declared.Item.TheVariants.{WriteVia, WriteIwm}
+use Rattle.item_spec.specs.Many.{single, values_of, singles_after, single_bytes, single_records_after, single_records}
 use Rattle.item_spec.specs.Kinds.{decoded_of}
 use Rattle.item_spec.proofs.ItemRange.{many-range}
 use Rattle.item_spec.proofs.ManyLaws.{single-decoded, first-wait}
@@ -29,33 +33,33 @@ many-keep P x k [] m w h = h
 many-keep P x k (v ∷ vs) m w h = many-keep P x k vs (step_of m (single x w v)).machine (for_ticks 0) (k m w v h)
 
 -- No state refuses a single WR, and its answer has value 0.
-single-unrefused : (m : Machine) (x : Many) (w : WaitTicks) (v : ℕ) → refuses_of m (single x w v) ≡ 0
+single-unrefused : (m : Machine) (x : Many) (w : WaitTicks) (v : ℕ) → refuses_of m (single x w v) ≡ None
 unfolding refuses_of
-single-unrefused m x w v = go x.iwm
+single-unrefused m x w v = go x.to
   where
-    go : (b : Bool) → refuses_of m (write_to b x.number w v) ≡ 0
-    go true = refl
-    go false = refl
+    go : (l : Location) → refuses_of m (write_to l w v) ≡ None
+    go (Via r) = refl
+    go (Iwm k) = refl
 
 single-value : (m : Machine) (x : Many) (w : WaitTicks) (v : ℕ) → (step_of m (single x w v)).value ≡ 0
-single-value m x w v = go x.iwm
+single-value m x w v = go x.to
   where
-    go : (b : Bool) → (step_of m (write_to b x.number w v)).value ≡ 0
-    go true = unread m (write_to true x.number w v) refl
-    go false = unread m (write_to false x.number w v) refl
+    go : (l : Location) → (step_of m (write_to l w v)).value ≡ 0
+    go (Via r) = unread m (WriteVia w r v) refl
+    go (Iwm k) = unread m (WriteIwm w k v) refl
 
 -- Records one after the other, each from the state that the one before left: what the last of them leaves.
 abbrev pub turns_of : Turn → List (List ℕ) → Turn
 turns_of t [] = t
 turns_of t (s ∷ ss) = turns_of (turn_of t.machine s) ss
 
-single-turn : (m : Machine) (s : List ℕ) (x : Many) → decoded_of s ≡ Decoded.Many x → (a b v : ℕ)
+single-turn : (m : Machine) (s : List ℕ) (x : Many) → decoded_of s ≡ Ok (Decoded.Many x) → (a b v : ℕ)
     → turn_of m (single_bytes s a b v) ≡ done_turn (no_value (step_of m (single x (for_ticks (a + b * 256)) v)).machine)
 single-turn m s x e a b v =
     carried-out m (single_bytes s a b v) (single x (for_ticks (a + b * 256)) v) (single-decoded s x e a b v) (single-unrefused m x (for_ticks (a + b * 256)) v)
     ∙ ap (λ (n : ℕ). done_turn (record { machine = (step_of m (single x (for_ticks (a + b * 256)) v)).machine; value = n })) (single-value m x (for_ticks (a + b * 256)) v)
 
-singles-turn : (s : List ℕ) (x : Many) → decoded_of s ≡ Decoded.Many x → (vs : List ℕ) (v a b : ℕ) (t : Turn)
+singles-turn : (s : List ℕ) (x : Many) → decoded_of s ≡ Ok (Decoded.Many x) → (vs : List ℕ) (v a b : ℕ) (t : Turn)
     → turns_of t (single_records_after s a b (v ∷ vs)) ≡ done_turn (no_value (after_items t.machine (singles_after x (for_ticks (a + b * 256)) (v ∷ vs))))
 singles-turn s x e [] v a b t = single-turn t.machine s x e a b v
 singles-turn s x e (u ∷ vs) v a b t =
@@ -63,7 +67,7 @@ singles-turn s x e (u ∷ vs) v a b t =
     ∙ ap (λ (n : Turn). done_turn (no_value (after_items n.machine (singles_after x (for_ticks 0) (u ∷ vs))))) (single-turn t.machine s x e a b v)
 
 -- An MW leaves the state and the answer of the last of its single WR records, run one after the other from the state given, whatever came before (t).
-pub many-as-singles : (s : List ℕ) (x : Many) → decoded_of s ≡ Decoded.Many x → (t : Turn) → turn_of t.machine s ≡ turns_of t (single_records s)
+pub many-as-singles : (s : List ℕ) (x : Many) → decoded_of s ≡ Ok (Decoded.Many x) → (t : Turn) → turn_of t.machine s ≡ turns_of t (single_records s)
 unfolding turn_of
 many-as-singles s x e t = ap (turn_by t.machine s) e ∙ go (values_of s) (simp length-drop (omega (arith, (many-range s x e).least)))
   where

@@ -1,4 +1,6 @@
 -- The pieces of a list, and outcomes one after the other.
+use Rattle.std.specs.Prelude.{Option, Some, None}
+use Rattle.refusal.specs.declared.Refusal.TheVariants.{NoRoom}
 use Prim.Native.Nat.{ℕ, zero, suc, ◌+◌, ◌-◌, ◌<◌}
 use mathlib.Core.Path.{◌≡◌, refl, sym, ap, ◌∙◌}
 use mathlib.Core.List.{List, [], ◌∷◌, ◌++◌, append_assoc}
@@ -6,8 +8,6 @@ use native.Mathlib.Omega.{arith}
 use native.Mathlib.Nat.{zero-add, add_assoc}
 use lib.ListN.{length, take, drop}
 use Rattle.item_spec.specs.Record.{frame_of}
-use Rattle.item_spec.specs.declared.Framed.{Framed}
-use Rattle.item_spec.specs.declared.Framed.TheVariants.{Whole, Cut}
 use Rattle.item_spec.proofs.RecordLaws.{whole-fits}
 use Rattle.machine_spec.specs.declared.Machine.{Machine}
 use Rattle.run_spec.specs.Outcome.{Piece, whole, broken, cut, pieces_from, pieces, Out, halt, onto, run_pieces}
@@ -21,12 +21,12 @@ pieces-drop zero l = refl
 pieces-drop (suc k) [] = refl
 pieces-drop (suc k) (x ∷ xs) = pieces-drop k xs
 
-pub pieces-broken : (l : List ℕ) → 0 < length l → frame_of l ≡ Cut → pieces l ≡ broken ∷ []
+pub pieces-broken : (l : List ℕ) → 0 < length l → frame_of l ≡ None → pieces l ≡ broken ∷ []
 unfolding pieces_from cut
 pieces-broken [] h e = absurd (omega arith)
 pieces-broken (x ∷ xs) h e = ap (λ f. cut f (x ∷ xs) (λ k. pieces_from k xs)) e
 
-pub pieces_whole : (l : List ℕ) (n : ℕ) → frame_of l ≡ Whole n → pieces l ≡ whole (take (n - 2) (drop 2 l)) ∷ pieces (drop n l)
+pub pieces_whole : (l : List ℕ) (n : ℕ) → frame_of l ≡ Some n → pieces l ≡ whole (take (n - 2) (drop 2 l)) ∷ pieces (drop n l)
 unfolding pieces_from cut
 pieces_whole [] n e = let h = whole-fits [] n e in absurd (omega arith)
 pieces_whole (x ∷ xs) zero e = let h = whole-fits (x ∷ xs) 0 e in absurd (omega arith)
@@ -35,14 +35,14 @@ pieces_whole (x ∷ xs) (suc n) e =
     ∙ ap (λ (p : List Piece). whole (take (suc n - 2) (drop 2 (x ∷ xs))) ∷ p) (ap (λ (k : ℕ). pieces_from k xs) (omega arith) ∙ pieces-drop n xs)
 
 -- Bytes are left, and no room.
-pub bytes_left : (m : Machine) (s : List ℕ) (room : ℕ) → 0 < length s → room < 8 → run_pieces m (pieces s) room ≡ halt m 6
+pub bytes_left : (m : Machine) (s : List ℕ) (room : ℕ) → 0 < length s → room < 8 → run_pieces m (pieces s) room ≡ halt m (Some NoRoom)
 unfolding pieces_from cut
 bytes_left m [] room h r = absurd (omega arith)
 bytes_left m (x ∷ xs) room h r = any (frame_of (x ∷ xs))
   where
-    any : (f : Framed) → run_pieces m (cut f (x ∷ xs) (λ k. pieces_from k xs)) room ≡ halt m 6
-    any (Whole n) = no_room m _ _ room r
-    any Cut = no_room m _ _ room r
+    any : (f : Option ℕ) → run_pieces m (cut f (x ∷ xs) (λ k. pieces_from k xs)) room ≡ halt m (Some NoRoom)
+    any (Some n) = no_room m _ _ room r
+    any None = no_room m _ _ room r
 
 -- ---- outcomes
 

@@ -1,4 +1,6 @@
 -- What users of a run may rely on, besides its contract.
+use Rattle.std.specs.Prelude.{Some, Err}
+use Rattle.refusal.specs.declared.Refusal.TheVariants.{CutRecord, NoRoom, NotAccepted}
 use Prim.Native.Nat.{ℕ, ◌+◌, ◌-◌, ◌≤◌, ◌<◌}
 use mathlib.Core.Path.{◌≡◌, refl, ap, ◌∙◌}
 use mathlib.Core.Bool.{Bool, true, false, cond}
@@ -7,7 +9,7 @@ use native.Mathlib.Omega.{arith}
 use lib.ListN.{length, length-append}
 use lib.Dec.{ltb}
 use borrow.Author.Tests.{lt-ltb, le-ltb, ltb-false}
-use Rattle.item_spec.specs.Record.{answer_bytes, no_of}
+use Rattle.item_spec.specs.Record.{answer_bytes}
 use Rattle.item_spec.proofs.RecordLaws.{answer-long}
 use Rattle.machine_spec.specs.declared.Machine.{Machine}
 use Rattle.machine_spec.specs.Machine.{accepted_of}
@@ -34,13 +36,13 @@ unfolding onto
 consumed-adds m s ps room h = ap (λ (o : Out). o.consumed) (item-after-item m s ps room h)
 
 -- Refusal 6, before 1: where something is left and no room, whatever it is, there is no answer, the item is not done and the run stops.
-pub no_room : (m : Machine) (p : Piece) (ps : List Piece) (room : ℕ) → room < 8 → run_pieces m (p ∷ ps) room ≡ halt m 6
+pub no_room : (m : Machine) (p : Piece) (ps : List Piece) (room : ℕ) → room < 8 → run_pieces m (p ∷ ps) room ≡ halt m (Some NoRoom)
 unfolding run_pieces
 no_room m p ps room h = simp (lt-ltb _ _ h)
 
 -- Refusal 1: where there is room, NO 1 is written and the run stops before the record.
 pub no_record : (m : Machine) (ps : List Piece) (room : ℕ) → 8 ≤ room
-    → run_pieces m (broken ∷ ps) room ≡ record { machine = m; stop = 1; consumed = 0; answers = answer_bytes (no_of 1) }
+    → run_pieces m (broken ∷ ps) room ≡ record { machine = m; stop = Some CutRecord; consumed = 0; answers = answer_bytes (Err CutRecord) }
 unfolding run_pieces on_piece
 no_record m ps room h = simp (le-ltb _ _ h)
 
@@ -49,13 +51,13 @@ unfolding run_pieces on_piece onto
 run_room [] m room = omega arith
 run_room (broken ∷ ps) m room = go (ltb room 8) refl
   where
-    go : (t : Bool) → ltb room 8 ≡ t → length (cond t (halt m 6) (on_piece m broken (λ m₁. run_pieces m₁ ps (room - 8)))).answers ≤ room
+    go : (t : Bool) → ltb room 8 ≡ t → length (cond t (halt m (Some NoRoom)) (on_piece m broken (λ m₁. run_pieces m₁ ps (room - 8)))).answers ≤ room
     go true e = omega arith
-    go false e = rw (answer-long (no_of 1)) (ltb-false _ _ e)
+    go false e = rw (answer-long (Err CutRecord)) (ltb-false _ _ e)
 run_room (whole s ∷ ps) m room = go (run_room ps (turn_of m s).machine (room - 8)) (ltb room 8) refl
   where
     go : length (run_pieces (turn_of m s).machine ps (room - 8)).answers ≤ room - 8 → (t : Bool) → ltb room 8 ≡ t
-        → length (cond t (halt m 6) (on_piece m (whole s) (λ m₁. run_pieces m₁ ps (room - 8)))).answers ≤ room
+        → length (cond t (halt m (Some NoRoom)) (on_piece m (whole s) (λ m₁. run_pieces m₁ ps (room - 8)))).answers ≤ room
     go r true e = omega arith
     go r false e = simp (length-append, answer-long (turn_of m s).answer) (omega (arith, ltb-false))
 
@@ -64,7 +66,7 @@ pub answers-fit : (m : Machine) (l : List ℕ) (room : ℕ) → length (run_of m
 unfolding run_of
 answers-fit m l room = go (accepted_of m)
   where
-    go : (t : Bool) → length (cond t (run_pieces m (pieces l) room) (halt m 7)).answers ≤ room
+    go : (t : Bool) → length (cond t (run_pieces m (pieces l) room) (halt m (Some NotAccepted))).answers ≤ room
     go true = run_room (pieces l) m room
     go false = omega arith
 
@@ -79,13 +81,13 @@ unfolding run_pieces on_piece onto
 run-keeps P k [] m room h = h
 run-keeps P k (broken ∷ ps) m room h = go (ltb room 8)
   where
-    go : (t : Bool) → P (cond t (halt m 6) (on_piece m broken (λ m₁. run_pieces m₁ ps (room - 8)))).machine
+    go : (t : Bool) → P (cond t (halt m (Some NoRoom)) (on_piece m broken (λ m₁. run_pieces m₁ ps (room - 8)))).machine
     go true = h
     go false = h
 run-keeps P k (whole s ∷ ps) m room h = go (run-keeps P k ps (turn_of m s).machine (room - 8) (k m s h)) (ltb room 8)
   where
     go : P (run_pieces (turn_of m s).machine ps (room - 8)).machine
-        → (t : Bool) → P (cond t (halt m 6) (on_piece m (whole s) (λ m₁. run_pieces m₁ ps (room - 8)))).machine
+        → (t : Bool) → P (cond t (halt m (Some NoRoom)) (on_piece m (whole s) (λ m₁. run_pieces m₁ ps (room - 8)))).machine
     go r true = h
     go r false = r
 
@@ -99,6 +101,6 @@ pub size-kept : (m : Machine) (l : List ℕ) (room : ℕ) → (run_of m l room).
 unfolding run_of
 size-kept m l room = go (accepted_of m)
   where
-    go : (t : Bool) → (cond t (run_pieces m (pieces l) room) (halt m 7)).machine.clock.store.chip ≡ m.clock.store.chip
+    go : (t : Bool) → (cond t (run_pieces m (pieces l) room) (halt m (Some NotAccepted))).machine.clock.store.chip ≡ m.clock.store.chip
     go true = run-keeps (λ (n : Machine). n.clock.store.chip ≡ m.clock.store.chip) (λ n s h. turn-size n s ∙ h) (pieces l) m room refl
     go false = refl

@@ -21,7 +21,7 @@ use Rattle.machine_spec.specs.Pins.{wires_of, sel_of}
 use Rattle.disk_spec.specs.Watched.{watched_of}
 use Rattle.machine_spec.specs.Wiring.{inputs_of, interrupt_level}
 use Rattle.octets.specs.Octets.{le16_of, le32_of}
-use Rattle.item_spec.specs.Record.{frame_of, answer_bytes, no_of}
+use Rattle.item_spec.specs.Record.{frame_of, answer_bytes}
 use Rattle.item_spec.specs.Addresses.{place_from, found_of}
 use Rattle.item_spec.specs.Items.{write_record, plain_record, power_record}
 use Rattle.item_spec.specs.Ranged.{disk_record}
@@ -41,7 +41,7 @@ use Rattle.samples.specs.Keyboard.{pulses_of, levels, KeyboardSamples}
 
 pub keyboard_samples : KeyboardSamples
 unfolding all_below fresh_via port_level latch_of tick_of ticks raised_of asking level_of accepted_via via_written register_read meant second_meant hear unused_clear between fetch next acts put act
-    step_wires shown_level accepted_phase lines_off wires_of sel_of inputs_of interrupt_level le16_of le32_of frame_of answer_bytes no_of is_kind place_from found_of write_record plain_record
+    step_wires shown_level accepted_phase lines_off wires_of sel_of inputs_of interrupt_level le16_of le32_of frame_of answer_bytes is_kind place_from found_of write_record plain_record
     decoded_of items.read_record accepted_of accepted_drives accepted_drive accepted_strobe item_wait via_read acted_of step_of refuses_of answer_of cut pieces_from turn_of onto on_piece run_pieces run_of sent values power_record reset_of drives_powered ranged.pulse_record keyboard_pulse pulse_of pulses_of levels
 keyboard_samples =
     record {

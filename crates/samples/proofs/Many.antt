@@ -20,7 +20,7 @@ use Rattle.machine_spec.specs.Pins.{wires_of, sel_of}
 use Rattle.disk_spec.specs.Watched.{watched_of}
 use Rattle.machine_spec.specs.Wiring.{inputs_of, interrupt_level}
 use Rattle.octets.specs.Octets.{le16_of, le32_of}
-use Rattle.item_spec.specs.Record.{frame_of, answer_bytes, no_of}
+use Rattle.item_spec.specs.Record.{frame_of, answer_bytes}
 use Rattle.item_spec.specs.Addresses.{place_from, found_of}
 use Rattle.item_spec.specs.Items.{write_record, plain_record}
 use Rattle.item_spec.specs.Many.{counted_record, many_record}
@@ -39,7 +39,7 @@ use Rattle.samples.specs.Many.{ManySamples}
 
 pub many_samples : ManySamples
 unfolding all_below fresh_via port_level latch_of tick_of ticks raised_of asking level_of accepted_via via_written register_read meant second_meant hear unused_clear between fetch next acts put act
-    step_wires shown_level accepted_phase lines_off with_level after_access sense_at read_line wires_of sel_of watched_of inputs_of interrupt_level le16_of le32_of frame_of answer_bytes no_of is_kind
+    step_wires shown_level accepted_phase lines_off with_level after_access sense_at read_line wires_of sel_of watched_of inputs_of interrupt_level le16_of le32_of frame_of answer_bytes is_kind
     place_from found_of write_record plain_record counted_record many_record decoded_of items.read_record register_written neighbour tick_drive drive_ticks is_drive_sense sense.drive_sense sense_shown
     accepted_drive tick_strobe strobe_ticks held_still unspoilt strobe_after register_of long_enough strobe_writes accepted_strobe drives_ticks drives_after drives_shown
     accepted_drives accepted_of item_wait via_read iwm_read acted_of step_of refuses_of answer_of cut pieces_from turn_of onto on_piece run_pieces run_of sent sent_values values

@@ -20,7 +20,7 @@ use Rattle.machine_spec.specs.Pins.{wires_of, sel_of}
 use Rattle.disk_spec.specs.Watched.{watched_of}
 use Rattle.machine_spec.specs.Wiring.{inputs_of, interrupt_level}
 use Rattle.octets.specs.Octets.{le16_of, le32_of}
-use Rattle.item_spec.specs.Record.{frame_of, answer_bytes, no_of}
+use Rattle.item_spec.specs.Record.{frame_of, answer_bytes}
 use Rattle.item_spec.specs.Addresses.{place_from, found_of}
 use Rattle.item_spec.specs.Items.{write_record, plain_record, power_record}
 use Rattle.item_spec.specs.Ranged.{disk_record}
@@ -40,7 +40,7 @@ use Rattle.samples.specs.Drives.{DriveSamples}
 
 pub samples : Samples
 unfolding all_below fresh_via port_level latch_of tick_of ticks raised_of asking level_of accepted_via via_written register_read meant second_meant hear unused_clear between fetch next acts put act
-    step_wires shown_level accepted_phase lines_off wires_of sel_of inputs_of interrupt_level le16_of le32_of frame_of answer_bytes no_of is_kind place_from found_of write_record plain_record
+    step_wires shown_level accepted_phase lines_off wires_of sel_of inputs_of interrupt_level le16_of le32_of frame_of answer_bytes is_kind place_from found_of write_record plain_record
     decoded_of items.read_record accepted_of accepted_drives accepted_drive accepted_strobe item_wait via_read acted_of step_of refuses_of answer_of cut pieces_from turn_of onto on_piece run_pieces run_of sent values
 samples =
     record {
@@ -69,7 +69,7 @@ samples =
 
 pub drive_samples : DriveSamples
 unfolding all_below fresh_via tick_of ticks reset_of asking level_of accepted_via via_written unused_clear between step_wires next acts act shown_level accepted_phase lines_off with_level after_access
-    sense_at read_line wires_of sel_of watched_of le16_of le32_of frame_of answer_bytes no_of is_kind place_from found_of write_record plain_record power_record disk_record decoded_of items.read_record ranged.is_retired ranged.sense_record
+    sense_at read_line wires_of sel_of watched_of le16_of le32_of frame_of answer_bytes is_kind place_from found_of write_record plain_record power_record disk_record decoded_of items.read_record ranged.is_retired ranged.sense_record
     register_written neighbour tick_drive drive_ticks is_drive_sense sense.drive_sense sense_shown accepted_drive tick_strobe strobe_ticks held_still unspoilt strobe_after register_of
     long_enough strobe_writes accepted_strobe drives_ticks drives_disk_moved place_refused drives_powered drives_after drives_shown accepted_drives
     accepted_of item_wait iwm_read acted_of step_of refuses_of answer_of cut pieces_from turn_of onto on_piece run_pieces run_of values

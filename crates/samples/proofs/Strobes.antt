@@ -17,7 +17,7 @@ use Rattle.disk_spec.specs.Control.{register_written}
 use Rattle.disk_spec.specs.Sense.{is_drive_sense, drive_sense, sense_shown, accepted_drive}
 use Rattle.disk_spec.specs.Strobe.{tick_strobe, strobe_ticks, strobe_after, long_enough, strobe_writes, accepted_strobe}
 use Rattle.disk_spec.specs.Drives.{drives_ticks, drives_disk_moved, place_refused, drives_powered, drives_after, drives_shown, accepted_drives}
-use Rattle.item_spec.specs.Record.{frame_of, answer_bytes, no_of}
+use Rattle.item_spec.specs.Record.{frame_of, answer_bytes}
 use Rattle.machine_spec.specs.Machine.{accepted_of}
 use Rattle.machine_spec.specs.Accesses.{via_read, iwm_read}
 use Rattle.machine_spec.specs.Action.{event_of, acted_of}
@@ -32,7 +32,7 @@ unfolding all_below le16_of le32_of replace port_a_flags enabled_by fresh_via po
     ports_written timer1_written timer2_written flags_written via_written flags_byte value_read flags_read register_read meant second_meant hear unused_clear fetch put act between
     shown_level accepted_phase next acts step_wires lines_off after_access with_level line_levels lines_of sense_at read_line watched_of held_still unspoilt register_of neighbour
     tick_drive drive_ticks register_written is_drive_sense drive_sense sense_shown accepted_drive tick_strobe strobe_ticks strobe_after long_enough strobe_writes
-    accepted_strobe drives_ticks drives_disk_moved place_refused drives_powered drives_after drives_shown accepted_drives frame_of answer_bytes no_of accepted_of
+    accepted_strobe drives_ticks drives_disk_moved place_refused drives_powered drives_after drives_shown accepted_drives frame_of answer_bytes accepted_of
     via_read iwm_read event_of acted_of refuses_of item_wait step_of answer_of wires_of sel_of inputs_of interrupt_level
 strobe_samples =
     record {

@@ -1,4 +1,5 @@
 -- Samples S1 to S10 of document 01 and those of W-206, as one statement about the definition that the run's contract cites.
+use Rattle.std.specs.Prelude.{None}
 use Rattle.std.specs.Prelude.{ℕ, zero, suc, ◌+◌, ◌*◌, ◌≡◌, List, [], ◌∷◌, ◌++◌, get_or}
 use Rattle.clock_spec.specs.declared.Chip.{Chip}
 use Rattle.clock_spec.specs.declared.Chip.TheVariants.{First, Later}
@@ -38,7 +39,7 @@ abbrev pub phase : List ℕ → Phase
 phase l = phase_on First l
 
 pub record Samples : Type 0 where
-  pub S1 : run_of (fresh_machine First) [] 0 ≡ halt (fresh_machine First) 0
+  pub S1 : run_of (fresh_machine First) [] 0 ≡ halt (fresh_machine First) None
   pub S2 : (ran (0x08 ∷ 0x00 ∷ 0x52 ∷ 0x44 ∷ 0x00 ∷ 0x00 ∷ 0xfe ∷ 0xe1 ∷ 0xef ∷ 0x00 ∷ [])).answers
       ≡ 0x06 ∷ 0x00 ∷ 0x4f ∷ 0x4b ∷ 0xff ∷ 0x00 ∷ 0x00 ∷ 0x01 ∷ []
   pub S3 : (ran (0x05 ∷ 0x00 ∷ 0x53 ∷ 0x45 ∷ 0x00 ∷ 0x00 ∷ 0x00 ∷ [])).answers

@@ -1,5 +1,7 @@
 -- Whole states, byte by byte of their images: a state in which neighbouring fields differ, the fresh machine, and what RS and PW leave of the first. Document 01,
 -- "Fresh, reset, power", and requests W-201, W-203, W-205, W-210. And which states are accepted.
+use Rattle.std.specs.Prelude.{Some}
+use Rattle.refusal.specs.declared.Refusal.TheVariants.{NotAccepted}
 use Rattle.std.specs.Prelude.{ℕ, zero, suc, ◌+◌, ◌≡◌, Bool, true, false, List, [], ◌∷◌, ◌++◌, take, drop}
 use Rattle.units.specs.Units.{for_ticks}
 use Rattle.via.specs.Via.{fresh_via}
@@ -174,5 +176,5 @@ pub record StateSamples : Type 0 where
       ≡ true ∷ false ∷ true ∷ false ∷ true ∷ false ∷ false ∷ false ∷ false ∷ true ∷ false ∷ true ∷ false ∷ []
   pub bounds : accepted_flags 127 127 ∷ accepted_flags 128 0 ∷ accepted_flags 0 128 ∷ accepted_pulses 7 ∷ accepted_pulses 8 ∷ [] ≡ true ∷ false ∷ false ∷ true ∷ false ∷ []
   -- Refusal 7: "nothing read or written; stop 7, both counts 0; state handed back as given", with an empty list and no room too.
-  pub seven : run_of enable_up se 800 ≡ halt enable_up 7
-  pub seven_first : run_of enable_up [] 0 ≡ halt enable_up 7
+  pub seven : run_of enable_up se 800 ≡ halt enable_up (Some NotAccepted)
+  pub seven_first : run_of enable_up [] 0 ≡ halt enable_up (Some NotAccepted)

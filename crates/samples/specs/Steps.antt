@@ -3,7 +3,7 @@ use Rattle.std.specs.Prelude.{ℕ, ◌+◌, ◌*◌, ◌/◌, ◌%◌, List, [],
 use Rattle.units.specs.Units.{for_ticks}
 use Rattle.item_spec.specs.declared.Item.{Item}
 use Rattle.item_spec.specs.declared.Item.TheVariants.{WriteVia, WriteIwm}
-use Rattle.item_spec.specs.declared.Answer.{Answer}
+use Rattle.item_spec.specs.declared.Shown.{Shown}
 use Rattle.machine_spec.specs.declared.Machine.{Machine}
 use Rattle.machine_spec.specs.Step.{step_of, answer_of}
 pub use Rattle.machine_spec.specs.Step.{after_item, after_items}
@@ -12,7 +12,7 @@ pub use Rattle.machine_spec.specs.Step.{after_item, after_items}
 abbrev pub value_of : Machine → Item → ℕ
 value_of m i = (step_of m i).value
 
-abbrev pub answer_to : Machine → Item → Answer
+abbrev pub answer_to : Machine → Item → Shown
 answer_to m i = answer_of (step_of m i)
 
 -- A function's values over a list.

@@ -1,143 +1,127 @@
 -- What is left to be written of a sheet's counting records.
-use Prim.Native.Nat.{ℕ, ◌+◌, ◌-◌, ◌≤◌, ◌<◌}
-use mathlib.Core.Path.{◌≡◌, refl, sym, ap, ◌∙◌}
+use Prim.Native.Nat.{ℕ, ◌+◌, ◌≤◌, ◌<◌}
+use mathlib.Core.Path.{◌≡◌, refl, sym, ap, subst, ◌∙◌}
 use mathlib.Core.Bool.{Bool, true, false, cond}
 use mathlib.Core.List.{List, [], ◌++◌}
+use Rattle.std.specs.Prelude.{Some, Ok, Err, Result}
 use native.Mathlib.Omega.{arith}
 use lib.ListN.{length, get_or, drop, length-append}
 use lib.Dec.{eqb}
 use borrow.Author.Tests.{lt-ltb, le-ltb}
-use Rattle.octets.proofs.Writer.{Wrote, wrote-first, wrote-end, wrote-room, wrote-next}
-use Rattle.octets.specs.Octets.{put_at}
-use Rattle.sheet_spec.specs.Records.{first_of, Sheet, row, sheet_of, is_broken}
-use Rattle.sheet_spec.specs.Counting.{setting_of, version_of, beats_of, better_of, counting_from, counting_of, start_from}
+use Rattle.refusal.specs.declared.Refusal.{Refusal}
+use Rattle.refusal.specs.declared.Refusal.TheVariants.{CutRecord, NoRoom}
+use Rattle.sheet_spec.specs.Records.{Sheet, row, end, broken, sheet_of, is_broken}
+use Rattle.sheet_spec.specs.Counting.{setting_of, version_of, beats_of, counting_of, start_of}
 use Rattle.sheet_spec.specs.Compaction.{counts_of, row_if, counting_rows, bytes_of, compact_of, compacted_of, memory_of}
-use Rattle.sheet_spec.specs.declared.Compacted.{Compacted}
-use Rattle.sheet_spec.specs.declared.Compacted.TheVariants.{Written, Failed}
-use Rattle.sheet_spec.proofs.Walk.{sheet-next, sheet-stop}
 use Rattle.sheet_spec.proofs.Start.{counts_start}
-use Rattle.sheet_spec.proofs.Lead.{Lead, lead-first, lead-next, after, after-length}
+use Rattle.sheet_spec.proofs.Lead.{Lead, lead-first, lead-yes, lead-no}
+use Rattle.sheet_record.specs.declared.Record.{Record}
+use Rattle.sheet_record.specs.declared.Records.{Records}
+use Rattle.sheet_record.specs.Walk.{left_of, GivesRecord}
 use Rattle.sheet_compact.specs.Table.{Table}
 
--- of setting k some record counts before `rest`, or none
-pub record Ahead (l rest : List ℕ) (k : ℕ) : Type 0 where
+-- of setting k some record counts before `left`, or none
+pub record Ahead (all left : Sheet) (at k : ℕ) : Type 0 where
   pub best : List ℕ
   pub start : ℕ
-  pub lead : Lead l rest k best start
+  pub lead : Lead all left at k best start
 
-pub ahead-first : (l : List ℕ) (k : ℕ) → Ahead l l k
-ahead-first l k = record { best = []; start = 0; lead = lead-first l k }
+pub ahead-first : (all : Sheet) (k : ℕ) → Ahead all all 0 k
+ahead-first all k = record { best = []; start = 0; lead = lead-first all k }
 
-abbrev pub left : List ℕ → List ℕ → List ℕ
-left l rest = bytes_of (counting_rows (sheet_of l) (sheet_of rest))
+-- the bytes of the counting records among those that are left
+abbrev pub todo : Sheet → Sheet → List ℕ
+todo all left = bytes_of (counting_rows all left)
 
-rows_next : (all : Sheet) (r : List ℕ) (s : Sheet) → bytes_of (counting_rows all (row r s)) ≡ cond (counts_of all r s) r [] ++ bytes_of (counting_rows all s)
+pub todo-end : (all : Sheet) → todo all end ≡ []
 unfolding counting_rows bytes_of
-rows_next all r s = go (counts_of all r s)
-  where
-    go : (t : Bool) → bytes_of (row_if t r (counting_rows all s)) ≡ cond t r [] ++ bytes_of (counting_rows all s)
-    go true = refl
-    go false = refl
+todo-end all = refl
 
-module _ (l rest r : List ℕ) (e : r ≡ first_of rest) where
-  pub left-stop : length r < 7 → left l rest ≡ []
-  unfolding counting_rows bytes_of
-  left-stop s = sheet-stop rest r e s (λ (t : Sheet). bytes_of (counting_rows (sheet_of l) t) ≡ []) refl refl
+pub todo-broken : (all : Sheet) → todo all broken ≡ []
+unfolding counting_rows bytes_of
+todo-broken all = refl
 
-  module _ (h : length r ≤ length rest) (s : 7 ≤ length r) where
-    pub ahead-next : (k : ℕ) → Ahead l rest k → Ahead l (after l rest r e h s) k
-    ahead-next k a =
-        record {
-          best = better_of k a.best r;
-          start = cond (beats_of k (version_of a.best) r) (length l - length rest + 7) a.start;
-          lead = lead-next l rest r e h s k a.best a.start a.lead (better_of k a.best r) (version_of a.best) (cond (beats_of k (version_of a.best) r) (length l - length rest + 7) a.start) refl refl refl;
-        }
+module _ (all : Sheet) (r : List ℕ) (s : Sheet) (at : ℕ) (long : 7 ≤ length r) where
+  pub ahead-next : (k : ℕ) → Ahead all (row r s) at k → Ahead all s (at + length r) k
+  ahead-next k a = go (beats_of k (version_of a.best) r) refl
+    where
+      go : (t : Bool) → beats_of k (version_of a.best) r ≡ t → Ahead all s (at + length r) k
+      go true e = record { best = r; start = at + 7; lead = lead-yes all r s at k a.best a.start a.lead long e }
+      go false e = record { best = a.best; start = a.start; lead = lead-no all r s at k a.best a.start a.lead long e }
 
-    -- x is what the record leaves by the table
-    module _ (starts x : List ℕ) (t : Table starts l) (a : Ahead l rest (setting_of r)) (small : setting_of r < 65536) (q : x ≡ cond (eqb (get_or starts (setting_of r) 0) (length l - length rest + 7)) r []) where
-      pub left-next : left l rest ≡ x ++ left l (after l rest r e h s)
-      unfolding counting_of
-      left-next =
-          let f = sheet-next rest r e h s in
-          let w = a.lead in
-          let c = counts_start (sheet_of l) r (sheet_of (after l rest r e h s)) a.best a.start (length l - length rest) w.early s (w.counting ∙ ap (counting_from (setting_of r) a.best) f) (w.start ∙ ap (start_from (setting_of r) (version_of a.best) a.start (length l - length rest)) f) in
-          let d : cond (counts_of (sheet_of l) r (sheet_of (after l rest r e h s))) r [] ≡ x = ap (λ (b : Bool). cond b r []) (c ∙ ap (λ (n : ℕ). eqb n (length l - length rest + 7)) (sym (t.each (setting_of r) small))) ∙ sym q in
-          ap (λ (u : Sheet). bytes_of (counting_rows (sheet_of l) u)) f ∙ rows_next (sheet_of l) r (sheet_of (after l rest r e h s)) ∙ ap (λ (u : List ℕ). u ++ left l (after l rest r e h s)) d
+  module _ (starts l : List ℕ) (t : Table starts l) (w : all ≡ sheet_of l) (a : Ahead all (row r s) at (setting_of r)) (small : setting_of r < 65536) where
+    counted : counts_of all r s ≡ eqb (get_or starts (setting_of r) 0) (at + 7)
+    unfolding counting_of
+    counted =
+        let b = a.lead in
+        counts_start all r s a.best a.start at b.early long b.counting b.start
+        ∙ ap (λ (n : ℕ). eqb n (at + 7)) (sym (t.each (setting_of r) small ∙ ap (λ (x : Sheet). start_of x (setting_of r)) (sym w)))
 
--- ---- the measuring pass: n bytes counted
-pub record Counted (l rest : List ℕ) (n : ℕ) : Type 0 where
-  pub inside : length rest ≤ length l
-  pub total : length (compact_of l) ≡ n + length (left l rest)
-  pub fits : n + length rest ≤ length l
-  pub ahead : (k : ℕ) → Ahead l rest k
+    pub todo-yes : eqb (get_or starts (setting_of r) 0) (at + 7) ≡ true → todo all (row r s) ≡ r ++ todo all s
+    unfolding counting_rows bytes_of
+    todo-yes e = ap (λ (b : Bool). bytes_of (row_if b r (counting_rows all s))) (counted ∙ e)
 
-pub counted-first : (l : List ℕ) → Counted l l 0
+    pub todo-no : eqb (get_or starts (setting_of r) 0) (at + 7) ≡ false → todo all (row r s) ≡ todo all s
+    unfolding counting_rows bytes_of
+    todo-no e = ap (λ (b : Bool). bytes_of (row_if b r (counting_rows all s))) (counted ∙ e)
+
+-- ---- a pass over the sheet l: `left` is left, `at` bytes before it, and n bytes were counted or written
+pub record Pass (l : List ℕ) (left : Sheet) (at n : ℕ) : Type 0 where
+  pub total : length (compact_of l) ≡ n + length (todo (sheet_of l) left)
+  pub fits : n ≤ at
+  pub ahead : (k : ℕ) → Ahead (sheet_of l) left at k
+
+pub pass-first : (l : List ℕ) → Pass l (sheet_of l) 0 0
 unfolding compact_of
-counted-first l = record { inside = omega arith; total = omega arith; fits = omega arith; ahead = ahead-first l }
+pass-first l = record { total = omega arith; fits = omega arith; ahead = ahead-first (sheet_of l) }
 
-module _ (l rest r : List ℕ) (n : ℕ) (e : r ≡ first_of rest) (w : Counted l rest n) where
-  pub counted-end : length r < 7 → n ≡ length (compact_of l)
-  counted-end s = omega (arith, w.total, ap length (left-stop l rest r e s))
+pub pass-end : (l : List ℕ) (at n : ℕ) → Pass l end at n → n ≡ length (compact_of l)
+pass-end l at n p = omega (arith, p.total, ap length (todo-end (sheet_of l)))
 
-  pub counted_next : (h : length r ≤ length rest) (s : 7 ≤ length r) (starts x : List ℕ) → Table starts l → setting_of r < 65536
-      → x ≡ cond (eqb (get_or starts (setting_of r) 0) (length l - length rest + 7)) r [] → length x ≤ length r → Counted l (after l rest r e h s) (n + length x)
-  counted_next h s starts x t small q lx =
-      let a = after-length l rest r e h s in
-      let i = w.inside in
-      let f = w.fits in
+pub pass-broken : (l : List ℕ) (at n : ℕ) → Pass l broken at n → n ≡ length (compact_of l)
+pass-broken l at n p = omega (arith, p.total, ap length (todo-broken (sheet_of l)))
+
+module _ (l : List ℕ) (w v : Records) (r : Record) (g : GivesRecord w (Some (Ok r)) v) (n : ℕ) (p : Pass l (left_of w) w.at n) (starts : List ℕ) (t : Table starts l) (small : setting_of r.bytes.now < 65536) where
+  ahead : (k : ℕ) → Ahead (sheet_of l) (row r.bytes.now (left_of v)) w.at k
+  ahead k = subst (λ (x : Sheet). Ahead (sheet_of l) x w.at k) g.0 (p.ahead k)
+
+  later : (k : ℕ) → Ahead (sheet_of l) (left_of v) v.at k
+  later k = subst (λ (j : ℕ). Ahead (sheet_of l) (left_of v) j k) (sym g.2) (ahead-next (sheet_of l) r.bytes.now (left_of v) w.at r.long k (ahead k))
+
+  test : eqb (get_or starts (setting_of r.bytes.now) 0) (w.at + 7) ≡ eqb (get_or starts (setting_of r.bytes.now) 0) r.start
+  test = ap (eqb (get_or starts (setting_of r.bytes.now) 0)) (sym g.3)
+
+  pub left-yes : eqb (get_or starts (setting_of r.bytes.now) 0) r.start ≡ true → todo (sheet_of l) (left_of w) ≡ r.bytes.now ++ todo (sheet_of l) (left_of v)
+  left-yes e = ap (todo (sheet_of l)) g.0 ∙ todo-yes (sheet_of l) r.bytes.now (left_of v) w.at r.long starts l t refl (ahead (setting_of r.bytes.now)) small (test ∙ e)
+
+  pub left-no : eqb (get_or starts (setting_of r.bytes.now) 0) r.start ≡ false → todo (sheet_of l) (left_of w) ≡ todo (sheet_of l) (left_of v)
+  left-no e = ap (todo (sheet_of l)) g.0 ∙ todo-no (sheet_of l) r.bytes.now (left_of v) w.at r.long starts l t refl (ahead (setting_of r.bytes.now)) small (test ∙ e)
+
+  pub pass-yes : eqb (get_or starts (setting_of r.bytes.now) 0) r.start ≡ true → Pass l (left_of v) v.at (n + length r.bytes.now)
+  pass-yes e =
       record {
-        inside = omega arith;
-        total = omega (arith, w.total, ap length (left-next l rest r e h s starts x t (w.ahead (setting_of r)) small q), length-append x (left l (after l rest r e h s)));
-        fits = omega arith;
-        ahead = λ k. ahead-next l rest r e h s k (w.ahead k);
+        total = omega (arith, p.total, ap length (left-yes e), length-append r.bytes.now (todo (sheet_of l) (left_of v)));
+        fits = omega (arith, p.fits, g.2);
+        ahead = later;
       }
 
--- ---- the writing pass: o is the memory, o₀ at entry, n bytes of it written
-pub record Writing (l o₀ o rest : List ℕ) (n : ℕ) : Type 0 where
-  pub inside : length rest ≤ length l
-  pub wrote : Wrote o₀ (compact_of l) o n (left l rest)
-  pub ahead : (k : ℕ) → Ahead l rest k
-
-pub writing-first : (l o₀ : List ℕ) → Writing l o₀ o₀ l 0
-unfolding compact_of
-writing-first l o₀ = record { inside = omega arith; wrote = wrote-first o₀ (left l l); ahead = ahead-first l }
-
-module _ (l o₀ o rest r : List ℕ) (n : ℕ) (e : r ≡ first_of rest) (w : Writing l o₀ o rest n) where
-  pub writing-end : length r < 7 → o ≡ compact_of l ++ drop (length (compact_of l)) o₀
-  writing-end s = (wrote-end o₀ (compact_of l) o n (left l rest) w.wrote (left-stop l rest r e s)).0
-
-  module _ (h : length r ≤ length rest) (s : 7 ≤ length r) (starts x : List ℕ) (t : Table starts l) (small : setting_of r < 65536)
-      (q : x ≡ cond (eqb (get_or starts (setting_of r) 0) (length l - length rest + 7)) r []) (room : length (compact_of l) ≤ length o₀) where
-    todo : left l rest ≡ x ++ left l (after l rest r e h s)
-    todo = left-next l rest r e h s starts x t (w.ahead (setting_of r)) small q
-
-    pub writing-room : n + length x ≤ length o
-    writing-room = wrote-room o₀ (compact_of l) o n (left l rest) w.wrote x (left l (after l rest r e h s)) todo room
-
-    pub writing-next : (o' : List ℕ) → o' ≡ put_at o n x → Writing l o₀ o' (after l rest r e h s) (n + length x)
-    writing-next o' p =
-        let a = after-length l rest r e h s in
-        let i = w.inside in
-        record {
-          inside = omega arith;
-          wrote = wrote-next o₀ (compact_of l) o n (left l rest) w.wrote x (left l (after l rest r e h s)) todo room o' p;
-          ahead = λ k. ahead-next l rest r e h s k (w.ahead k);
-        }
+  pub pass-no : eqb (get_or starts (setting_of r.bytes.now) 0) r.start ≡ false → Pass l (left_of v) v.at n
+  pass-no e = record { total = p.total ∙ ap (λ (x : List ℕ). n + length x) (left-no e); fits = omega (arith, p.fits, g.2); ahead = later }
 
 -- ---- the whole tool: its answer and the memory, for each way out
 module _ (s d : List ℕ) where
-  abbrev pub Ret : Compacted → List ℕ → Type 0
+  abbrev pub Ret : Result ℕ Refusal → List ℕ → Type 0
   Ret r o = (r ≡ compacted_of s (length d)) × (o ≡ memory_of s d)
 
-  pub one : is_broken (sheet_of s) ≡ true → Ret (Failed 1) d
+  pub one : is_broken (sheet_of s) ≡ true → Ret (Err CutRecord) d
   unfolding compacted_of memory_of
   one b = (simp b, simp b)
 
   module _ (b : is_broken (sheet_of s) ≡ false) (n : ℕ) (e : n ≡ length (compact_of s)) where
-    pub six : length d < n → Ret (Failed 6) d
+    pub six : length d < n → Ret (Err NoRoom) d
     unfolding compacted_of memory_of
     six h = let t = lt-ltb (length d) (length (compact_of s)) (omega arith) in (simp (b, t), simp (b, t))
 
-    pub done : n ≤ length d → (o : List ℕ) → o ≡ compact_of s ++ drop (length (compact_of s)) d → Ret (Written n) o
+    pub done : n ≤ length d → (o : List ℕ) → o ≡ compact_of s ++ drop (length (compact_of s)) d → Ret (Ok n) o
     unfolding compacted_of memory_of
     done h o w = let t = le-ltb (length d) (length (compact_of s)) (omega arith) in (simp (b, t, e), simp (b, t) w)

@@ -1,158 +1,110 @@
-// The tool that writes a sheet's counting records, one for each setting, in their old order (W-213). It walks the sheet four times, whatever
-// the number of its records: for the refusal, for a table of where each setting's counting record stands, to measure and to write.
+//! The tool that writes a sheet's counting records, one for each setting, in their old order (W-213). It walks the sheet three times, whatever the number
+//! of its records: for a table of where each setting's counting record stands, to measure and to write.
 #![tactic(auto)]
 
-ghost use Rattle.std.specs.Prelude.{◌≡◌, cond, [], ◌++◌, ◌≤◌, ◌<◌, length, get_or, drop, replicate, eqb};
+ghost use Rattle.std.specs.Prelude.{ℕ, ◌≡◌, ◌++◌, ◌<◌, ◌≤◌, true, false, length, get_or, drop, replicate, eqb, OnOk, IfErr};
+ghost use Rattle.refusal.specs.declared.Refusal.TheVariants.{CutRecord};
 ghost use Rattle.sheet_spec.specs.Records.{sheet_of, is_broken};
-ghost use Rattle.sheet_spec.specs.Counting.{setting_of, version_of};
-ghost use Rattle.sheet_spec.specs.Compaction.{compact_of, compacted_of, memory_of, stop_of, written_of};
-ghost use Rattle.sheet_compact.specs.Table.{noted, Table};
+ghost use Rattle.sheet_spec.specs.Counting.{setting_of};
+ghost use Rattle.sheet_spec.specs.Compaction.{compact_of, compacted_of, memory_of};
+ghost use Rattle.sheet_compact.specs.Table.{noted, version_before, Table};
 
-use sheet_spec::Compacted;
+use refusal::Refusal;
+use sheet_record::{Record, Records};
 
-// The setting numbers: 0 to 65,535.
+/// The setting numbers: 0 to 65,535. The table of them is 512 KiB of stack, whatever the sheet: its memory is fixed, and a record finds its place at once.
 const SETTINGS: usize = 65536;
 
-// Whether a sheet is broken: refusal 1.
-#[tactic(auto, unfolding(sheet_spec::specs::Records::is_broken))]
-fn broken(sheet: &[u8]) -> bool
-    ensures { result ≡ is_broken (sheet_of sheet.now) }
+/// The version of the record whose bytes start at `start`, which stands before them; 0 where no record is noted.
+// A start of 0 is none: an Option for each of the settings would double the table.
+fn version_noted(sheet: &[u8], start: usize) -> u8
+    requires { start ≤ length sheet.now }
+    ensures { result ≡ version_before sheet.now start }
 {
-    let mut rest = sheet;
-    while 0 < rest.len() {
-        let row = sheet_record::first(rest);
-        if row.len() < 7 {
-            return true;
-        }
-        rest = &rest[row.len()..];
-    }
-    false
+    if start == 0 { 0 } else { sheet[start - 1] }
 }
 
-// Notes a record whose bytes start at `start`, where its version is no lower than what is noted of its setting.
+/// Notes where a record's bytes start, where its version is no lower than that of the record noted of its setting.
 #[tactic(auto, unfolding(crate::specs::Table::noted))]
-fn note(row: &[u8], start: usize, versions: &mut [u8], starts: &mut [usize])
-    requires in_bounds { 7 ≤ length row.now }
-    requires versions_len { (length versions.old ≡ 65536) × (length starts.old ≡ 65536) }
-    ensures versions_after { versions.new ≡ noted row.now versions.old (version_of row.now) versions.old }
-    ensures starts_after { starts.new ≡ noted row.now versions.old start starts.old }
-    ensures row_bound { setting_of row.now < 65536 }
+fn note(sheet: &[u8], record: &Record, starts: &mut [usize; SETTINGS])
+    requires { (k : ℕ) → k < 65536 → get_or starts.old k 0 ≤ length sheet.now }
+    ensures starts_after { starts.new ≡ noted record.now.bytes.now (λ k. version_before sheet.now (get_or starts.old k 0)) record.now.start starts.old }
+    ensures setting { setting_of record.now.bytes.now < 65536 }
 {
-    let k = octets::le16(row, 4) as usize;
-    let v = row[6];
-    if v < versions[k] {
-        return;
-    }
-    versions[k] = v;
-    starts[k] = start;
-}
-
-// Where the bytes of each setting's counting record start, 0 where there is none.
-fn tabulate(sheet: &[u8], versions: &mut [u8], starts: &mut [usize])
-    requires { (versions.old ≡ replicate 65536 0) × (starts.old ≡ replicate 65536 0) }
-    ensures { Table starts.new sheet.now }
-{
-    let mut rest = sheet;
-    loop {
-        let row = sheet_record::first(rest);
-        if row.len() < 7 {
-            return;
-        }
-        let start = sheet.len() - rest.len() + 7;
-        note(row, start, versions, starts);
-        rest = &rest[row.len()..];
+    let setting = record.setting() as usize;
+    if version_noted(sheet, starts[setting]) <= record.version() {
+        starts[setting] = record.start;
     }
 }
 
-// What a record whose bytes start at `start` leaves: itself where it counts, else nothing.
-fn keep<'a>(row: &'a [u8], start: usize, starts: &[usize]) -> &'a [u8]
-    requires { (7 ≤ length row.now) × (length starts.now ≡ 65536) }
-    ensures result_value { result.now ≡ cond (eqb (get_or starts.now (setting_of row.now) 0) start) row.now [] }
-    ensures result_in_bounds { (length result.now ≤ length row.now) × (setting_of row.now < 65536) }
+/// Where the bytes of each setting's counting record start, 0 where there is none; refusal 1 where the sheet is broken.
+fn tabulate(sheet: &[u8], starts: &mut [usize; SETTINGS]) -> Result<(), Refusal>
+    requires { starts.old ≡ replicate 65536 0 }
+    ensures ok { OnOk result ((is_broken (sheet_of sheet.now) ≡ false) × Table starts.new sheet.now) }
+    ensures err { IfErr result (λ e. (is_broken (sheet_of sheet.now) ≡ true) × (e ≡ CutRecord)) }
 {
-    let k = octets::le16(row, 4) as usize;
-    if starts[k] == start {
-        return row;
+    for record in Records::new(sheet) {
+        note(sheet, &record?, starts);
     }
-    &row[..0]
+    Ok(())
 }
 
-// How many bytes the counting records have.
-fn measure(sheet: &[u8], starts: &[usize]) -> usize
+/// Whether a record of the sheet is its setting's counting record.
+fn counts(record: &Record, starts: &[usize; SETTINGS]) -> bool
+    ensures counts { result ≡ eqb (get_or starts.now (setting_of record.now.bytes.now) 0) record.now.start }
+    ensures setting { setting_of record.now.bytes.now < 65536 }
+{
+    starts[record.setting() as usize] == record.start
+}
+
+/// How many bytes the counting records have.
+fn measure(sheet: &[u8], starts: &[usize; SETTINGS]) -> usize
     requires { Table starts.now sheet.now }
     ensures { result ≡ length (compact_of sheet.now) }
 {
-    let mut rest = sheet;
-    let mut n: usize = 0;
-    loop {
-        let row = sheet_record::first(rest);
-        if row.len() < 7 {
-            return n;
+    let mut size = 0;
+    for record in Records::new(sheet) {
+        let Ok(record) = record else {
+            return size;
+        };
+        if counts(&record, starts) {
+            size += record.bytes.len();
         }
-        let start = sheet.len() - rest.len() + 7;
-        n += keep(row, start, starts).len();
-        rest = &rest[row.len()..];
     }
+    size
 }
 
-// Writes the counting records.
-fn write(sheet: &[u8], starts: &[usize], out: &mut [u8])
+/// Writes the counting records.
+// Measured first and written then, by two walks: with too little room nothing is written. One walk with a step as its parameter would be no plainer.
+fn write(sheet: &[u8], starts: &[usize; SETTINGS], out: &mut [u8])
     requires table { Table starts.now sheet.now }
-    requires sheet_in_bounds { length (compact_of sheet.now) ≤ length out.old }
+    requires room { length (compact_of sheet.now) ≤ length out.old }
     ensures { out.new ≡ compact_of sheet.now ++ drop (length (compact_of sheet.now)) out.old }
 {
-    let mut rest = sheet;
-    let mut n: usize = 0;
-    loop {
-        let row = sheet_record::first(rest);
-        if row.len() < 7 {
+    let mut at = 0;
+    for record in Records::new(sheet) {
+        let Ok(record) = record else {
             return;
+        };
+        if counts(&record, starts) {
+            octets::copy(out, at, record.bytes);
+            at += record.bytes.len();
         }
-        let start = sheet.len() - rest.len() + 7;
-        let x = keep(row, start, starts);
-        octets::copy(out, n, x);
-        n += x.len();
-        rest = &rest[row.len()..];
     }
 }
 
-// Writes a sheet's counting records, one for each setting, in their old order.
-pub fn compact(sheet: &[u8], out: &mut [u8]) -> Compacted
+/// Writes a sheet's counting records, one for each setting, in their old order: the number of bytes written; refusal 1 where the sheet is broken, then
+/// 6 where the room is too little, and then nothing is written.
+pub fn compact(sheet: &[u8], out: &mut [u8]) -> Result<usize, Refusal>
     ensures value { result ≡ compacted_of sheet.now (length out.old) }
     ensures out_after { out.new ≡ memory_of sheet.now out.old }
 {
-    if broken(sheet) {
-        return Compacted::Failed(1);
-    }
-    let mut versions = [0u8; SETTINGS];
-    let mut starts = [0usize; SETTINGS];
-    tabulate(sheet, &mut versions, &mut starts);
-    let n = measure(sheet, &starts);
-    if out.len() < n {
-        return Compacted::Failed(6);
+    let mut starts = [0; SETTINGS];
+    tabulate(sheet, &mut starts)?;
+    let size = measure(sheet, &starts);
+    if out.len() < size {
+        return Err(Refusal::NoRoom);
     }
     write(sheet, &starts, out);
-    Compacted::Written(n)
-}
-
-// The number of a refusal, 0 where the records are written.
-#[tactic(auto, unfolding(sheet_spec::specs::Compaction::stop_of))]
-pub fn stop(x: Compacted) -> u8
-    ensures { result ≡ stop_of x }
-{
-    match x {
-        Compacted::Written(_) => 0,
-        Compacted::Failed(n) => n,
-    }
-}
-
-// The number of bytes written.
-#[tactic(auto, unfolding(sheet_spec::specs::Compaction::written_of))]
-pub fn written(x: Compacted) -> usize
-    ensures { result ≡ written_of x }
-{
-    match x {
-        Compacted::Written(n) => n,
-        Compacted::Failed(_) => 0,
-    }
+    Ok(size)
 }

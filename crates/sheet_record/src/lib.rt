@@ -1,68 +1,107 @@
-// The records of a sheet of settings (W-213): the one at the front of some bytes, its version, and whether it counts before another.
+//! The records of a sheet of settings (W-213): one record, and a walk over them.
 #![tactic(auto)]
 
-ghost use Rattle.std.specs.Prelude.{◌≡◌, [], ◌∷◌, ◌≤◌, length, drop};
-ghost use Rattle.item_spec.specs.Kinds.{is_kind};
+ghost use Rattle.std.specs.Prelude.{◌≡◌, ◌≤◌, ◌-◌, length, option_map, IfSome};
 ghost use Rattle.sheet_spec.specs.Records.{first_of};
-ghost use Rattle.sheet_spec.specs.Counting.{version_of, beats_of};
+ghost use Rattle.sheet_spec.specs.Counting.{version_of};
 
-use item_spec::Framed;
+use refusal::Refusal;
 
-// The kind of a sheet's records.
-const SV: [u8; 2] = *b"SV";
-
-// Whether a record is of the kind SV.
-#[tactic(auto, unfolding(item_spec::specs::Kinds::is_kind))]
-fn is_sv(s: &[u8]) -> bool
-    requires { 4 ≤ length s.now }
-    ensures { result ≡ is_kind (drop 2 s.now) (83 ∷ 86 ∷ []) }
-{
-    s[2] == SV[0] && s[3] == SV[1]
+/// A record of a sheet: setting number (2 bytes), version (1), then up to 64 bytes.
+#[derive(Clone, Copy)]
+pub struct Record<'a> {
+    /// Where its setting's bytes start in the sheet.
+    pub start: usize,
+    /// The whole record, from the two bytes of its length on.
+    pub bytes: &'a [u8],
+    pub ghost long: { 7 ≤ length bytes.now },
 }
 
-// The record at the front; none is the empty part.
-#[tactic(auto, unfolding(sheet_spec::specs::Records::first_of))]
-pub fn first<'a>(s: &'a [u8]) -> &'a [u8]
-    ensures result_value { result.now ≡ first_of s.now }
-    ensures result_in_bounds { length result.now ≤ length s.now }
-{
-    let f = item_record::frame(s);
-    let Framed::Whole(n) = f else {
-        return &s[..0];
-    };
-    if n - 2 < 5 {
-        return &s[..0];
+impl Record<'_> {
+    ghost use Rattle.sheet_spec.specs.Counting.{setting_of, version_of, beats_of};
+
+    /// The number of its setting.
+    pub fn setting(&self) -> u16
+        ensures { result ≡ setting_of self.now.bytes.now }
+    {
+        octets::le16(self.bytes, 4)
     }
-    if 69 < n - 2 {
-        return &s[..0];
+
+    /// Its version.
+    pub fn version(&self) -> u8
+        ensures { result ≡ version_of self.now.bytes.now }
+    {
+        version(self.bytes)
     }
-    if is_sv(s) {
-        return &s[..n];
+
+    /// Whether it counts in place of an earlier record of this setting with this version.
+    #[tactic(auto, unfolding(sheet_spec::specs::Counting::beats_of))]
+    pub fn beats(&self, setting: u16, version: u8) -> bool
+        ensures { result ≡ beats_of setting version self.now.bytes.now }
+    {
+        self.setting() == setting && version <= self.version()
     }
-    &s[..0]
 }
 
-// A record's version; none has 0.
-pub fn version(r: &[u8]) -> u8
-    ensures { result ≡ version_of r.now }
+/// A record's version, where its bytes stand; 0 of fewer than a record has.
+pub fn version(bytes: &[u8]) -> u8
+    ensures { result ≡ version_of bytes.now }
 {
-    if 6 < r.len() {
-        return r[6];
-    }
-    0
+    bytes.get(6).copied().unwrap_or(0)
 }
 
-// Whether a record of setting k counts in place of an earlier one of version v.
-#[tactic(auto, unfolding(sheet_spec::specs::Counting::beats_of))]
-pub fn beats(k: u16, v: u8, r: &[u8]) -> bool
-    requires { 7 ≤ length r.now }
-    ensures { result ≡ beats_of k v r.now }
+/// The record at the front of some bytes: of kind SV, its length 5 to 69.
+#[tactic(auto, unfolding(sheet_spec::specs::Records::first_of, item_spec::specs::Kinds::is_kind))]
+pub fn first(bytes: &[u8]) -> Option<&[u8]>
+    ensures value { option_map (λ r. r.now) result ≡ first_of bytes.now }
+    ensures in_bounds { IfSome result (λ r. length r.now ≤ length bytes.now) }
 {
-    if octets::le16(r, 4) == k {
-        if r[6] < v {
-            return false;
+    let size = item_record::frame(bytes)?;
+    if (5..=69).contains(&(size - 2)) && matches!(bytes, [_, _, b'S', b'V', ..]) {
+        Some(&bytes[..size])
+    } else {
+        None
+    }
+}
+
+/// A walk over a sheet: each of its records in turn, and refusal 1 where bytes are left that are none.
+#[derive(Clone, Copy)]
+pub struct Records<'a> {
+    pub sheet: &'a [u8],
+    /// How many bytes the records taken so far have.
+    pub at: usize,
+    pub ghost inside: { at ≤ length sheet.now },
+}
+
+impl<'a> Records<'a> {
+    pub fn new(sheet: &'a [u8]) -> Self
+        ensures sheet { result.sheet.now ≡ sheet.now }
+        ensures front { result.at ≡ 0 }
+    {
+        Records { sheet, at: 0 }
+    }
+}
+
+impl<'a> Iterator for Records<'a> {
+    ghost use Rattle.std.specs.Iterator.{at_most};
+    ghost use Rattle.sheet_record.specs.Walk.{GivesRecord};
+
+    type Item = Result<Record<'a>, Refusal>;
+
+    ghost next_gives = { GivesRecord };
+
+    ghost remaining = { λ w. at_most (length w.sheet.now - w.at) };
+
+    fn next(&mut self) -> Option<Result<Record<'a>, Refusal>> {
+        if self.at == self.sheet.len() {
+            return None;
         }
-        return true;
+        let Some(bytes) = first(&self.sheet[self.at..]) else {
+            self.at = self.sheet.len();
+            return Some(Err(Refusal::CutRecord));
+        };
+        let start = self.at + 7;
+        self.at += bytes.len();
+        Some(Ok(Record { start, bytes }))
     }
-    false
 }

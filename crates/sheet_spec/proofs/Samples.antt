@@ -3,7 +3,9 @@ use Prim.Native.Nat.{ℕ}
 use mathlib.Core.Path.{◌≡◌, refl}
 use mathlib.Core.Bool.{true, false}
 use mathlib.Core.List.{List, [], ◌∷◌, ◌++◌}
+use Rattle.std.specs.Prelude.{Some, None, Ok, Err}
 use lib.ListN.{replicate}
+use Rattle.refusal.specs.declared.Refusal.TheVariants.{CutRecord, NoRoom}
 use Rattle.octets.specs.Octets.{le16_of}
 use Rattle.item_spec.specs.Record.{frame_of}
 use Rattle.item_spec.specs.Kinds.{is_kind}
@@ -11,8 +13,7 @@ use Rattle.sheet_spec.specs.Records.{first_of, sheet_from, sheet_of, is_broken}
 use Rattle.sheet_spec.specs.Counting.{beats_of, better_of, counting_from, counting_of, start_from, start_of}
 use Rattle.sheet_spec.specs.Lookup.{source_of, part_of, place_of, place_at, refusal_of, sheet_number}
 use Rattle.sheet_spec.specs.Compaction.{none_beats, counts_of, counting_rows, bytes_of, compact_of, compacted_of, memory_of, stop_of, written_of}
-use Rattle.sheet_spec.specs.declared.Source.TheVariants.{Bench, House, NotSet, Refused}
-use Rattle.sheet_spec.specs.declared.Compacted.TheVariants.{Written, Failed}
+use Rattle.sheet_spec.specs.declared.Source.TheVariants.{Bench, House}
 
 -- setting 513 at version 2 (10), at version 2 again (11, 12), at version 1 (13)
 abbrev x : List ℕ
@@ -46,30 +47,30 @@ longer n m = n ∷ 0 ∷ 83 ∷ 86 ∷ 0 ∷ 0 ∷ 0 ∷ replicate m 7
 
 pub record Samples : Type 0 where
   -- the later record where versions are equal, the bench sheet at any version
-  pub later : (part_of bench house 513 ≡ 11 ∷ 12 ∷ []) × (place_of bench house 513 ≡ place_at Bench 22 2)
-  pub from_house : (part_of bench house 2 ≡ 14 ∷ []) × (place_of bench house 2 ≡ place_at House 7 1)
+  pub later : (part_of bench house 513 ≡ 11 ∷ 12 ∷ []) × (place_of bench house 513 ≡ Ok (Some (place_at Bench 22 2)))
+  pub from_house : (part_of bench house 2 ≡ 14 ∷ []) × (place_of bench house 2 ≡ Ok (Some (place_at House 7 1)))
   -- set, with no bytes
-  pub bare : (part_of bench house 3 ≡ []) × (place_of bench house 3 ≡ place_at Bench 15 0)
-  pub neither : (part_of bench house 258 ≡ []) × (place_of bench house 258 ≡ place_at NotSet 0 0)
+  pub bare : (part_of bench house 3 ≡ []) × (place_of bench house 3 ≡ Ok (Some (place_at Bench 15 0)))
+  pub neither : (part_of bench house 258 ≡ []) × (place_of bench house 258 ≡ Ok None)
   -- a highest version that stands first
-  pub highest : (part_of [] (v ++ y) 513 ≡ 15 ∷ []) × (source_of [] (v ++ y) 513 ≡ House)
+  pub highest : (part_of [] (v ++ y) 513 ≡ 15 ∷ []) × (source_of [] (v ++ y) 513 ≡ Ok (Some House))
   -- a broken house sheet, where the bench sheet has the setting; a broken bench sheet
-  pub cut_house : (part_of bench (house ++ (5 ∷ [])) 513 ≡ []) × (place_of bench (house ++ (5 ∷ [])) 513 ≡ place_at Refused 0 0)
-  pub cut_bench : source_of (5 ∷ 0 ∷ 83 ∷ 86 ∷ 3 ∷ 0 ∷ []) house 2 ≡ Refused
+  pub cut_house : (part_of bench (house ++ (5 ∷ [])) 513 ≡ []) × (place_of bench (house ++ (5 ∷ [])) 513 ≡ Err CutRecord)
+  pub cut_bench : source_of (5 ∷ 0 ∷ 83 ∷ 86 ∷ 3 ∷ 0 ∷ []) house 2 ≡ Err CutRecord
   -- kind SW, VS; lengths 4, 5, 69, 70
   pub kinds : (is_broken (sheet_of (5 ∷ 0 ∷ 83 ∷ 87 ∷ 3 ∷ 0 ∷ 0 ∷ [])) ≡ true) × (is_broken (sheet_of (5 ∷ 0 ∷ 86 ∷ 83 ∷ 3 ∷ 0 ∷ 0 ∷ [])) ≡ true)
   pub shortest : (is_broken (sheet_of (4 ∷ 0 ∷ 83 ∷ 86 ∷ 3 ∷ 0 ∷ [])) ≡ true) × (is_broken (sheet_of e) ≡ false)
   pub longest : (is_broken (sheet_of (longer 69 64)) ≡ false) × (is_broken (sheet_of (longer 70 65)) ≡ true)
   -- the numbers
-  pub numbers : (refusal_of Refused ≡ 1) × (refusal_of NotSet ≡ 0) × (sheet_number Bench ≡ 1) × (sheet_number House ≡ 2) × (sheet_number NotSet ≡ 0)
+  pub numbers : (refusal_of (Err CutRecord) ≡ 1) × (refusal_of (Ok None) ≡ 0) × (sheet_number (Ok (Some Bench)) ≡ 1) × (sheet_number (Ok (Some House)) ≡ 2) × (sheet_number (Ok None) ≡ 0)
   -- the tool: each counting record where it itself stands
   pub old_order : (compact_of (bench ++ w) ≡ e ++ y ++ w) × (compact_of [] ≡ [])
-  pub written : (compacted_of bench 17 ≡ Written 16) × (compacted_of bench 16 ≡ Written 16)
+  pub written : (compacted_of bench 17 ≡ Ok 16) × (compacted_of bench 16 ≡ Ok 16)
   pub memory : memory_of x (1 ∷ 1 ∷ 1 ∷ 1 ∷ 1 ∷ 1 ∷ 1 ∷ 1 ∷ 99 ∷ []) ≡ x ++ (99 ∷ [])
   -- 6; 1 before 6; neither writes
-  pub room : (compacted_of bench 15 ≡ Failed 6) × (memory_of x (1 ∷ 2 ∷ []) ≡ 1 ∷ 2 ∷ [])
-  pub first : (compacted_of (bench ++ (0 ∷ [])) 0 ≡ Failed 1) × (memory_of (0 ∷ []) (1 ∷ 2 ∷ []) ≡ 1 ∷ 2 ∷ [])
-  pub stops : (stop_of (Failed 6) ≡ 6) × (stop_of (Written 9) ≡ 0) × (written_of (Failed 6) ≡ 0) × (written_of (Written 9) ≡ 9)
+  pub room : (compacted_of bench 15 ≡ Err NoRoom) × (memory_of x (1 ∷ 2 ∷ []) ≡ 1 ∷ 2 ∷ [])
+  pub first : (compacted_of (bench ++ (0 ∷ [])) 0 ≡ Err CutRecord) × (memory_of (0 ∷ []) (1 ∷ 2 ∷ []) ≡ 1 ∷ 2 ∷ [])
+  pub stops : (stop_of (Err NoRoom) ≡ 6) × (stop_of (Ok 9) ≡ 0) × (written_of (Err NoRoom) ≡ 0) × (written_of (Ok 9) ≡ 9)
 
 pub samples : Samples
 unfolding le16_of frame_of is_kind first_of sheet_from is_broken beats_of better_of counting_from counting_of start_from start_of source_of part_of place_of refusal_of sheet_number none_beats counts_of counting_rows bytes_of compact_of compacted_of memory_of stop_of written_of

@@ -1,20 +1,18 @@
 -- Walking a sheet: laws on plain lists.
 use Prim.Native.Nat.{ℕ, zero, suc, ◌-◌, ◌≤◌, ◌<◌}
-use mathlib.Core.Path.{◌≡◌, refl, sym, ap, ◌∙◌}
-use mathlib.Core.Bool.{true}
+use mathlib.Core.Path.{◌≡◌, refl, ap, ◌∙◌}
+use mathlib.Core.Bool.{Bool, true, false, cond}
 use mathlib.Core.List.{List, [], ◌∷◌}
+use Rattle.std.specs.Prelude.{Option, Some, None}
 use native.Mathlib.Omega.{arith}
-use native.Mathlib.Nat.{le_of_eq}
-use lib.ListN.{length, take, drop, length-drop}
-use lib.Seq.{take_all}
+use lib.ListN.{length, take, drop}
+use lib.Seq.{length-take-le}
 use lib.Dec.{ltb}
-use borrow.Author.Tests.{lt-ltb, le-ltb}
-use Rattle.sheet_spec.specs.Records.{first_of, Sheet, row, end, broken, sheet_from, sheet_of}
-use Rattle.sheet_spec.specs.Counting.{better_of, counting_from}
-
--- what a slice from `at` on is
-pub at_rest : (l : List ℕ) (at : ℕ) → take (length l - at) (drop at l) ≡ drop at l
-at_rest l at = take_all (length l - at) (drop at l) (le_of_eq (length-drop at l))
+use borrow.Author.Tests.{ltb-false}
+use Rattle.item_spec.specs.Record.{frame_of}
+use Rattle.item_spec.specs.Kinds.{is_kind}
+use Rattle.item_spec.proofs.RecordLaws.{whole-fits}
+use Rattle.sheet_spec.specs.Records.{record_by, first_of, row_by, Sheet, row, end, broken, sheet_from, sheet_of}
 
 pub sheet-drop : (k : ℕ) (l : List ℕ) → sheet_from k l ≡ sheet_of (drop k l)
 unfolding sheet_from
@@ -22,53 +20,49 @@ sheet-drop zero l = refl
 sheet-drop (suc k) [] = refl
 sheet-drop (suc k) (x ∷ xs) = sheet-drop k xs
 
+-- the record at the front is the front, and has 7 bytes or more
+pub record IsFront (l r : List ℕ) : Type 0 where
+  pub least : 7 ≤ length r
+  pub most : length r ≤ length l
+  pub front : r ≡ take (length r) l
+
+pub first-front : (l r : List ℕ) → first_of l ≡ Some r → IsFront l r
+unfolding first_of
+first-front l r = by-frame (frame_of l) refl
+  where
+    by-frame : (f : Option ℕ) → frame_of l ≡ f → record_by f l ≡ Some r → IsFront l r
+    by-frame None e q = absurd (cc)
+    by-frame (Some n) e q = go (ltb (n - 2) 5) (ltb 69 (n - 2)) (is_kind (drop 2 l) (83 ∷ 86 ∷ [])) refl q
+      where
+        go : (a b c : Bool) → ltb (n - 2) 5 ≡ a → cond a None (cond b None (cond c (Some (take n l)) None)) ≡ Some r → IsFront l r
+        go true b c p q = absurd (cc)
+        go false true c p q = absurd (cc)
+        go false false false p q = absurd (cc)
+        go false false true p q =
+            let s : take n l ≡ r = cc in
+            let f : n ≤ length l = (whole-fits l n e).1 in
+            let m : length (take n l) ≡ n = length-take-le n l f in
+            let d : 5 ≤ n - 2 = ltb-false _ _ p in
+            rw (← s) (record { least = omega arith; most = omega arith; front = rw m refl })
+
 -- no bytes
 pub sheet-end : (l : List ℕ) → length l ≤ 0 → sheet_of l ≡ end
 unfolding sheet_from
 sheet-end [] h = refl
 sheet-end (x ∷ xs) h = absurd (omega arith)
 
-module _ (l r : List ℕ) (e : r ≡ first_of l) where
-  -- some bytes, and no record at their front
-  pub sheet-broken : 0 < length l → length r < 7 → sheet_of l ≡ broken
-  unfolding sheet_from
-  sheet-broken h s = go l h (ap (λ (x : List ℕ). ltb (length x) 7) (sym e) ∙ lt-ltb (length r) 7 s)
-    where
-      go : (l : List ℕ) → 0 < length l → ltb (length (first_of l)) 7 ≡ true → sheet_of l ≡ broken
-      go [] h s = absurd (omega arith)
-      go (x ∷ xs) h s = simp s
+-- some bytes, and no record at their front
+pub sheet-broken : (l : List ℕ) → 0 < length l → first_of l ≡ None → sheet_of l ≡ broken
+unfolding sheet_from
+sheet-broken [] h e = absurd (omega arith)
+sheet-broken (x ∷ xs) h e = ap (λ (o : Option (List ℕ)). row_by o (λ k. sheet_from k xs)) e
 
-  -- a record
-  pub sheet-row : length r ≤ length l → 7 ≤ length r → sheet_of l ≡ row r (sheet_of (drop (length r) l))
-  unfolding sheet_from
-  sheet-row h s = go l e h
-    where
-      go : (l : List ℕ) → r ≡ first_of l → length r ≤ length l → sheet_of l ≡ row r (sheet_of (drop (length r) l))
-      go [] e h = absurd (omega arith)
-      go (x ∷ xs) e h =
-          rw (← e) (rw (le-ltb (length r) 7 s) (ap (row r) (sheet-drop (length r - 1) xs ∙ ap (λ (n : ℕ). sheet_of (drop n (x ∷ xs))) one)))
-        where
-          one : suc (length r - 1) ≡ length r
-          one = omega arith
-
-  -- the rest of a slice, as the code has it
-  pub sheet-next : length r ≤ length l → 7 ≤ length r → sheet_of l ≡ row r (sheet_of (take (length l - length r) (drop (length r) l)))
-  sheet-next h s = rw at_rest (sheet-row h s)
-
-  -- a walk stops where no record stands, at the end and at broken bytes alike
-  pub sheet-stop : length r < 7 → (P : Sheet → Type 0) → P end → P broken → P (sheet_of l)
-  unfolding sheet_from
-  sheet-stop s P p q = go l (ap (λ (x : List ℕ). ltb (length x) 7) (sym e) ∙ lt-ltb (length r) 7 s)
-    where
-      go : (l : List ℕ) → ltb (length (first_of l)) 7 ≡ true → P (sheet_of l)
-      go [] s = p
-      go (x ∷ xs) s = rw s q
-
-  pub counting-stop : (k : ℕ) (b : List ℕ) → length r < 7 → counting_from k b (sheet_of l) ≡ b
-  unfolding counting_from
-  counting-stop k b s = sheet-stop s (λ (t : Sheet). counting_from k b t ≡ b) refl refl
-
-  pub counting-next : (k : ℕ) (b b' : List ℕ) → length r ≤ length l → 7 ≤ length r → b' ≡ better_of k b r
-      → counting_from k b (sheet_of l) ≡ counting_from k b' (sheet_of (take (length l - length r) (drop (length r) l)))
-  unfolding counting_from
-  counting-next k b b' h s t = ap (counting_from k b) (sheet-next h s) ∙ ap (λ (x : List ℕ). counting_from k x (sheet_of (take (length l - length r) (drop (length r) l)))) (sym t)
+-- a record
+pub sheet-row : (l r : List ℕ) → first_of l ≡ Some r → sheet_of l ≡ row r (sheet_of (drop (length r) l))
+unfolding sheet_from
+sheet-row [] r e = let f = first-front [] r e in absurd (omega arith)
+sheet-row (x ∷ xs) r e =
+    let f = first-front (x ∷ xs) r e in
+    let one : suc (length r - 1) ≡ length r = omega arith in
+    ap (λ (o : Option (List ℕ)). row_by o (λ k. sheet_from k xs)) e
+    ∙ ap (row r) (sheet-drop (length r - 1) xs ∙ ap (λ (n : ℕ). sheet_of (drop n (x ∷ xs))) one)

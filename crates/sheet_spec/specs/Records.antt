@@ -1,21 +1,19 @@
 -- The records of a sheet: document 02, W-213.
-use Rattle.std.specs.Prelude.{ℕ, zero, suc, ◌-◌, Bool, true, false, cond, List, [], ◌∷◌, length, take, drop, ltb}
+use Rattle.std.specs.Prelude.{ℕ, zero, suc, ◌-◌, Bool, true, false, cond, List, [], ◌∷◌, Option, Some, None, length, take, drop, ltb}
 use Rattle.item_spec.specs.Record.{frame_of}
 use Rattle.item_spec.specs.Kinds.{is_kind}
-use Rattle.item_spec.specs.declared.Framed.{Framed}
-use Rattle.item_spec.specs.declared.Framed.TheVariants.{Whole, Cut}
 
--- "records of kind SV: setting number (2), version (1), then up to 64 bytes": the record of n bytes, its length's two among them. None is []:
+-- "records of kind SV: setting number (2), version (1), then up to 64 bytes": the record of n bytes, its length's two among them. There is none at
 -- "a cut record, another kind, or a length outside 5 to 69". S is 83, V 86.
-abbrev pub record_by : Framed → List ℕ → List ℕ
-record_by Cut s = []
-record_by (Whole n) s =
-    cond (ltb (n - 2) 5) []
-    (cond (ltb 69 (n - 2)) []
-    (cond (is_kind (drop 2 s) (83 ∷ 86 ∷ [])) (take n s) []))
+abbrev pub record_by : Option ℕ → List ℕ → Option (List ℕ)
+record_by None s = None
+record_by (Some n) s =
+    cond (ltb (n - 2) 5) None
+    (cond (ltb 69 (n - 2)) None
+    (cond (is_kind (drop 2 s) (83 ∷ 86 ∷ [])) (Some (take n s)) None))
 
 -- The record at the front of some bytes.
-unfoldable pub first_of : List ℕ → List ℕ
+unfoldable pub first_of : List ℕ → Option (List ℕ)
 first_of s = record_by (frame_of s) s
 
 -- "A sheet is a run of records": to its end, or to bytes that are no record.
@@ -24,9 +22,9 @@ pub data Sheet : Type 0 where
   end : Sheet
   broken : Sheet
 
--- A record has 7 bytes or more.
-abbrev pub row_by : List ℕ → (ℕ → Sheet) → Sheet
-row_by r after = cond (ltb (length r) 7) broken (row r (after (length r - 1)))
+abbrev pub row_by : Option (List ℕ) → (ℕ → Sheet) → Sheet
+row_by None after = broken
+row_by (Some r) after = row r (after (length r - 1))
 
 -- The sheet after the first k bytes.
 unfoldable pub sheet_from : ℕ → List ℕ → Sheet

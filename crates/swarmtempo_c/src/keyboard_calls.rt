@@ -1,11 +1,11 @@
-// The keyboard's functions with C linkage.
+//! The keyboard's functions with C linkage.
 ghost use Rattle.std.specs.Prelude.{◌≡◌};
 ghost use Rattle.keyboard.specs.Numbers.{refusal_of, byte_of};
 ghost use Rattle.keyboard.specs.Steps.{command_of, key_of, wait_of};
 ghost use Rattle.keyboard_image.specs.Image.{image_length};
 ghost use Rattle.keyboard_entry.specs.Calls.{fresh_stop, fresh_image, answered_of, call_of, call_image};
 
-// The length of a keyboard's image in bytes.
+/// The length of a keyboard's image in bytes.
 #[unsafe(no_mangle)]
 pub extern "C" fn swarmtempo_keyboard_len() -> u64
     ensures { result ≡ image_length }
@@ -13,7 +13,7 @@ pub extern "C" fn swarmtempo_keyboard_len() -> u64
     swarmtempo::keyboard_calls::swarmtempo_keyboard_len()
 }
 
-// Writes the image of a keyboard that was just made, with this model byte. 0, or 6 where the room is shorter than an image.
+/// Writes the image of a keyboard that was just made, with this model byte. 0, or 6 where the room is shorter than an image.
 #[unsafe(no_mangle)]
 pub extern "C" fn swarmtempo_keyboard_fresh(image: &mut [u8], model: u8) -> u8
     ensures value { result ≡ fresh_stop image.old }
@@ -22,7 +22,7 @@ pub extern "C" fn swarmtempo_keyboard_fresh(image: &mut [u8], model: u8) -> u8
     swarmtempo::keyboard_calls::swarmtempo_keyboard_fresh(image, model)
 }
 
-// A command byte. 0, or 7 where no accepted keyboard has this image.
+/// A command byte. 0, or 7 where no accepted keyboard has this image.
 #[unsafe(no_mangle)]
 pub extern "C" fn swarmtempo_keyboard_command(
     image: &mut [u8],
@@ -38,7 +38,7 @@ pub extern "C" fn swarmtempo_keyboard_command(
     swarmtempo::keyboard_calls::swarmtempo_keyboard_command(image, byte, answered, answer)
 }
 
-// A key code. 0, 7, or 11 where eight codes are held already.
+/// A key code. 0, 7, or 11 where eight codes are held already.
 #[unsafe(no_mangle)]
 pub extern "C" fn swarmtempo_keyboard_key(
     image: &mut [u8],
@@ -54,7 +54,7 @@ pub extern "C" fn swarmtempo_keyboard_key(
     swarmtempo::keyboard_calls::swarmtempo_keyboard_key(image, code, answered, answer)
 }
 
-// A wait in VIA ticks. 0 or 7.
+/// A wait in VIA ticks. 0 or 7.
 #[unsafe(no_mangle)]
 pub extern "C" fn swarmtempo_keyboard_wait(
     image: &mut [u8],

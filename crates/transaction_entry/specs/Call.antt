@@ -8,60 +8,60 @@ use Rattle.transaction_spec.specs.declared.Ask.TheVariants.{WriteCell, WriteSeco
 use Rattle.transaction_spec.specs.Acts.{items}
 use Rattle.transaction_spec.specs.Asked.{acts_of, transaction_of, size_of, count_of}
 use Rattle.transaction_spec.specs.Promise.{answers_of, Does}
-use Rattle.transaction_writer.specs.declared.TransactionResult.{TransactionResult}
-use Rattle.transaction_writer.specs.declared.TransactionResult.TheVariants.{Wrote, Refused}
 use Rattle.transaction_writer.specs.Writer.{writer_answer, buffer_after}
-use Rattle.transaction_entry.specs.declared.Request.{Request}
-use Rattle.transaction_entry.specs.declared.Request.TheVariants.{Known, Unknown}
+use Rattle.std.specs.Prelude.{Option, Some, None, Result, Ok, Err}
+use Rattle.refusal.specs.declared.Refusal.{Refusal}
+use Rattle.refusal.specs.declared.Refusal.TheVariants.{OutOfRange, NotAccepted}
+use Rattle.refusal.specs.Numbers.{number_of}
 
 -- ---- what is asked for
 
 -- 1 to 4: write a cell, read a cell, write a seconds byte, read a seconds byte. A read takes no value.
-unfoldable pub placed_of : ℕ → ℕ → ℕ → Request
+unfoldable pub placed_of : ℕ → ℕ → ℕ → Option Ask
 placed_of ask place value =
-    cond (eqb ask 1) (Known (WriteCell place value))
-    (cond (eqb ask 2) (Known (ReadCell place))
-    (cond (eqb ask 3) (Known (WriteSeconds place value))
-    (cond (eqb ask 4) (Known (ReadSeconds place)) Unknown)))
+    cond (eqb ask 1) (Some (WriteCell place value))
+    (cond (eqb ask 2) (Some (ReadCell place))
+    (cond (eqb ask 3) (Some (WriteSeconds place value))
+    (cond (eqb ask 4) (Some (ReadSeconds place)) None)))
 
 -- 5: write protect, which has no number. No chip has a cell or a seconds byte above 255.
-unfoldable pub request_of : ℕ → ℕ → ℕ → Request
-request_of ask number value = cond (eqb ask 5) (Known (WriteProtect value)) (cond (ltb number 256) (placed_of ask number value) Unknown)
+unfoldable pub request_of : ℕ → ℕ → ℕ → Option Ask
+request_of ask number value = cond (eqb ask 5) (Some (WriteProtect value)) (cond (ltb number 256) (placed_of ask number value) None)
 
 -- ---- what is answered, from a state and from an image
 
 -- Numbers that ask for nothing are refused like a cell that the chip does not have.
-unfoldable pub answer_of : Machine → Request → ℕ → TransactionResult
-answer_of m (Known a) room = writer_answer m a room
-answer_of m Unknown room = Refused 5
+unfoldable pub answer_of : Machine → Option Ask → ℕ → Result ℕ Refusal
+answer_of m (Some a) room = writer_answer m a room
+answer_of m None room = Err OutOfRange
 
-unfoldable pub buffer_of : Machine → Request → List ℕ → List ℕ
-buffer_of m (Known a) d = buffer_after m a d
-buffer_of m Unknown d = d
+unfoldable pub buffer_of : Machine → Option Ask → List ℕ → List ℕ
+buffer_of m (Some a) d = buffer_after m a d
+buffer_of m None d = d
 
 -- "A state not accepted is refusal 7", and so are bytes that no accepted state's image is; it comes first.
-unfoldable pub result_of : List ℕ → Request → ℕ → TransactionResult
-result_of image q room = cond (valid_image image) (answer_of (machine_of image) q room) (Refused 7)
+unfoldable pub result_of : List ℕ → Option Ask → ℕ → Result ℕ Refusal
+result_of image q room = cond (valid_image image) (answer_of (machine_of image) q room) (Err NotAccepted)
 
-unfoldable pub output_of : List ℕ → Request → List ℕ → List ℕ
+unfoldable pub output_of : List ℕ → Option Ask → List ℕ → List ℕ
 output_of image q d = cond (valid_image image) (buffer_of (machine_of image) q d) d
 
-unfoldable pub stop_of : TransactionResult → ℕ
-stop_of (Wrote n) = 0
-stop_of (Refused n) = n
+unfoldable pub stop_of : Result ℕ Refusal → ℕ
+stop_of (Ok n) = 0
+stop_of (Err r) = number_of r
 
-unfoldable pub written_of : TransactionResult → ℕ
-written_of (Wrote n) = n
-written_of (Refused n) = 0
+unfoldable pub written_of : Result ℕ Refusal → ℕ
+written_of (Ok n) = n
+written_of (Err r) = 0
 
 -- ---- the promise
 
 -- W-209 of calls: n bytes of the buffer d were written for an image. They are the transaction of what was asked for, and a call of the run with the same image, these bytes
 -- and 8 bytes of answer room for each item does it.
-pub record CallDoes (image : List ℕ) (q : Request) (n : ℕ) (d : List ℕ) : Type 0 where
+pub record CallDoes (image : List ℕ) (q : Option Ask) (n : ℕ) (d : List ℕ) : Type 0 where
   pub valid : valid_image image ≡ true
   pub ask : Ask
-  pub known : q ≡ Known ask
+  pub known : q ≡ Some ask
   pub size : n ≡ size_of ask
   pub bytes : take n d ≡ transaction_of (machine_of image) ask
   pub does : (room : ℕ) → 8 * count_of ask ≤ room

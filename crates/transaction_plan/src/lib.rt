@@ -1,224 +1,173 @@
-// The items of a clock transaction by their numbers, as bytes made by value: request W-209.
+//! The items of a clock transaction by their numbers, as records put into lent memory: request W-209.
 #![tactic(auto)]
 
-ghost use Rattle.std.specs.Prelude.{◌≡◌, ◌+◌, ◌/◌, ◌%◌, ◌^◌, ◌≤◌, ◌<◌, eqb, length};
-ghost use Rattle.clock_spec.specs.Command.{bit_number};
-ghost use Rattle.transaction_spec.specs.declared.Act.{Act};
-ghost use Rattle.transaction_spec.specs.Acts.{out_at, dir_at, record_of};
-ghost use Rattle.transaction_plan.specs.Plan.{sent_at, asked_at, tail_write, tail_read, tail_at, extended_at, act_at, part_at, bytes_in};
+ghost use Rattle.std.specs.Prelude.{◌≡◌, ◌++◌, ◌/◌, ◌≤◌, ◌<◌, [], ◌∷◌, length, drop};
+ghost use Rattle.std.specs.Int.{w32, to_le_bytes};
+ghost use Rattle.transaction_spec.specs.Acts.{out_at};
+ghost use Rattle.transaction_plan.specs.Plan.{sent_at, asked_at, data_at, act_at, part_at, parts};
 
 use transaction_spec::Act;
 
-// Bits 3 to 7 of port B's output and direction bytes, the command's first byte, its second one and whether it has one, the byte to
-// write, and whether it is a read.
+/// What the records of a transaction are made of.
 #[derive(Clone, Copy)]
 pub struct Plan {
-    pub outs: u8,
-    pub dirs: u8,
+    /// Port B's output and direction bytes before it: bits 3 to 7 stay.
+    pub outputs: u8,
+    pub directions: u8,
+    /// The command's first byte, and its second one where it has one.
     pub command: u8,
-    pub second: u8,
-    pub extended: bool,
-    pub byte: u8,
-    pub reads: bool,
+    pub second: Option<u8>,
+    /// The byte to write, none of a read.
+    pub byte: Option<u8>,
 }
 
-// Some bytes, made by value.
-#[derive(Clone, Copy)]
-pub struct Part {
-    pub bytes: [u8; 11],
-    pub count: usize,
+/// The addresses of the VIA's register 0, port B's outputs, and of register 2, their directions.
+const PORT_B: u32 = 0xEF_E1FE;
+
+const DIRECTIONS_B: u32 = 0xEF_E5FE;
+
+impl Plan {
+    /// Item `k`.
+    #[tactic(auto, unfolding(crate::specs::Plan::act_at))]
+    fn act(self, k: u8) -> Act
+        ensures { result ≡ act_at self k }
+    {
+        match k {
+            0 => Act::Port {
+                enable: true,
+                dataclock: false,
+                data: false,
+            },
+            1 => Act::Side(true),
+            2 => Act::Port {
+                enable: false,
+                dataclock: false,
+                data: false,
+            },
+            3..=18 => sent(self.command, k - 3),
+            _ => match self.second {
+                Some(second) if k < 35 => sent(second, k - 19),
+                Some(_) => data(self.byte, k - 35),
+                None => data(self.byte, k - 19),
+            },
+        }
+    }
+
+    /// Writes the first `count` records at the front of `out`.
+    pub fn write(self, count: u8, out: &mut [u8])
+        requires { length (parts self count) ≤ length out.old }
+        ensures { out.new ≡ parts self count ++ drop (length (parts self count)) out.old }
+    {
+        let mut at = 0;
+        for k in 0..count {
+            at += self.put(k, &mut out[at..]);
+        }
+    }
+
+    /// Puts the record of item `k` at the front of `out`, and gives its length.
+    #[tactic(auto, unfolding(crate::specs::Plan::part_at))]
+    fn put(self, k: u8, out: &mut [u8]) -> usize
+        requires { length (part_at self k) ≤ length out.old }
+        ensures size { result ≡ length (part_at self k) }
+        ensures written { out.new ≡ part_at self k ++ drop (length (part_at self k)) out.old }
+    {
+        match self.act(k) {
+            Act::Port {
+                enable,
+                dataclock,
+                data,
+            } => {
+                let value = line_byte(self.outputs, enable, dataclock, data);
+                put_front(out, &write_record(PORT_B, value))
+            }
+            Act::Side(data) => {
+                let value = line_byte(self.directions, true, true, data);
+                put_front(out, &write_record(DIRECTIONS_B, value))
+            }
+            Act::Look => put_front(out, &read_record(PORT_B)),
+        }
+    }
 }
 
-fn bit_of(x: u8, n: u8) -> bool
-    requires { n < 8 }
-    ensures { result ≡ eqb (x / 2 ^ n % 2) 1 }
+/// Puts a record at the front of `out`, and gives its length.
+fn put_front(out: &mut [u8], bytes: &[u8]) -> usize
+    requires { length bytes.now ≤ length out.old }
+    ensures size { result ≡ length bytes.now }
+    ensures written { out.new ≡ bytes.now ++ drop (length bytes.now) out.old }
 {
-    (x >> n) % 2 == 1
+    out[..bytes.len()].copy_from_slice(bytes);
+    bytes.len()
 }
 
+/// WR of the register at this address, its wait 0: a record of kind WR has nine bytes after its length.
+fn write_record(address: u32, value: u8) -> [u8; 11]
+    ensures { result ≡ 9 ∷ 0 ∷ 87 ∷ 82 ∷ 0 ∷ 0 ∷ (to_le_bytes w32 address ++ (value ∷ [])) }
+{
+    let [a, b, c, d] = address.to_le_bytes();
+    [9, 0, b'W', b'R', 0, 0, a, b, c, d, value]
+}
+
+/// RD of the register at this address, its wait 0.
+fn read_record(address: u32) -> [u8; 10]
+    ensures { result ≡ 8 ∷ 0 ∷ 82 ∷ 68 ∷ 0 ∷ 0 ∷ to_le_bytes w32 address }
+{
+    let [a, b, c, d] = address.to_le_bytes();
+    [8, 0, b'R', b'D', 0, 0, a, b, c, d]
+}
+
+/// Port B's byte with other levels in bits 0 to 2.
+fn line_byte(byte: u8, enable: bool, dataclock: bool, dataline: bool) -> u8
+    ensures { result ≡ out_at (byte / 8) enable dataclock dataline }
+{
+    byte & 0xF8 | (u8::from(enable) << 2 | u8::from(dataclock) << 1 | u8::from(dataline))
+}
+
+/// Item `j` of the sixteen that send a byte, the high bit first: put on the line, then clocked.
 #[tactic(auto, unfolding(crate::specs::Plan::sent_at))]
-fn sent(x: u8, j: u8) -> Act
+fn sent(byte: u8, j: u8) -> Act
     requires { j < 16 }
-    ensures { result ≡ sent_at x j }
+    ensures { result ≡ sent_at byte j }
 {
     Act::Port {
         enable: false,
         dataclock: j % 2 == 1,
-        data: bit_of(x, 7 - j / 2),
+        data: byte >> (7 - j / 2) & 1 == 1,
     }
 }
 
+/// Item `j` of the three that ask for a bit.
 #[tactic(auto, unfolding(crate::specs::Plan::asked_at))]
 fn asked(j: u8) -> Act
     ensures { result ≡ asked_at j }
 {
-    if j == 0 {
-        return Act::Port {
+    match j {
+        0 => Act::Port {
             enable: false,
             dataclock: false,
             data: false,
-        };
-    }
-    if j == 1 {
-        return Act::Look;
-    }
-    Act::Port {
-        enable: false,
-        dataclock: true,
-        data: false,
+        },
+        1 => Act::Look,
+        _ => Act::Port {
+            enable: false,
+            dataclock: true,
+            data: false,
+        },
     }
 }
 
-#[tactic(auto, unfolding(crate::specs::Plan::tail_write))]
-fn tail_write(d: u8, k: u8) -> Act
-    requires { 19 ≤ k }
-    ensures { result ≡ tail_write d k }
+/// Item `j` after the command: of a byte to write, or of a read.
+#[tactic(auto, unfolding(crate::specs::Plan::data_at))]
+fn data(byte: Option<u8>, j: u8) -> Act
+    ensures { result ≡ data_at byte j }
 {
-    if k < 35 {
-        return sent(d, k - 19);
-    }
-    Act::Port {
-        enable: true,
-        dataclock: true,
-        data: false,
-    }
-}
-
-#[tactic(auto, unfolding(crate::specs::Plan::tail_read))]
-fn tail_read(k: u8) -> Act
-    requires { 19 ≤ k }
-    ensures { result ≡ tail_read k }
-{
-    if k == 19 {
-        return Act::Side(false);
-    }
-    if k < 44 {
-        return asked((k - 20) % 3);
-    }
-    Act::Port {
-        enable: true,
-        dataclock: true,
-        data: false,
-    }
-}
-
-#[tactic(auto, unfolding(crate::specs::Plan::tail_at, crate::specs::Plan::tail_read, crate::specs::Plan::tail_write))]
-fn tail_at(s: Plan, k: u8) -> Act
-    requires { 19 ≤ k }
-    ensures { result ≡ tail_at s k }
-{
-    if s.reads {
-        return tail_read(k);
-    }
-    tail_write(s.byte, k)
-}
-
-#[tactic(auto, unfolding(crate::specs::Plan::extended_at, crate::specs::Plan::tail_at))]
-fn extended_at(s: Plan, k: u8) -> Act
-    requires { 19 ≤ k }
-    ensures { result ≡ extended_at s k }
-{
-    if k < 35 {
-        return sent(s.second, k - 19);
-    }
-    tail_at(s, k - 16)
-}
-
-#[tactic(auto, unfolding(crate::specs::Plan::act_at, crate::specs::Plan::extended_at, crate::specs::Plan::tail_at))]
-fn act_at(s: Plan, k: u8) -> Act
-    ensures { result ≡ act_at s k }
-{
-    if k == 0 {
-        return Act::Port {
+    match (byte, j) {
+        (Some(byte), 0..=15) => sent(byte, j),
+        (None, 0) => Act::Side(false),
+        (None, 1..=24) => asked((j - 1) % 3),
+        _ => Act::Port {
             enable: true,
-            dataclock: false,
+            dataclock: true,
             data: false,
-        };
-    }
-    if k == 1 {
-        return Act::Side(true);
-    }
-    if k == 2 {
-        return Act::Port {
-            enable: false,
-            dataclock: false,
-            data: false,
-        };
-    }
-    if k < 19 {
-        return sent(s.command, k - 3);
-    }
-    if s.extended {
-        return extended_at(s, k);
-    }
-    tail_at(s, k)
-}
-
-// A level as a number.
-fn level(b: bool) -> u8
-    ensures { (result ≡ bit_number b) × (result < 2) }
-{
-    b as u8
-}
-
-fn out_byte(q: u8, e: bool, c: bool, b: bool) -> u8
-    requires { q < 32 }
-    ensures { result ≡ out_at q e c b }
-{
-    8 * q + (4 * level(e) + (2 * level(c) + level(b)))
-}
-
-fn dir_byte(r: u8, x: bool) -> u8
-    requires { r < 32 }
-    ensures { result ≡ dir_at r x }
-{
-    8 * r + (4 + (2 + level(x)))
-}
-
-fn record(q: u8, r: u8, a: Act) -> Part
-    requires q_bound { q < 32 }
-    requires r_bound { r < 32 }
-    ensures result_value { bytes_in result ≡ record_of q r a }
-    ensures count_value { (result.count ≡ length (record_of q r a)) × (result.count ≤ length result.bytes) }
-{
-    match a {
-        Act::Port {
-            enable,
-            dataclock,
-            data,
-        } => Part {
-            bytes: [
-                9,
-                0,
-                87,
-                82,
-                0,
-                0,
-                254,
-                225,
-                239,
-                0,
-                out_byte(q, enable, dataclock, data),
-            ],
-            count: 11,
-        },
-        Act::Side(x) => Part {
-            bytes: [9, 0, 87, 82, 0, 0, 254, 229, 239, 0, dir_byte(r, x)],
-            count: 11,
-        },
-        Act::Look => Part {
-            bytes: [8, 0, 82, 68, 0, 0, 254, 225, 239, 0, 0],
-            count: 10,
         },
     }
-}
-
-#[tactic(auto, unfolding(crate::specs::Plan::part_at))]
-pub fn part_at(s: Plan, k: u8) -> Part
-    requires outs_bound { s.outs < 32 }
-    requires dirs_bound { s.dirs < 32 }
-    ensures result_value { bytes_in result ≡ part_at s k }
-    ensures count_value { (result.count ≡ length (part_at s k)) × (result.count ≤ length result.bytes) }
-{
-    record(s.outs, s.dirs, act_at(s, k))
 }

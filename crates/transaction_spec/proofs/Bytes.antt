@@ -1,11 +1,12 @@
 -- A transaction as bytes: its records are whole, each asks for its item, and a run carries them out one after the other.
+use Rattle.std.specs.Prelude.{None, Ok}
 use Prim.Native.Nat.{ℕ, ◌+◌, ◌-◌, ◌*◌, ◌≤◌}
 use mathlib.Core.Path.{◌≡◌, refl, sym, ap, ap₂, ◌∙◌}
 use mathlib.Core.List.{List, [], ◌∷◌, ◌++◌}
 use native.Mathlib.Omega.{arith}
 use lib.ListN.{length, drop, length-append}
 use Rattle.octets.specs.Octets.{le16_of, le32_of}
-use Rattle.item_spec.specs.declared.Decoded.TheVariants.{Done}
+use Rattle.item_spec.specs.declared.Decoded.TheVariants.{One}
 use Rattle.item_spec.specs.Addresses.{place_from, found_of}
 use Rattle.item_spec.specs.Items.{read_record, write_record}
 use Rattle.item_spec.specs.Kinds.{is_kind, decoded_of}
@@ -27,7 +28,7 @@ use Rattle.transaction_spec.specs.Acts.{item_of, items, record_of, bytes_of}
 use Rattle.transaction_spec.proofs.Fold.{folded}
 
 module _ (q r : ℕ) where
-  decoded : (a : Act) → decoded_of (drop 2 (record_of q r a)) ≡ Done (item_of q r a)
+  decoded : (a : Act) → decoded_of (drop 2 (record_of q r a)) ≡ Ok (One (item_of q r a))
   unfolding le16_of le32_of is_kind place_from found_of read_record write_record decoded_of
   decoded (Port e c b) = refl
   decoded (Side x) = refl
@@ -52,7 +53,7 @@ module _ (q r : ℕ) where
 
 pub bytes_run : (q r : ℕ) (xs : List Act) (m : Machine) (room : ℕ) → 8 * length xs ≤ room
     → run_pieces m (pieces (bytes_of q r xs)) room
-    ≡ record { machine = folded m (items q r xs); stop = 0; consumed = length (bytes_of q r xs); answers = bytes_of_answers (answers_of m (items q r xs)) }
+    ≡ record { machine = folded m (items q r xs); stop = None; consumed = length (bytes_of q r xs); answers = bytes_of_answers (answers_of m (items q r xs)) }
 unfolding run_pieces pieces_from onto
 bytes_run q r [] m room h = refl
 bytes_run q r (a ∷ xs) m room h =
@@ -61,7 +62,7 @@ bytes_run q r (a ∷ xs) m room h =
     ap (λ (p : List Piece). run_pieces m p room) (piece q r a (bytes_of q r xs))
     ∙ item-after-item m s (pieces (bytes_of q r xs)) room (omega arith)
     ∙ ap (λ (t : Turn). onto (answer_bytes t.answer) (length s + 2) (run_pieces t.machine (pieces (bytes_of q r xs)) (room - 8))) (turned q r m a)
-    ∙ ap₂ (λ (k : ℕ) (o : Out). onto (answer_bytes (answer_of n)) k o) (size q r a) (bytes_run q r xs n.machine (room - 8) (omega arith))
+    ∙ ap₂ (λ (k : ℕ) (o : Out). onto (answer_bytes (Ok (answer_of n))) k o) (size q r a) (bytes_run q r xs n.machine (room - 8) (omega arith))
     ∙ ap
-    (λ (k : ℕ). record { machine = folded m (items q r (a ∷ xs)); stop = 0; consumed = k; answers = bytes_of_answers (answers_of m (items q r (a ∷ xs))) })
+    (λ (k : ℕ). record { machine = folded m (items q r (a ∷ xs)); stop = None; consumed = k; answers = bytes_of_answers (answers_of m (items q r (a ∷ xs))) })
     (sym (length-append (record_of q r a) (bytes_of q r xs)))

@@ -5,6 +5,7 @@ use mathlib.Core.Bool.{Bool, true, false, true≢false}
 use native.Mathlib.Omega.{arith}
 use lib.ListN.{length}
 use borrow.Author.Tests.{ltb-true}
+use Rattle.std.specs.Prelude.{None}
 use Rattle.clock_spec.specs.Command.{cells_of}
 use Rattle.clock_spec.proofs.CommandRange.{cells-most}
 use Rattle.clock_spec.specs.Store.{fetch}
@@ -99,7 +100,7 @@ module _ (m : Machine) (a : Ask) (room : ℕ) (ok : accepted_of m ≡ true) (fre
     runs : run_of m (transaction_of m a) room
         ≡ record {
           machine = folded m (items q r (acts_of a));
-          stop = 0;
+          stop = None;
           consumed = length (transaction_of m a);
           answers = bytes_of_answers (answers_of m (items q r (acts_of a)));
         }

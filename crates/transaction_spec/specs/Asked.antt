@@ -1,5 +1,5 @@
 -- Request W-209: what can be asked, its command byte, its items as bytes.
-use Rattle.std.specs.Prelude.{ℕ, ◌+◌, ◌-◌, ◌*◌, ◌/◌, ◌%◌, Bool, true, false, cond, List, ltb, leb}
+use Rattle.std.specs.Prelude.{ℕ, ◌+◌, ◌-◌, ◌*◌, ◌/◌, ◌%◌, Bool, true, false, cond, List, Option, Some, None, ltb, leb}
 use Rattle.clock_spec.specs.Command.{cells_of, bit_number}
 use Rattle.clock_spec.specs.declared.Chip.{Chip}
 use Rattle.clock_spec.specs.declared.Target.{Target}
@@ -31,6 +31,10 @@ byte_of (WriteProtect d) = d
 byte_of (ReadCell i) = 0
 byte_of (ReadSeconds k) = 0
 
+-- The byte to write, none of a read.
+unfoldable pub written_by : Ask → Option ℕ
+written_by a = cond (reads_of a) None (Some (byte_of a))
+
 -- What the chip has: seconds bytes 0 to 3, and its cells.
 unfoldable pub has_of : Chip → Ask → Bool
 has_of k (WriteCell i d) = ltb i (cells_of k)
@@ -38,6 +42,14 @@ has_of k (WriteSeconds n d) = ltb n 4
 has_of k (WriteProtect d) = true
 has_of k (ReadCell i) = ltb i (cells_of k)
 has_of k (ReadSeconds n) = ltb n 4
+
+-- A seconds byte that a chip has: all that a command byte asks of its number.
+unfoldable pub place_in_range : Ask → Bool
+place_in_range (WriteCell i d) = true
+place_in_range (WriteSeconds k d) = ltb k 4
+place_in_range (WriteProtect d) = true
+place_in_range (ReadCell i) = true
+place_in_range (ReadSeconds k) = ltb k 4
 
 -- z1aaaa01 and z010aa01, without z; W-206: "z0111abc followed by 0defgh00" for the cells that only the later chip has.
 unfoldable pub cell_byte : ℕ → ℕ
@@ -75,6 +87,10 @@ extended_of a = is_extended (target_of a)
 
 unfoldable pub second_byte_of : Ask → ℕ
 second_byte_of a = second_byte (target_of a)
+
+-- The second byte, where the command has one.
+unfoldable pub second_of : Ask → Option ℕ
+second_of a = cond (extended_of a) (Some (second_byte_of a)) None
 
 unfoldable pub acts_of : Ask → List Act
 acts_of a = acts_by (reads_of a) (extended_of a) (command_of a) (second_byte_of a) (byte_of a)

@@ -1,4 +1,5 @@
 -- Request W-209: what running a transaction does.
+use Rattle.std.specs.Prelude.{Some, None, Ok}
 use Rattle.std.specs.Prelude.{ℕ, ◌+◌, ◌*◌, ◌/◌, ◌%◌, ◌≡◌, Bool, true, false, cond, List, [], ◌∷◌, ◌++◌, eqb}
 use Rattle.std.proofs.Math.Option.{some}
 use Rattle.clock_spec.specs.Store.{act, fetch}
@@ -8,7 +9,7 @@ use Rattle.clock_spec.specs.declared.Store.{Store}
 use Rattle.clock_spec.specs.declared.Phase.{Phase}
 use Rattle.via.specs.declared.Ports.{Ports}
 use Rattle.via.specs.Setters.{with_ports}
-use Rattle.item_spec.specs.declared.Answer.{Answer}
+use Rattle.item_spec.specs.declared.Shown.{Shown}
 use Rattle.item_spec.specs.declared.Item.{Item}
 use Rattle.item_spec.specs.Record.{answer_bytes}
 use Rattle.machine_spec.specs.declared.Machine.{Machine}
@@ -41,16 +42,16 @@ left_by m z t d = bare m (8 * (m.via.ports.outb / 8) + 6) (8 * (m.via.ports.dirb
 -- ---- its answers
 
 -- The answers of items, one after the other.
-abbrev pub answers_of : Machine → List Item → List Answer
+abbrev pub answers_of : Machine → List Item → List Shown
 answers_of m [] = []
 answers_of m (i ∷ rest) = answer_of (step_of m i) ∷ answers_of (step_of m i).machine rest
 
-abbrev pub bytes_of_answers : List Answer → List ℕ
+abbrev pub bytes_of_answers : List Shown → List ℕ
 bytes_of_answers [] = []
-bytes_of_answers (a ∷ rest) = answer_bytes a ++ bytes_of_answers rest
+bytes_of_answers (a ∷ rest) = answer_bytes (Ok a) ++ bytes_of_answers rest
 
 -- Of the answers, bit 0 of each that a look gets.
-abbrev pub bits : List Act → List Answer → List Bool
+abbrev pub bits : List Act → List Shown → List Bool
 bits [] more = []
 bits (a ∷ xs) [] = []
 bits (Port e c b ∷ xs) (x ∷ more) = bits xs more
@@ -61,8 +62,8 @@ bits (Look ∷ xs) (x ∷ more) = eqb (x.value / 1 % 2) 1 ∷ bits xs more
 
 -- "Running them with answer room does what was asked under the protect rule, changes nothing else in the state but port B's output and direction bits 0 to 2, and
 -- ends with enable up. A read's byte stands, high bit first, in bit 0 of its eight RD answers." The answers are l.
-pub record Does (m : Machine) (a : Ask) (o : Out) (l : List Answer) : Type 0 where
-  pub stop : o.stop ≡ 0
+pub record Does (m : Machine) (a : Ask) (o : Out) (l : List Shown) : Type 0 where
+  pub stop : o.stop ≡ None
   pub consumed : o.consumed ≡ size_of a
   pub machine : o.machine ≡ left_by m (reads_of a) (target_of a) (byte_of a)
   pub up : (wires o.machine).enable ≡ true

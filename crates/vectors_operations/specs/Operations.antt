@@ -1,5 +1,5 @@
 -- The operations of the samples' script, by the table of docs/FORMATS.md: a line's letter is its ASCII byte.
-use Rattle.std.specs.Prelude.{ℕ, ◌+◌, ◌*◌, ◌/◌, ◌%◌, Bool, false, cond, ◌&&◌, ◌||◌, List, [], ◌∷◌, eqb, ltb, leb, length, get_or, set}
+use Rattle.std.specs.Prelude.{ℕ, ◌+◌, ◌*◌, ◌/◌, ◌%◌, Bool, false, cond, ◌&&◌, ◌||◌, List, [], ◌∷◌, eqb, ltb, leb, length, get_or, set, Option, Some, None}
 use Rattle.vectors_operations.specs.declared.Order.{Order}
 
 -- An operation and its two numbers.
@@ -84,9 +84,9 @@ seen_of op k byte got =
     (cond (eqb op 98) (cond (eqb (k % 2) 1) (byte % 128 * 2) byte) byte)))
 
 -- ---- the image
--- `m K`: "byte K of the image"; 256 where it has none.
-unfoldable pub byte_of : List ℕ → Order → ℕ
-byte_of image x = cond (leb (length image) x.a) 256 (cond (eqb x.op 109) (get_or image x.a 0) 0)
+-- `m K`: "byte K of the image"; none where it has no such byte.
+unfoldable pub byte_of : List ℕ → Order → Option ℕ
+byte_of image x = cond (leb (length image) x.a) None (Some (cond (eqb x.op 109) (get_or image x.a 0) 0))
 
 -- `z K V`: "byte K of the image becomes V".
 unfoldable pub changed_of : List ℕ → Order → List ℕ

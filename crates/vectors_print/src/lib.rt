@@ -1,80 +1,72 @@
-// What is printed of a run: the bytes of an answer, the line of the run, a script line's words.
+//! What is printed of a run: the bytes of an answer, the line of the run, a script line's words.
 #![tactic(auto)]
 
-ghost use Rattle.std.specs.Prelude.{◌≡◌, cond, ◌≤◌, length};
+ghost use Rattle.std.specs.Prelude.{◌≡◌, cond, ◌≤◌, length, Some, None, IfOk};
 ghost use Rattle.vectors_words.specs.Words.{spaced_of};
 
-// Prints a number after a word.
-fn number(word: &[u8], n: u64) {
-    io::write_all(1, word);
-    io::print_decimal(1, n);
-}
+use std::io;
 
-// Prints the line of a run: its stop number, the bytes consumed and the bytes written.
-fn end(stop: u8, consumed: u64, written: u64) {
-    number(b"stop ", stop as u64);
-    number(b" consumed ", consumed);
-    number(b" written ", written);
-    io::write_all(1, b"\n");
-}
-
-// Prints a byte in hexadecimal, and a space.
-fn hex(x: u8) {
-    io::print_hex(1, x as u64, 2);
-    io::write_all(1, b" ");
-}
-
-// Prints bytes in hexadecimal, a space after each.
-fn dump(answers: &[u8]) {
-    let mut at: usize = 0;
-    while at < answers.len() {
-        hex(answers[at]);
-        at += 1;
+/// Prints bytes in hexadecimal, a space after each.
+fn dump(rt: &impl Print, answers: &[u8]) -> io::Result<()> {
+    for answer in answers {
+        print!(rt; "{answer:02x} ")?;
     }
+    Ok(())
 }
 
-// Prints with `l` the bytes of a list's first answer, with `e` the bytes of the answer room and the line of the run, with any other operation
-// nothing.
-pub fn shown(op: u8, answers: &[u8], stop: u8, consumed: u64, written: u64) {
+// The stop is the number that the C entry gave.
+
+/// Prints with `l` the bytes of a list's first answer, with `e` the bytes of the answer room and the line of the run, with any other operation
+/// nothing.
+pub fn shown(
+    rt: &impl Print,
+    op: u8,
+    answers: &[u8],
+    stop: u8,
+    consumed: u64,
+    written: u64,
+) -> io::Result<()> {
     match op {
-        b'l' => {
-            if 8 <= answers.len() {
-                dump(&answers[..8]);
-                io::write_all(1, b"\n");
+        b'l' => match answers.get(..8) {
+            Some(first) => {
+                dump(rt, first)?;
+                println!(rt; "")
             }
-        }
+            None => Ok(()),
+        },
         b'e' => {
-            dump(answers);
-            end(stop, consumed, written);
+            dump(rt, answers)?;
+            println!(rt; "stop {stop} consumed {consumed} written {written}")
         }
-        _ => (),
+        _ => Ok(()),
     }
 }
 
-// Prints one character, or the value in its place: `@` in two hexadecimal digits, `#` in decimal, `%` its bit 7.
-fn place(c: u8, value: u64) {
+/// Prints one character, or the value in its place: `@` in two hexadecimal digits, `#` in decimal, `%` its bit 7.
+fn place(rt: &impl Print, c: u8, value: u64) -> io::Result<()> {
     match c {
-        b'@' => io::print_hex(1, value, 2),
-        b'#' => io::print_decimal(1, value),
-        b'%' => io::print_decimal(1, value / 128),
-        _ => io::write_all(1, &[c]),
-    };
+        b'@' => print!(rt; "{value:02x}"),
+        b'#' => print!(rt; "{value}"),
+        b'%' => {
+            let bit = value / 128;
+            print!(rt; "{bit}")
+        }
+        _ => rt.write_all(&[c]),
+    }
 }
 
-// Prints the text of a line, and a space or, where the line begins with `.`, the line's end. The value as it was, or 256 where the line is bad.
-pub fn say(text: &[u8], value: u64) -> u64
+/// Prints the text of a line, and a space or, where the line begins with `.`, the line's end. The value as it was, or `None` where the line is bad.
+pub fn say(rt: &impl Print, text: &[u8], value: u64) -> io::Result<Option<u64>>
     requires { 1 ≤ length text.now }
-    ensures { result ≡ cond (spaced_of text.now 1) value 256 }
+    ensures { IfOk result (λ said. said ≡ cond (spaced_of text.now 1) (Some value) None) }
 {
     if !vectors_words::spaced(text, 1) {
-        return 256;
+        return Ok(None);
     }
-    let mut at: usize = 2;
-    while at < text.len() {
-        place(text[at], value);
-        at += 1;
+    for &c in text.iter().skip(2) {
+        place(rt, c, value)?;
     }
     let last = if text[0] == b'.' { b'\n' } else { b' ' };
-    place(last, 0);
-    value
+    rt.write_all(&[last])?;
+    Ok(Some(value))
 }

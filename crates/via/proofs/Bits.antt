@@ -2,7 +2,7 @@
 use mathlib.Core.Path.{◌≡◌, refl, sym, ap, ap₂, ◌∙◌}
 use mathlib.Core.Bool.{Bool, true, false, cond, not, ◌&&◌, ◌||◌}
 use Prim.Native.Nat.{ℕ, zero, suc, ◌+◌, ◌-◌, ◌*◌, ◌/◌, ◌%◌, ◌^◌, ◌≤◌, ◌<◌, min, max, suc-le-suc}
-use native.Mathlib.Nat.{min-le_left, le_trans, mod-lt, le_of_suc-le-suc, not-suc-le-zero, zero-lt-suc, mod-one, mul_comm, pow-suc}
+use native.Mathlib.Nat.{min-le_left, le_trans, le_of_suc-le-suc, not-suc-le-zero, zero-lt-suc, mod-one, mul_comm, pow-suc}
 use native.Mathlib.Omega.{arith}
 use lib.Arith.{digits_mod, mod-mul}
 use lib.Pow.{pow_pos}

@@ -1,24 +1,22 @@
 -- Eight pulses of the keyboard's clock, with any waits between them.
 use mathlib.Core.Path.{◌≡◌, refl, sym, ap, ap₂, subst, ◌∙◌}
-use mathlib.Core.Bool.{Bool, true, false, cond, ◌||◌, or-true}
+use mathlib.Core.Bool.{Bool, true, false, cond, or-true}
 use mathlib.Core.List.{List, [], ◌∷◌}
 use Prim.Native.Nat.{ℕ, zero, suc, ◌+◌, ◌*◌, ◌/◌, ◌%◌, ◌<◌}
 use native.Mathlib.Omega.{arith}
 use native.Mathlib.Nat.{add_assoc, add-zero, zero-add}
-use lib.Dec.{eqb, ltb}
 use lib.ListN.{length}
 use lib.Arith.{digits_div, digits_mod}
-use lib.Bits.{bit_or}
 use borrow.Author.Tests.{lt-ltb}
 use Rattle.via_bits.specs.Bytes.{bit}
-use Rattle.via.specs.Setters.{with_sr, with_flags, with_pulses}
-use Rattle.via.specs.Via.{ticks, with_counters}
+use Rattle.via.specs.Setters.{with_sr, with_pulses}
+use Rattle.via.specs.Via.{ticks}
 use Rattle.via.specs.Shift.{shifted_of, pulse_of}
 use Rattle.via.specs.EightPulses.{bits_of, pulsed, given, total, flagged, EightPulses}
 use Rattle.via.specs.declared.Access.{Access}
 use Rattle.via.specs.declared.Via.{Via}
 use Rattle.via.proofs.Bits.{or-bit}
-use Rattle.via.proofs.Waits.{first, second, waits, ticks-add}
+use Rattle.via.proofs.Waits.{waits, ticks-add}
 
 -- ---- time passes beside the shift register
 abbrev at : ℕ → ℕ → Via → Via

@@ -6,8 +6,8 @@ use native.Mathlib.Omega.{arith}
 use borrow.Author.Tests.{eq-eqb, ne_eqb}
 use lib.Dec.{eqb}
 use lib.Bits.{bit_and, bit_or}
-use Rattle.via_bits.specs.Bytes.{bit, clear, port_a_flags, enabled_by}
-use Rattle.via.specs.Via.{port_level, asking, level_of, raised_of}
+use Rattle.via_bits.specs.Bytes.{bit, clear, port_a_flags}
+use Rattle.via.specs.Via.{asking, level_of, raised_of}
 use Rattle.via.specs.Writes.{via_written}
 use Rattle.via.specs.Registers.{register_read}
 use Rattle.via.specs.declared.Inputs.{Inputs}

@@ -1,7 +1,7 @@
 -- Document 01's sentences on T1 and T2, of the VIA: when flags 6 and 5 are set, for every load and every wait.
-use mathlib.Core.Path.{◌≡◌, refl, sym, ap, ap₂, ◌∙◌}
-use mathlib.Core.Bool.{Bool, true, false, cond, not, ◌&&◌, ◌||◌, and-false, or-false}
-use Prim.Native.Nat.{ℕ, ◌+◌, ◌*◌, ◌<◌}
+use mathlib.Core.Path.{◌≡◌, refl, ap, ap₂, ◌∙◌}
+use mathlib.Core.Bool.{Bool, true, false, cond, ◌||◌, and-false, or-false}
+use Prim.Native.Nat.{ℕ, ◌+◌, ◌*◌}
 use native.Mathlib.Omega.{arith}
 use lib.Dec.{ltb}
 use lib.Bits.{bit_or}
@@ -10,7 +10,7 @@ use Rattle.via_timer.specs.declared.Counter.{Counter}
 use Rattle.via_timer.proofs.Exact.{exactly, passages, again, unarmed}
 use Rattle.via.specs.Setters.{with_flags}
 use Rattle.via_bits.specs.Bytes.{bit, clear}
-use Rattle.via.specs.Via.{latch_of, counter1, counter2, with_counters, ticks}
+use Rattle.via.specs.Via.{latch_of, counter1, with_counters, ticks}
 use Rattle.via.specs.Writes.{via_written}
 use Rattle.via.specs.declared.Via.{Via}
 use Rattle.via.proofs.Bits.{or-bit, clear-bit}

@@ -1,12 +1,13 @@
 -- n ticks of the VIA are n ticks of each timer, with the flags that they raised.
 use mathlib.Core.Path.{◌≡◌, refl, sym, ap, ap₂, ◌∙◌}
-use mathlib.Core.Bool.{Bool, true, false, cond, not, ◌&&◌, ◌||◌, or-false, false≢true}
+use mathlib.Core.Bool.{Bool, true, false, cond, not, ◌&&◌, ◌||◌, or-false}
 use Prim.Native.Nat.{ℕ, zero, suc, ◌+◌, ◌-◌, ◌≤◌}
 use native.Mathlib.Nat.{add-zero, add-suc}
 use lib.Dec.{eqb, leb}
 use borrow.Author.Tests.{leb-true}
 use Rattle.via_timer.proofs.Closed.{early}
 use lib.Bits.{bit_or, or_zero_r}
+use Rattle.levels.proofs.Laws.{both}
 use Rattle.via_bits.proofs.Or.{or_assoc}
 use Rattle.via_timer.specs.Timer.{at, step_by, step, steps}
 use Rattle.via_timer.specs.declared.Counter.{Counter}
@@ -137,15 +138,11 @@ pub record Counting (n : ℕ) (v : Via) : Type 0 where
 pub counting : (n : ℕ) (v : Via) → only_counts n v ≡ true → Counting n v
 unfolding only_counts
 counting n v h =
-    let p = halves (not v.t1.due) _ h in
-    let q = halves (not (bit 5 v.acr)) _ p.1 in
-    let r = halves (leb n v.t1.counter) _ q.1 in
+    let p = both (not v.t1.due) _ h in
+    let q = both (not (bit 5 v.acr)) _ p.1 in
+    let r = both (leb n v.t1.counter) _ q.1 in
     record { undue = negated v.t1.due p.0; running = negated (bit 5 v.acr) q.0; first = leb-true _ _ r.0; second = leb-true _ _ r.1 }
   where
-    halves : (a b : Bool) → (a && b) ≡ true → (a ≡ true) × (b ≡ true)
-    halves true b e = (refl, e)
-    halves false b e = (e, absurd (false≢true e))
-
     negated : (a : Bool) → not a ≡ true → a ≡ false
     negated true e = sym e
     negated false e = refl

@@ -1,5 +1,5 @@
 -- Reading the VIA's registers 0 to 15, by document 01 and W-210: the value, the flags that the read clears, and the count that it starts anew.
-use Rattle.std.specs.Prelude.{ℕ, ◌+◌, ◌/◌, ◌%◌, Bool, cond, eqb}
+use Rattle.std.specs.Prelude.{ℕ, ◌+◌, ◌/◌, ◌%◌, cond, eqb}
 use Rattle.via.specs.Setters.{with_flags, with_pulses}
 use Rattle.via.specs.Shift.{pulses_accessed}
 use Rattle.via_bits.specs.Bytes.{clear, port_a_flags}

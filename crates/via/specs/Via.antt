@@ -1,5 +1,5 @@
 -- The VIA by document 01: fresh, its ports, its timers tick by tick, its flags and its level, reset.
-use Rattle.std.specs.Prelude.{ℕ, zero, suc, ◌+◌, ◌*◌, Bool, true, false, cond, not, ◌&&◌, eqb, leb, ltb}
+use Rattle.std.specs.Prelude.{ℕ, zero, suc, ◌+◌, ◌*◌, Bool, false, cond, not, ◌&&◌, eqb, leb, ltb}
 use Rattle.std.specs.Int.Bits.{bit_and, bit_or}
 use Rattle.via_bits.specs.Bytes.{bit, clear}
 use Rattle.via_timer.specs.Timer.{at, step}

@@ -3,7 +3,7 @@
 use Rattle.std.proofs.Common.{◌≡◌, ℕ, zero, suc, ◌+◌, ◌-◌, ◌*◌, Bool, true, false, ◌&&◌, ◌||◌, eqb, ltb, sym, refl, ap, ◌∙◌, add-one, one-add, arith, ltb-false, ltb-true, le-ltb}
 use mathlib.Core.Bool.{or-false}
 use lib.Dec.{leb-suc-suc}
-use Rattle.via_timer.specs.Timer.{step_by, step, steps, at}
+use Rattle.via_timer.specs.Timer.{step_by, steps, at}
 use Rattle.via_timer.specs.declared.Counter.{Counter}
 use Rattle.via_timer.proofs.Closed.{steps-add, through, after, early, start, cycles}
 

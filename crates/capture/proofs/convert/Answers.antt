@@ -1,14 +1,18 @@
 use Rattle.std.proofs.Common.{length}
-use Rattle.capture.proofs.Passes.{six-means, output-kept, output-written}
+use Rattle.capture.proofs.Passes.{six, output-kept, output-written}
 use Rattle.capture.proofs.convert.Goals as goal
 
-pub returns-then-r-eq6-clause-out_after : goal.returns-then-r-eq6-clause-out_after
-returns-then-r-eq6-clause-out_after c =
-    output-kept c.args.list.now c.args.out.now ((six-means c.args.list.now (length c.args.out.now) c.measure-r.result c.measure-r.ensures).0 c.if-r-eq6.true)
+pub returns-in_default-clause-value : goal.returns-in_default-clause-value
+returns-in_default-clause-value c = six c.args.list.now (length c.args.out.now) c.in_default.ensures
+
+pub returns-in_default-clause-out_after : goal.returns-in_default-clause-out_after
+returns-in_default-clause-out_after c = output-kept c.args.list.now c.args.out.now c.in_default.ensures
 
 pub write-requires : goal.write-requires
-write-requires c = (six-means c.args.list.now (length c.args.out.now) c.measure-r.result c.measure-r.ensures).1 c.if-r-eq6.false
+write-requires c = c.in-Some.ensures.0
+
+pub returns-clause-value : goal.returns-clause-value
+returns-clause-value c = c.in-Some.ensures.1
 
 pub returns-clause-out_after : goal.returns-clause-out_after
-returns-clause-out_after c =
-    output-written c.args.list.now c.args.out.now _ ((six-means c.args.list.now (length c.args.out.now) c.measure-r.result c.measure-r.ensures).1 c.if-r-eq6.false) c.write.ensures
+returns-clause-out_after c = output-written c.args.list.now c.args.out.now c.write.new.out c.in-Some.ensures.0 c.write.ensures

@@ -1,25 +1,20 @@
-use Rattle.std.proofs.Common.{ℕ, ◌+◌, ◌≤◌, sym, ap, ◌∙◌, arith}
-use Rattle.disk_spec.specs.Strobe.{strobe_ticks}
-use Rattle.disk_spec.proofs.StrobeTicks.{unsteady, full, counts, stops}
+use Rattle.std.proofs.Common.{ℕ, sym, ap, ◌∙◌}
+use Rattle.disk_spec.specs.Strobe.{strobe_ticks, with_ticks}
+use Rattle.disk_spec.proofs.StrobeTicks.{capped, unsteady, full}
 use Rattle.disk_strobe.proofs.wait.Goals as goal
+use Rattle.disk_strobe.proofs.wait.Goals.{else-strobe-via-then-strobe+else-strobe-lt-EJECT_TICKS, else-strobe-via-else-strobe}
 
-pub returns-then-strobe-ge391680 : goal.returns-then-strobe-ge391680
-returns-then-strobe-ge391680 c =
+pub returns-then-strobe-lt-EJECT_TICKS : goal.returns-then-strobe-lt-EJECT_TICKS
+returns-then-strobe-lt-EJECT_TICKS c =
     let s = c.args.strobe in
-    sym (full c.tick_count-ticks.result s c.if-strobe-ge391680.true) ∙ ap (λ (n : ℕ). strobe_ticks n s) c.tick_count-ticks.ensures
+    ap (with_ticks s) c.min.ensures
+    ∙ sym (capped c.ticks-ticks.result s c.if-strobe.true c.if-strobe-lt-EJECT_TICKS.true)
+    ∙ ap (λ (n : ℕ). strobe_ticks n s) c.ticks-ticks.ensures
 
-pub returns-then-sum-lt391680 : goal.returns-then-sum-lt391680
-returns-then-sum-lt391680 c =
+pub returns-else-strobe : goal.returns-else-strobe
+returns-else-strobe c =
     let s = c.args.strobe in
-    let h : s.ticks + c.tick_count-ticks.result ≤ 391680 = omega arith in
-    sym (counts c.tick_count-ticks.result s c.if-strobe.true h) ∙ ap (λ (n : ℕ). strobe_ticks n s) c.tick_count-ticks.ensures
-
-pub returns-then-strobe : goal.returns-then-strobe
-returns-then-strobe c =
-    let s = c.args.strobe in
-    sym (stops c.tick_count-ticks.result s c.if-strobe.true c.if-strobe-ge391680.false c.if-sum-lt391680.false) ∙ ap (λ (n : ℕ). strobe_ticks n s) c.tick_count-ticks.ensures
-
-pub returns : goal.returns
-returns c =
-    let s = c.args.strobe in
-    sym (unsteady c.tick_count-ticks.result s c.if-strobe.false) ∙ ap (λ (n : ℕ). strobe_ticks n s) c.tick_count-ticks.ensures
+    elim c.else-strobe.branch [
+      | else-strobe-via-then-strobe+else-strobe-lt-EJECT_TICKS w ↦ sym (full c.args.wait.0 s w.if-strobe-lt-EJECT_TICKS.false)
+      | else-strobe-via-else-strobe w ↦ sym (unsteady c.args.wait.0 s w.if-strobe.false)
+    ]

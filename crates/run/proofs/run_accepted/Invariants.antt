@@ -1,14 +1,13 @@
--- What the parts and the buffer are at the head of the loop: `Head`, of the machine handed in; and the run has not stopped.
-use Rattle.std.proofs.Common.{◌≡◌, ◌-◌, length}
-use Rattle.machine_act.specs.Parts.{whole_machine}
+-- What the machine and the buffer are at the head of the loop: `Head`, of the machine and the buffer handed in; and the run has not stopped.
+use Rattle.std.proofs.Common.{◌≡◌, length, None}
 use Rattle.run.proofs.Loop.{Head}
 use Rattle.run.proofs.run_accepted.Given as goal
 
-abbrev pub invariant-loop-at : goal.invariant-loop-at
-invariant-loop-at l = record {
-  head : Head l.list l.fn.answers l.fn.m l.answers (whole_machine l.board l.core l.cells l.drives l.sense) l.at l.out;
-  running : l.stop ≡ 0;
+abbrev pub invariant-loop-stop : goal.invariant-loop-stop
+invariant-loop-stop g l = record {
+  head : Head l.list l.fn.answers l.fn.machine l.answers l.machine l.rest l.written;
+  running : l.stop ≡ None;
 }
 
-abbrev pub decreases-loop-at : goal.decreases-loop-at
-decreases-loop-at l = length l.list - l.at
+abbrev pub decreases-loop-stop : goal.decreases-loop-stop
+decreases-loop-stop g l = length l.rest

@@ -1,28 +1,31 @@
 -- The turn of the bytes is that of the decoded item, as the state judges it.
-use Rattle.std.proofs.Common.{◌≡◌, ◌∙◌, sym, subst}
-use borrow.Author.Tests.{eq-eqb, ne_eqb}
-use Rattle.machine_spec.specs.Stages.{refuses_of}
+use Rattle.std.proofs.Common.{Ok, Err, sym, ap, subst, ◌∙◌}
+use Rattle.std.proofs.lemmas.Result.{err_from_is_err_and}
+use Rattle.item_decode.specs.Values.{values_in}
 use Rattle.run_record.specs.Judged.{turn_judged, JudgedInRange}
-use Rattle.run_record.proofs.Turns.{turn-with, judged-range}
+use Rattle.run_record.proofs.Turns.{turn_unless_with, decoded-turn, judged-range}
 use Rattle.run_record.proofs.judge.Goals as goal
 
-pub returns-then-n-ne0-clause-s_value : goal.returns-then-n-ne0-clause-s_value
+pub returns-in_err-item-clause-turn : goal.returns-in_err-item-clause-turn
 unfolding turn_judged
-returns-then-n-ne0-clause-s_value c m e =
-    let r : refuses_of m c.in-Done.item ≡ c.refuses-n.result = sym (c.refuses-n.ensures m e) in
-    turn-with m _ c.requires ∙ simp (← c.in-Done.ensures, r, ne_eqb _ _ c.if-n-ne0.true)
+returns-in_err-item-clause-turn c =
+    let p = err_from_is_err_and c.from_residual.result c.from_residual.ensures.1 in
+    rw (p.1, p.2) (decoded-turn c.args.machine.now c.args.bytes.now c.requires (Err c.in_err-item.field-0.0) c.in_err-item.ensures)
 
-pub returns-else-n-ne0-clause-s_value : goal.returns-else-n-ne0-clause-s_value
+pub returns-in-Some-clause-turn : goal.returns-in-Some-clause-turn
 unfolding turn_judged
-returns-else-n-ne0-clause-s_value c m e =
-    let r : refuses_of m c.in-Done.item ≡ c.refuses-n.result = sym (c.refuses-n.ensures m e) in
-    turn-with m _ c.requires ∙ simp (← c.in-Done.ensures, r, eq-eqb _ _ c.if-n-ne0.false)
+returns-in-Some-clause-turn c =
+    let m = c.args.machine.now in
+    let s = c.args.bytes.now in
+    decoded-turn m s c.requires (Ok c.in_ok-item.item) c.in_ok-item.ensures ∙ ap (turn_unless_with m (values_in s) c.in_ok-item.item) (sym c.in-Some.ensures)
 
-pub returns-else-n-ne0-clause-judged_in_range : goal.returns-else-n-ne0-clause-judged_in_range
-returns-else-n-ne0-clause-judged_in_range c =
-    subst (JudgedInRange _) (sym c.in-Done.ensures) (judged-range _ c.requires)
-
-pub returns-in-Refused-clause-s_value : goal.returns-in-Refused-clause-s_value
+pub returns-in-None-clause-turn : goal.returns-in-None-clause-turn
 unfolding turn_judged
-returns-in-Refused-clause-s_value c m e =
-    turn-with m _ c.requires ∙ simp (← c.decode-x.ensures, c.in-Refused.is)
+returns-in-None-clause-turn c =
+    let m = c.args.machine.now in
+    let s = c.args.bytes.now in
+    decoded-turn m s c.requires (Ok c.in_ok-item.item) c.in_ok-item.ensures ∙ ap (turn_unless_with m (values_in s) c.in_ok-item.item) (sym c.in-None.ensures)
+
+pub returns-in-None-clause-judged_in_range : goal.returns-in-None-clause-judged_in_range
+returns-in-None-clause-judged_in_range c =
+    subst (JudgedInRange (values_in c.args.bytes.now)) (sym c.in_ok-item.ensures) (judged-range c.args.bytes.now c.requires)

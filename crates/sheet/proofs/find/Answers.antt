@@ -1,27 +1,55 @@
-use borrow.Author.Tests.{lt-ltb, le-ltb}
-use Rattle.sheet_spec.proofs.Lead.{lead-first, lead-next, search-broken, search-end}
+use Rattle.std.proofs.Common.{◌≡◌, sym, ◌∙◌}
+use Rattle.std.proofs.lemmas.Result.{err_from_is_err_and}
+use Rattle.sheet_spec.specs.Records.{sheet_of}
+use Rattle.sheet_spec.specs.Counting.{version_of}
+use Rattle.sheet_spec.proofs.Lead.{lead-first}
+use Rattle.sheet.proofs.Best.{bytes_in, version-some, version-none, best-none, best-some, best-broken, best-yes, best-no}
 use Rattle.sheet.proofs.find.Goals as goal
+use Rattle.sheet.proofs.find.Goals.{in-Some-counting, in-None-counting}
 
-pub loop-rest-init : goal.loop-rest-init
-loop-rest-init c = lead-first c.args.sheet.now c.args.setting
+pub loop-record-init : goal.loop-record-init
+loop-record-init c = record {
+  can = tt;
+  finite = tt;
+  best = rw (c.into_iter-record-iterator.ensures.into_iter_gives, c.new-record-items.ensures.sheet, c.new-record-items.ensures.front) (lead-first (sheet_of c.args.sheet.now) c.args.setting);
+}
 
-pub returns-then-row-lt7 : goal.returns-then-row-lt7
-returns-then-row-lt7 c =
-    search-broken c.args.sheet.now c.loop-rest.rest.now c.args.setting c.loop-rest.best.now c.loop-rest.start c.loop-rest.invariant
-    c.first-row.result.now c.first-row.ensures.result_value c.loop-rest-test.true c.if-row-lt7.true
+pub returns-in_err-record : goal.returns-in_err-record
+returns-in_err-record c =
+    let p = err_from_is_err_and c.from_residual.result c.from_residual.ensures.1 in
+    rw (p.1, p.2)
+    (best-broken (sheet_of c.args.sheet.now) c.args.setting c.loop-record.counting c.loop-record.record-iterator c.next.new.self c.in-Some.record c.in-Some.ensures.steps c.loop-record.invariant.best c.in_err-record.field-0.0 c.in_err-record.was)
 
-pub loop-rest-preserved : goal.loop-rest-preserved
-loop-rest-preserved c =
-    lead-next c.args.sheet.now c.loop-rest.rest.now c.first-row.result.now c.first-row.ensures.result_value c.first-row.ensures.result_in_bounds c.if-row-lt7.false
-    c.args.setting c.loop-rest.best.now c.loop-rest.start c.loop-rest.invariant
-    c.better-next.result.now c.version.result c.better_start-start.result c.better-next.ensures c.version.ensures c.better_start-start.ensures
+pub loop-record-preserved-then-beats : goal.loop-record-preserved-then-beats
+loop-record-preserved-then-beats c =
+    let e : c.match-counting.version ≡ version_of (bytes_in c.loop-record.counting) = elim c.match-counting.branch [
+      | in-Some-counting w ↦ version-some _ _ _ (w.version-is ∙ w.version-version.ensures) w.in-Some-counting.is
+      | in-None-counting w ↦ version-none _ _ w.version-is w.in-None-counting.is
+    ] in
+    record {
+      can = tt;
+      finite = tt;
+      best = best-yes (sheet_of c.args.sheet.now) c.args.setting c.loop-record.counting c.loop-record.record-iterator c.next.new.self c.in-Some.record c.in-Some.ensures.steps c.loop-record.invariant.best c.in_ok-record.record c.in_ok-record.was
+          (rw (← e) (sym c.beats.ensures ∙ c.if-beats.true));
+    }
 
-pub returns-then-best-lt7 : goal.returns-then-best-lt7
-returns-then-best-lt7 c =
-    simp (lt-ltb _ _ c.if-best-lt7.true) at
-    (search-end c.args.sheet.now c.loop-rest.rest.now c.args.setting c.loop-rest.best.now c.loop-rest.start c.loop-rest.invariant c.loop-rest-test.false)
+pub loop-record-preserved : goal.loop-record-preserved
+loop-record-preserved c =
+    let e : c.match-counting.version ≡ version_of (bytes_in c.loop-record.counting) = elim c.match-counting.branch [
+      | in-Some-counting w ↦ version-some _ _ _ (w.version-is ∙ w.version-version.ensures) w.in-Some-counting.is
+      | in-None-counting w ↦ version-none _ _ w.version-is w.in-None-counting.is
+    ] in
+    record {
+      can = tt;
+      finite = tt;
+      best = best-no (sheet_of c.args.sheet.now) c.args.setting c.loop-record.counting c.loop-record.record-iterator c.next.new.self c.in-Some.record c.in-Some.ensures.steps c.loop-record.invariant.best c.in_ok-record.record c.in_ok-record.was
+          (rw (← e) (sym c.beats.ensures ∙ c.if-beats.false));
+    }
+
+pub returns-in_default : goal.returns-in_default
+returns-in_default c = best-none (sheet_of c.args.sheet.now) c.loop-record.record-iterator.at c.args.setting c.loop-record.counting c.in_default.is (rw c.in-None.ensures.steps.0 at c.loop-record.invariant.best)
 
 pub returns : goal.returns
 returns c =
-    simp (le-ltb _ _ c.if-best-lt7.false) at
-    (search-end c.args.sheet.now c.loop-rest.rest.now c.args.setting c.loop-rest.best.now c.loop-rest.start c.loop-rest.invariant c.loop-rest-test.false)
+    best-some (sheet_of c.args.sheet.now) c.loop-record.record-iterator.at c.args.setting c.loop-record.counting c.in-Some-counting-2.record c.in-Some-counting-2.is
+    (rw c.in-None.ensures.steps.0 at c.loop-record.invariant.best)

@@ -1,10 +1,12 @@
-use Rattle.std.proofs.Common.{length}
-use Rattle.sheet_spec.proofs.Lead.{Lead}
+use Rattle.sheet_spec.specs.Records.{sheet_of}
+use Rattle.sheet_record.specs.Walk.{left_of}
+use Rattle.sheet.proofs.Best.{Best}
 use Rattle.sheet.proofs.find.Given as goal
 
--- of the sheet the part `rest` is left; the record `best` counts so far, and its bytes start at `start`
-abbrev pub invariant-loop-rest : goal.invariant-loop-rest
-invariant-loop-rest l = Lead l.sheet l.rest l.setting l.best l.start
-
-abbrev pub decreases-loop-rest : goal.decreases-loop-rest
-decreases-loop-rest l = length l.rest
+-- of the records taken so far `counting` counts
+abbrev pub invariant-loop-record : goal.invariant-loop-record
+invariant-loop-record l = record {
+  can : (goal.iterator-loop-record).can_next l.record-iterator;
+  finite : (goal.iterator-loop-record).is_finite l.record-iterator;
+  best : Best (sheet_of l.sheet) (left_of l.record-iterator) l.record-iterator.at l.setting l.counting;
+}

@@ -1,9 +1,12 @@
-use Rattle.std.proofs.Common.{length}
+use Rattle.std.proofs.Common.{◌≡◌}
+use Rattle.sheet_record.specs.Walk.{left_of}
 use Rattle.sheet_compact.proofs.Noting.{Noted}
 use Rattle.sheet_compact.proofs.tabulate.Given as goal
 
-abbrev pub invariant-loop-rest : goal.invariant-loop-rest
-invariant-loop-rest l = Noted l.sheet l.rest l.versions l.starts
-
-abbrev pub decreases-loop-rest : goal.decreases-loop-rest
-decreases-loop-rest l = length l.rest
+abbrev pub invariant-loop-record : goal.invariant-loop-record
+invariant-loop-record l = record {
+  can : (goal.iterator-loop-record).can_next l.record-iterator;
+  finite : (goal.iterator-loop-record).is_finite l.record-iterator;
+  same : l.record-iterator.sheet.now ≡ l.sheet;
+  noted : Noted l.sheet (left_of l.record-iterator) l.record-iterator.at l.starts;
+}

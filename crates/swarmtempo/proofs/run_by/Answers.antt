@@ -3,17 +3,16 @@ use Rattle.clock_spec.specs.Store.{unused_clear}
 use Rattle.machine_spec.specs.declared.Machine.{Machine}
 use Rattle.image_spec.specs.Image.{image_length}
 use Rattle.image_spec.proofs.Round.{exact-is, inexact, exact-then, image-chip, image-clear}
-use Rattle.run_spec.specs.declared.Ran.{Ran}
 use Rattle.run_spec.proofs.Users.{size-kept}
 use Rattle.entry_spec.proofs.Entry as call
 use Rattle.swarmtempo.proofs.run_by.Goals as goal
 
 pub returns-then-not-exact : goal.returns-then-not-exact
-returns-then-not-exact c =
+returns-then-not-exact g c =
     let a = c.args in
     let p = call.refused a.image.now a.list.now a.answers.now (inexact a.image.now (sym c.exact.ensures ∙ c.if-not-exact.true)) in
     record {
-      value = p.0;
+      value = c.stop_number.ensures ∙ p.0;
       consumed_after = p.1.0;
       written_after = p.1.1.0;
       image_after = p.1.1.1.0;
@@ -23,23 +22,23 @@ returns-then-not-exact c =
       run3 = p.1.1.1.1.1.1.1;
     }
 
-pub load-m-requires : goal.load-m-requires
-load-m-requires c = (exact-is _ (sym c.exact.ensures ∙ c.if-not-exact.false)).long
+pub load-machine-requires : goal.load-machine-requires
+load-machine-requires g c = (exact-is _ (sym c.exact.ensures ∙ c.if-not-exact.false)).long
 
 pub accepted_cleared-requires : goal.accepted_cleared-requires
-accepted_cleared-requires c =
+accepted_cleared-requires g c =
     let i = c.args.image.now in
-    ap (λ (m : Machine). unused_clear m.clock.store) c.load-m.ensures ∙ image-clear i (exact-is i (sym c.exact.ensures ∙ c.if-not-exact.false)).long
+    ap (λ (m : Machine). unused_clear m.clock.store) c.load-machine.ensures ∙ image-clear i (exact-is i (sym c.exact.ensures ∙ c.if-not-exact.false)).long
 
 pub returns-then-not-accepted_cleared : goal.returns-then-not-accepted_cleared
-returns-then-not-accepted_cleared c =
+returns-then-not-accepted_cleared g c =
     let a = c.args in
     let v =
-    exact-then a.image.now c.load-m.result false (sym c.exact.ensures ∙ c.if-not-exact.false) c.load-m.ensures
+    exact-then a.image.now c.load-machine.result false (sym c.exact.ensures ∙ c.if-not-exact.false) c.load-machine.ensures
     (sym c.accepted_cleared.ensures ∙ c.if-not-accepted_cleared.true) in
     let p = call.refused a.image.now a.list.now a.answers.now v in
     record {
-      value = p.0;
+      value = c.stop_number-then-not-accepted_cleared.ensures ∙ p.0;
       consumed_after = p.1.0;
       written_after = p.1.1.0;
       image_after = p.1.1.1.0;
@@ -49,29 +48,29 @@ returns-then-not-accepted_cleared c =
       run3 = p.1.1.1.1.1.1.1;
     }
 
-pub run_accepted-r-requires : goal.run_accepted-r-requires
-run_accepted-r-requires c = sym c.accepted_cleared.ensures ∙ c.if-not-accepted_cleared.false
+pub run_accepted-ran-requires : goal.run_accepted-ran-requires
+run_accepted-ran-requires g c = sym c.accepted_cleared.ensures ∙ c.if-not-accepted_cleared.false
 
 pub save-requires : goal.save-requires
-save-requires c =
+save-requires g c =
     let a = c.args in
     (exact-is a.image.now (sym c.exact.ensures ∙ c.if-not-exact.false)).long
-    ∙ ap image_length (sym (ap (λ (x : Ran). x.machine.clock.store.chip) c.run_accepted-r.ensures.value
-    ∙ size-kept c.load-m.result a.list.now (length a.answers.now)
-    ∙ ap (λ (x : Machine). x.clock.store.chip) c.load-m.ensures
+    ∙ ap image_length (sym (ap (λ (x : Machine). x.clock.store.chip) c.run_accepted-ran.ensures.machine_after
+    ∙ size-kept c.load-machine.result a.list.now (length a.answers.now)
+    ∙ ap (λ (x : Machine). x.clock.store.chip) c.load-machine.ensures
     ∙ image-chip a.image.now))
 
 pub returns : goal.returns
-returns c =
+returns g c =
     let a = c.args in
     let v =
-    exact-then a.image.now c.load-m.result true (sym c.exact.ensures ∙ c.if-not-exact.false) c.load-m.ensures
+    exact-then a.image.now c.load-machine.result true (sym c.exact.ensures ∙ c.if-not-exact.false) c.load-machine.ensures
     (sym c.accepted_cleared.ensures ∙ c.if-not-accepted_cleared.false) in
     let p =
-    call.ran a.image.now a.list.now a.answers.now v c.load-m.result c.load-m.ensures c.run_accepted-r.result c.run_accepted-r.ensures.value
-    c.run_accepted-r.new.answers c.run_accepted-r.ensures.answers_after c.save.new.image c.save.ensures.image_after c.save.ensures.given_back c.save.ensures.valid_after in
+    call.ran a.image.now a.list.now a.answers.now v c.load-machine.result c.run_accepted-ran.new.machine c.load-machine.ensures c.run_accepted-ran.ensures.machine_after c.run_accepted-ran.result c.run_accepted-ran.ensures.value
+    c.run_accepted-ran.new.answers c.run_accepted-ran.ensures.answers_after c.save.new.image c.save.ensures.image_after c.save.ensures.given_back c.save.ensures.valid_after in
     record {
-      value = p.0;
+      value = c.stop_number-2.ensures ∙ p.0;
       consumed_after = p.1.0;
       written_after = p.1.1.0;
       image_after = p.1.1.1.0;

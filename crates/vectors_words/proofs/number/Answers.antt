@@ -1,39 +1,32 @@
-use Rattle.std.proofs.Common.{ℕ, Bool, false, ◌+◌, sym, ap, ◌∙◌}
+use Rattle.std.proofs.Common.{ℕ, ◌≡◌, ◌+◌, ◌<◌, Bool, false, true, cond, List, length, take, drop, unwrap_or, MatchOption, Bor, refl, sym, ap, ◌∙◌, rules, arith}
 use mathlib.Core.Path.{ap₂}
-use mathlib.Core.Bool.{not}
-use Rattle.vectors_words.proofs.Numbers.{on_of, stop, space, dollar, more, unspaced, spaced}
+use Rattle.std.proofs.lemmas.Iterator.{index_from_first}
+use Rattle.vectors_words.specs.declared.Read.{Read}
+use Rattle.vectors_words.specs.Words.{spaced_of, before, value_of, word_of, number_of}
+use Rattle.vectors_words.proofs.Numbers.{worded, at_space, past, part}
 use Rattle.vectors_words.proofs.number.Goals as goal
-use Rattle.vectors_words.proofs.number.Goals.{then-not-spaced, else-not-spaced, then-first-c, else-first-c}
+use Rattle.vectors_words.proofs.number.Goals.{then-spaced, else-spaced}
 
-pub loop-end-init : goal.loop-end-init
-loop-end-init c =
-    let a = c.args in
-    elim c.if-not-spaced.branch [
-      | then-not-spaced w ↦ unspaced a.text.now a.at c.if-not-spaced.value (ap not (sym c.spaced.ensures ∙ w.if-not-spaced.true)) w.value-is
-      | else-not-spaced w ↦ spaced a.text.now a.at c.if-not-spaced.value (ap not (sym c.spaced.ensures ∙ w.if-not-spaced.false)) w.value-is
-    ]
-
-pub returns-then-c-eq32 : goal.returns-then-c-eq32
-returns-then-c-eq32 c =
-    let l = c.loop-end in
-    space c.args.text.now l.value l.hex l.first l.end c.loop-end-test.true c.if-c-eq32.true ∙ l.invariant
-
-pub loop-end-preserved : goal.loop-end-preserved
-loop-end-preserved c =
-    let l = c.loop-end in
-    let text = c.args.text.now in
-    elim c.if-first-c.branch [
-      | then-first-c w ↦
-          ap₂ (λ (v : ℕ) (h : Bool). on_of text v h false (l.end + 1)) w.value-is w.hex-is
-          ∙ sym (dollar text l.value l.hex l.first l.end c.loop-end-test.true c.if-c-eq32.false w.if-first-c.true)
-          ∙ l.invariant
-      | else-first-c w ↦
-          ap₂ (λ (v : ℕ) (h : Bool). on_of text v h false (l.end + 1)) (w.value-is ∙ w.grown-value.ensures) w.hex-is
-          ∙ sym (more text l.value l.hex l.first l.end c.loop-end-test.true c.if-c-eq32.false w.if-first-c.false)
-          ∙ l.invariant
-    ]
+abbrev read_of : ℕ → ℕ → Read
+read_of v e = record { value = v; end = e }
 
 pub returns : goal.returns
+unfolding number_of before
 returns c =
-    let l = c.loop-end in
-    stop c.args.text.now l.value l.hex l.first l.end c.loop-end-test.false ∙ l.invariant
+    let text = c.args.text.now in
+    let at = c.args.at in
+    let rest : c.unwrap_or-rest.result.now ≡ drop (at + 1) text = ap (λ (r : Bor (List ℕ)). r.now) c.unwrap_or-rest.ensures ∙ part text (at + 1) c.get.result _ refl c.get.ensures.lookup.0 in
+    let end : before 32 c.unwrap_or-rest.result.now ≡ unwrap_or c.position.result (length c.unwrap_or-rest.result.now) =
+    index_from_first (before 32) (λ (x : ℕ). x ≡ 32) (λ (x : ℕ). x ≡ 32 → ⊥) refl at_space past c.unwrap_or-rest.result.now c.position.result (search rules) in
+    let start : c.if-spaced.start ≡ cond (spaced_of text at) 0 65536 =
+    elim c.if-spaced.branch [
+      | then-spaced w ↦ w.start-is ∙ simp (sym c.spaced.ensures ∙ w.if-spaced.true)
+      | else-spaced w ↦ w.start-is ∙ simp (sym c.spaced.ensures ∙ w.if-spaced.false)
+    ] in
+    let count : c.unwrap_or-end.result ≡ before 32 c.unwrap_or-rest.result.now = c.unwrap_or-end.ensures ∙ sym end in
+    ap₂ read_of
+    (c.value.ensures
+    ∙ ap₂ (λ (n k : ℕ). word_of n false true (take k c.unwrap_or-rest.result.now)) start count
+    ∙ sym (worded (cond (spaced_of text at) 0 65536) false true c.unwrap_or-rest.result.now)
+    ∙ ap (value_of (cond (spaced_of text at) 0 65536) false true) rest)
+    (ap (λ (k : ℕ). at + 1 + k) (count ∙ ap (before 32) rest))

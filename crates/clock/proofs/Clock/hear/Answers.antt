@@ -2,10 +2,12 @@ use Rattle.std.proofs.Common.{sym, subst}
 use Rattle.clock_spec.proofs.CommandRange.{Sound, hear-sound}
 use Rattle.clock.proofs.Clock.hear.Goals as goal
 
-pub fetch-y-requires : goal.fetch-y-requires
-fetch-y-requires c =
-    subst (Sound c.args.self.store.chip) (sym c.in-Reads.ensures) (hear-sound c.args.self.store.chip c.args.bytes c.args.b)
+pub fetch-requires : goal.fetch-requires
+fetch-requires g c =
+    let k = c.args.self.now.store.chip in
+    subst (Sound k) (sym c.in-Reads.ensures) (hear-sound k c.args.bytes c.args.byte)
 
-pub act-u-requires : goal.act-u-requires
-act-u-requires c =
-    subst (Sound c.args.self.store.chip) (sym c.in-Writes.ensures) (hear-sound c.args.self.store.chip c.args.bytes c.args.b)
+pub act-requires : goal.act-requires
+act-requires g c =
+    let k = c.args.self.now.store.chip in
+    subst (Sound k) (sym c.in-Writes.ensures) (hear-sound k c.args.bytes c.args.byte)

@@ -1,31 +1,34 @@
-use Rattle.std.proofs.Common.{ap, sym, ◌∙◌, arith}
-use Rattle.keyboard.specs.declared.Keyboard.{Keyboard}
-use Rattle.keyboard.specs.declared.Response.TheVariants.{Null, Nothing}
-use Rattle.keyboard.specs.Steps.{respond, wait_of}
-use Rattle.keyboard.proofs.Ticks.{idle, counts, ends}
-use Rattle.keyboard.proofs.Checked.{passed, failed}
+use Rattle.std.proofs.Common.{◌≡◌, Bool, true, false, cond, not, ◌&&◌, Option, Some, None, Ok, ap, refl, sym, ◌∙◌}
+use Rattle.std.specs.Prelude.{eqb, leb}
+use Rattle.std.specs.Bool.{then_some}
+use borrow.Author.Tests.{eq-eqb, ne_eqb}
+use Rattle.keyboard.specs.declared.Reply.{Reply}
+use Rattle.keyboard.specs.declared.Reply.TheVariants.{Null}
+use Rattle.keyboard.specs.State.{with_left}
+use Rattle.keyboard.specs.Numbers.{Response}
+use Rattle.keyboard.specs.Steps.{Stepped}
+use Rattle.keyboard.proofs.Checked.{accepted}
+use Rattle.keyboard.proofs.Ticks.{wait-is}
 use Rattle.keyboard.proofs.Keyboard.wait.Goals as goal
+use Rattle.keyboard.proofs.Keyboard.wait.Goals.{then-self-ne0, else-self-ne0}
 
-pub returns-then-self-eq0 : goal.returns-then-self-eq0
-unfolding wait_of
-returns-then-self-eq0 c =
-    let a = c.args in
-    sym (passed a.self _ (sym c.accepted.ensures ∙ c.if-accepted.true) ∙ idle a.ticks (respond a.self Nothing) c.if-self-eq0.true)
+pub returns-clause-after : goal.returns-clause-after
+returns-clause-after c =
+    let k = c.args.self.now in
+    ap (with_left k) c.saturating_sub-self.ensures ∙ sym (ap (λ (s : Stepped). s.keyboard) (wait-is c.args.ticks k (accepted k c.in_ok-check.ensures)))
 
-pub returns-then-ticks-self : goal.returns-then-ticks-self
-unfolding wait_of
-returns-then-ticks-self c =
-    let a = c.args in
-    ap (λ (k : Keyboard). respond k Nothing) c.with_left.ensures
-    ∙ sym (passed a.self _ (sym c.accepted.ensures ∙ c.if-accepted.true) ∙ counts a.ticks (respond a.self Nothing) c.if-ticks-self.true)
+says : (b : Bool) → ◌≡◌ {A = Response} (Ok (then_some b Null)) (cond b (Ok (Some Null)) (Ok None))
+says true = refl
+says false = refl
 
-pub returns-then-accepted : goal.returns-then-accepted
-unfolding wait_of
-returns-then-accepted c =
-    let a = c.args in
-    ap (λ (k : Keyboard). respond k Null) c.with_left-then-accepted.ensures
-    ∙ sym (passed a.self _ (sym c.accepted.ensures ∙ c.if-accepted.true) ∙ ends a.ticks (respond a.self Nothing) (omega arith) c.if-ticks-self.false)
-
-pub returns : goal.returns
-unfolding wait_of
-returns c = c.out_of_range.ensures ∙ sym (failed c.args.self _ (sym c.accepted.ensures ∙ c.if-accepted.false))
+pub returns-clause-said : goal.returns-clause-said
+returns-clause-said c =
+    let k = c.args.self.now in
+    let ends : c.if-self-ne0.ends ≡ (not (eqb k.left 0) && leb k.left c.args.ticks) =
+    elim c.if-self-ne0.branch [
+      | then-self-ne0 w ↦ w.ends-is ∙ simp (ne_eqb k.left 0 w.if-self-ne0.true)
+      | else-self-ne0 w ↦ w.ends-is ∙ simp (eq-eqb k.left 0 w.if-self-ne0.false)
+    ] in
+    ap (λ (o : Option Reply). Ok o) (c.then_some.ensures ∙ ap (λ (b : Bool). then_some b Null) ends)
+    ∙ says (not (eqb k.left 0) && leb k.left c.args.ticks)
+    ∙ sym (ap (λ (s : Stepped). s.response) (wait-is c.args.ticks k (accepted k c.in_ok-check.ensures)))

@@ -8,13 +8,13 @@ use Rattle.via.proofs.Via.count.Goals as goal
 counting-by : (v : Via) (n w : ℕ) → n ≡ w → only_counts w v ≡ true → Counting n v
 counting-by v n w e h = counting n v (subst (λ k. only_counts k v ≡ true) (sym e) h)
 
-pub overflow_sub-a : goal.overflow_sub-a
-overflow_sub-a c = (counting-by _ _ _ c.tick_count-n.ensures c.requires).first
+pub overflow_sub-self : goal.overflow_sub-self
+overflow_sub-self c = (counting-by _ _ _ c.ticks-n.ensures c.requires).first
 
-pub overflow_sub-b : goal.overflow_sub-b
-overflow_sub-b c = (counting-by _ _ _ c.tick_count-n.ensures c.requires).second
+pub overflow_sub-self-2 : goal.overflow_sub-self-2
+overflow_sub-self-2 c = (counting-by _ _ _ c.ticks-n.ensures c.requires).second
 
 pub returns : goal.returns
 returns c =
     let v = c.args.self in
-    counted c.tick_count-n.result v (counting-by _ _ _ c.tick_count-n.ensures c.requires) ∙ ap (λ (n : ℕ). ticks n v) c.tick_count-n.ensures
+    counted c.ticks-n.result v (counting-by _ _ _ c.ticks-n.ensures c.requires) ∙ ap (λ (n : ℕ). ticks n v) c.ticks-n.ensures

@@ -7,7 +7,7 @@ use Rattle.via.proofs.Via.wait.Goals as goal
 pub returns : goal.returns
 returns c =
     let v = c.args.self in
-    ap₂ (λ (f g : ℕ). with_flags (with_counters v c.run1-a.result c.run2-b.result) (bit_or (bit_or v.flags f) g)) c.pick.ensures c.pick-2.ensures
-    ∙ ap₂ (with_counters v) c.run1-a.ensures c.run2-b.ensures
-    ∙ sym (waits c.tick_count-n.result v)
-    ∙ ap (λ (n : ℕ). ticks n v) c.tick_count-n.ensures
+    ap₂ (λ (f g : ℕ). with_flags (with_counters v c.run-t1.result c.run-t2.result) (bit_or (bit_or v.flags f) g)) c.flag.ensures c.flag-2.ensures
+    ∙ ap₂ (with_counters v) c.run-t1.ensures c.run-t2.ensures
+    ∙ sym (waits c.ticks-n.result v)
+    ∙ ap (λ (n : ℕ). ticks n v) c.ticks-n.ensures
