@@ -1,15 +1,13 @@
 -- A step's parts one after the other, on plain values: the wait, the action or the values, and what the clock and the strobe see.
 use Prim.Native.Nat.{ℕ, ◌<◌}
 use mathlib.Core.Path.{◌≡◌, refl, sym, ap, ap₂, subst, ◌∙◌}
-use mathlib.Core.Bool.{Bool, true, false}
+use mathlib.Core.Bool.{Bool, true}
 use mathlib.Core.List.{List}
 use mathlib.Core.Option.{none}
 use lib.ListN.{length}
-use Rattle.units.specs.Units.{for_ticks}
 use Rattle.units.specs.declared.WaitTicks.{WaitTicks}
-use Rattle.via.specs.Via.{ticks, raised_of, reset_of, fresh_via}
+use Rattle.via.specs.Via.{raised_of, reset_of, fresh_via}
 use Rattle.via.specs.Registers.{register_read}
-use Rattle.via.proofs.Accepted.{ticks-accepted}
 use Rattle.clock_spec.specs.declared.Wires.{Wires}
 use Rattle.clock_spec.specs.Phase.{edge_of, between, accepted_phase}
 use Rattle.clock_spec.specs.declared.Phase.TheVariants.{Idle}
@@ -17,16 +15,12 @@ use Rattle.clock_spec.specs.Store.{act}
 use Rattle.clock.specs.declared.Clock.{Clock}
 use Rattle.clock.specs.Step.{with_phase, next, acts, step_wires, after_edge}
 use Rattle.clock.proofs.Keep.{still}
-use Rattle.disk_spec.specs.declared.Drives.{Drives}
 use Rattle.disk_spec.specs.declared.Watched.{Watched}
-use Rattle.disk_spec.specs.Drives.{drives_ticks, drives_busy, accepted_drives}
-use Rattle.disk_spec.proofs.DrivesLaws.{drives_ticks-accepted, idle-drives}
 use Rattle.item_spec.specs.declared.Item.{Item}
 use Rattle.item_spec.specs.declared.Item.TheVariants.{ReadVia, ReadIwm, WriteVia, WriteIwm, Blank, Second, Line, Sense, Reset, Power, Disk, Pulse}
 use Rattle.item_spec.specs.declared.Location.TheVariants.{Via}
 use Rattle.machine_spec.specs.declared.Machine.{Machine}
-use Rattle.machine_spec.specs.declared.Did.{Did}
-use Rattle.machine_spec.specs.Machine.{with_via, with_clock, with_drives, wires, strobe_levels, accepted_of}
+use Rattle.machine_spec.specs.Machine.{with_clock, wires, strobe_levels, Levels}
 use Rattle.machine_spec.specs.Pins.{wires_of}
 use Rattle.machine_spec.specs.Accesses.{via_read, iwm_read}
 use Rattle.machine_spec.proofs.Step.{pulse-quiet}
@@ -34,25 +28,10 @@ use Rattle.machine_act.specs.Idle.{idled_by}
 use Rattle.machine_spec.specs.Action.{acted_of}
 use Rattle.machine_spec.specs.Stages.{item_wait, after_wait, after_wires, after_strobe}
 use Rattle.machine_spec.specs.Step.{step_of, after_items}
-use Rattle.machine_spec.proofs.MachineLaws.{parts, whole}
 use Rattle.machine_spec.proofs.Action.{acted-accepted}
-use Rattle.machine_spec.proofs.ActionKeeps.{act-keeps-drives}
 use Rattle.machine_spec.proofs.Stages.{waited-wires, waited-watched}
-use Rattle.machine_write.specs.Values.{writes_of, register_written, step_with}
-use Rattle.machine_write.proofs.Apart.{waited, singles-writes, unwritten-step}
-
--- A wait keeps an accepted state accepted.
-pub wait-accepted : (n : ℕ) (m : Machine) → accepted_of m ≡ true → accepted_of (after_wait n m) ≡ true
-wait-accepted n m h =
-    let p = parts m h in
-    whole (after_wait n m)
-    (record {
-      levels = p.levels;
-      via = ticks-accepted n m.via p.via;
-      phase = ap (λ (w : Wires). accepted_phase m.clock.store.chip m.clock.phase w.enable) (waited-wires n m) ∙ p.phase;
-      unused = p.unused;
-      drives = ap (λ (w : Watched). accepted_drives w (drives_ticks n m.drives)) (waited-watched n m) ∙ drives_ticks-accepted n (strobe_levels m) m.drives p.drives;
-    })
+use Rattle.machine_write.specs.Values.{PhaseAccepted, writes_of, register_written, step_with}
+use Rattle.machine_write.proofs.Apart.{waited, singles-writes}
 
 -- Of the kinds but WR to a VIA register, none writes to one.
 pub kinds-unwritten : (i : Item) → ((w : WaitTicks) (r v : ℕ) → i ≡ WriteVia w r v → ⊥) → register_written i ≡ none
@@ -85,7 +64,7 @@ unfolding step_wires between after_edge next acts act
 enabled-idle c w w' h = ap (λ (e : Bool). after_edge c (edge_of e w.enable w.dataclock w'.dataclock w'.dataline)) h
 
 -- What the clock sees of an action that is no write to a VIA register.
-clock-sees : (x : Machine) (i : Item) → ((w : WaitTicks) (r v : ℕ) → i ≡ WriteVia w r v → ⊥) → accepted_phase x.clock.store.chip x.clock.phase (wires x).enable ≡ true
+clock-sees : (x : Machine) (i : Item) → ((w : WaitTicks) (r v : ℕ) → i ≡ WriteVia w r v → ⊥) → PhaseAccepted x
     → after_wires (wires x) (acted_of x i).machine ≡ with_clock (acted_of x i).machine (idled_by i (acted_of x i).machine.clock)
 unfolding acted_of via_read iwm_read register_read raised_of reset_of fresh_via wires_of
 clock-sees x (ReadVia w r) h a = ap (with_clock (acted_of x (ReadVia w r)).machine) (still x.clock (wires x) a)
@@ -105,23 +84,25 @@ clock-sees x (Pulse w l) h a =
     ∙ ap (with_clock z) (still z.clock (wires x) (acted-accepted x (Pulse w l) (wires x).enable ∙ a))
 
 -- x is the machine after the wait, y after the action, z after the looks.
-module _ (m x : Machine) (i : Item) (at : x ≡ after_wait (item_wait i) m) (ok : accepted_of m ≡ true) where
-  pub ready : accepted_of x ≡ true
-  ready = ap accepted_of at ∙ wait-accepted (item_wait i) m ok
+module _ (m x : Machine) (i : Item) (at : x ≡ after_wait (item_wait i) m) where
+  pub levelled : Levels m → Levels x
+  levelled h = subst Levels (sym at) h
+
+  pub ready : PhaseAccepted m → PhaseAccepted x
+  ready h =
+      ap (λ (n : Machine). accepted_phase n.clock.store.chip n.clock.phase (wires n).enable) at
+      ∙ ap (λ (w : Wires). accepted_phase m.clock.store.chip m.clock.phase w.enable) (waited-wires (item_wait i) m) ∙ h
 
   -- y is the machine after the action and what the clock makes of it
-  module _ (none : (w : WaitTicks) (r v : ℕ) → i ≡ WriteVia w r v → ⊥) (v : Watched) (f : v ≡ strobe_levels x) (y : Machine)
+  module _ (ok : PhaseAccepted m) (none : (w : WaitTicks) (r v : ℕ) → i ≡ WriteVia w r v → ⊥) (v : Watched) (f : v ≡ strobe_levels x) (y : Machine)
       (a : y ≡ with_clock (acted_of x i).machine (idled_by i (acted_of x i).machine.clock)) where
-    pub met : accepted_drives v y.drives ≡ true
-    met = ap₂ (λ (n : Machine) (w : Watched). accepted_drives w n.drives) a f ∙ act-keeps-drives x i (strobe_levels x) (parts x ready).drives
-
     pub stepped : {z : Machine} {k : ℕ} → z ≡ after_strobe v y → k ≡ (acted_of x i).value → record { machine = z; value = k } ≡ step_of m i
     unfolding step_of
     stepped {z} {k} g h =
         let s = after_wait (item_wait i) m in
         let watched : v ≡ strobe_levels m = f ∙ ap strobe_levels at ∙ waited-watched (item_wait i) m in
         let seen : y ≡ after_wires (wires m) (acted_of s i).machine =
-        a ∙ sym (clock-sees x i none (parts x ready).phase)
+        a ∙ sym (clock-sees x i none (ready ok))
         ∙ ap₂ (λ (w : Wires) (n : Machine). after_wires w (acted_of n i).machine) (ap wires at ∙ waited-wires (item_wait i) m) at in
         ap₂ (λ (n : Machine) (j : ℕ). record { machine = n; value = j })
         (g ∙ ap₂ (λ (w : Watched) (n : Machine). after_strobe w n) watched seen)

@@ -4,11 +4,11 @@
 ghost use Rattle.std.specs.Prelude.{◌≡◌, ◌<◌, true, length};
 ghost use Rattle.levels.specs.Levels.{all_levels};
 ghost use Rattle.item_spec.specs.Items.{ItemInRange};
-ghost use Rattle.machine_spec.specs.Machine.{Levels, accepted_of};
+ghost use Rattle.machine_spec.specs.Machine.{Levels};
 ghost use Rattle.machine_spec.specs.Stages.{item_wait, after_wait};
 ghost use Rattle.machine_spec.specs.Accesses.{via_read, iwm_read, keyboard_pulse};
 ghost use Rattle.machine_spec.specs.Action.{acted_of};
-ghost use Rattle.machine_write.specs.Values.{step_with};
+ghost use Rattle.machine_write.specs.Values.{PhaseAccepted, step_with};
 ghost use Rattle.machine_act.specs.Idle.{idled_by};
 
 use clock::Clock;
@@ -171,11 +171,11 @@ fn idle_where_undriven(clock: &mut Clock, item: Item)
 }
 
 /// Carries out an item with the values of its record, which it writes one after the other where it writes to a VIA register; and the value read, 0 where nothing is read.
-// `accepted` stays a clause (as in machine_write, run_record and run): between an action and the looks no type with that invariant could hold the machine, and `run` takes any, by refusal 7.
 pub fn step<L: Lookup>(machine: &mut Machine, item: Item, values: &[u8]) -> u8
     requires in_range { ItemInRange item }
     requires some_values { 0 < length values.now }
-    requires accepted { accepted_of machine.old ≡ true }
+    requires levels { Levels machine.old }
+    requires phase { PhaseAccepted machine.old }
     ensures value { result ≡ (step_with machine.old item values.now).value }
     ensures machine_after { machine.new ≡ (step_with machine.old item values.now).machine }
 {

@@ -1,7 +1,6 @@
 -- The values of one record, written as single WR items: what they leave of each part of the machine, part by part.
 use Prim.Native.Nat.{ℕ, ◌+◌, ◌-◌, ◌*◌, ◌/◌, ◌%◌, ◌^◌, ◌≤◌, ◌<◌}
 use mathlib.Core.Path.{◌≡◌, refl, sym, ap, ap₂, ◌∙◌}
-use mathlib.Core.Bool.{Bool, true, false}
 use mathlib.Core.List.{List, [], ◌∷◌}
 use mathlib.Core.Option.{none, some, none-ne-some, some-ne-none, some-injective}
 use native.Mathlib.Omega.{arith}
@@ -24,7 +23,6 @@ use Rattle.disk_spec.specs.Drive.{drive_ticks}
 use Rattle.disk_spec.specs.Strobe.{strobe_ticks}
 use Rattle.disk_spec.specs.Watched.{watched_of}
 use Rattle.disk_spec.specs.Drives.{drives_ticks, drives_after}
-use Rattle.disk_spec.proofs.DrivesLaws.{drives-untouched}
 use Rattle.item_spec.specs.declared.Item.{Item}
 use Rattle.item_spec.specs.declared.Item.TheVariants.{ReadVia, ReadIwm, WriteVia, WriteIwm, Blank, Second, Line, Sense, Reset, Power, Disk, Pulse}
 use Rattle.item_spec.specs.Items.{ItemInRange}
@@ -35,14 +33,13 @@ use Rattle.item_spec.specs.Items.{write_to}
 use Rattle.item_spec.specs.Many.{single, singles_after}
 use Rattle.machine_spec.specs.declared.Machine.{Machine}
 use Rattle.machine_spec.specs.Pins.{sel_of}
-use Rattle.machine_spec.specs.Machine.{wires, strobe_levels, accepted_of}
+use Rattle.machine_spec.specs.Machine.{wires, strobe_levels}
 use Rattle.machine_spec.specs.Action.{acted_of}
 use Rattle.machine_spec.specs.Stages.{item_wait, after_wait, after_wires, after_strobe}
 use Rattle.machine_spec.specs.Step.{step_of, after_items}
-use Rattle.machine_spec.proofs.MachineLaws.{parts}
 use Rattle.machine_spec.proofs.Stages.{waited-wires, waited-watched}
-use Rattle.machine_spec.proofs.Keeps.{step_keeps}
-use Rattle.machine_write.specs.Values.{via_after, clock_after, writes_of, register_written, step_with}
+use Rattle.machine_write.specs.Values.{PhaseAccepted, via_after, clock_after, writes_of, register_written, step_with}
+use Rattle.machine_write.proofs.Looks.{phase-keeps, settled}
 use Rattle.machine_write.proofs.Strobes.{strobes_after}
 
 -- ---- a VIA register
@@ -117,33 +114,37 @@ access-twice : (k : ℕ) (d : DiskLines) → k < 16 → after_access k (after_ac
 unfolding after_access
 access-twice k d h = ap (λ (n : ℕ). record { lines = n }) (twice (k / 2) d.lines (k % 2) (omega arith))
 
+-- The strobe has looked at the levels as they are.
+abbrev Looked : Machine → Type 0
+Looked m = drives_after (strobe_levels m) (strobe_levels m) m.drives ≡ m.drives
+
 -- A second access changes nothing.
-idle-access : (m : Machine) (k v : ℕ) → accepted_of m ≡ true → after_access k m.disk ≡ m.disk → (step_of m (WriteIwm (for_ticks 0) k v)).machine ≡ m
+idle-access : (m : Machine) (k v : ℕ) → PhaseAccepted m → Looked m → after_access k m.disk ≡ m.disk → (step_of m (WriteIwm (for_ticks 0) k v)).machine ≡ m
 unfolding step_of item_wait acted_of ticks drives_ticks drive_ticks strobe_ticks
-idle-access m k v a e =
-    let p = parts m a in
+idle-access m k v h s e =
     ap (λ (l : DiskLines). record { via = m.via; clock = step_wires m.clock (wires m) (wires m); disk = l; inputs = m.inputs; sense = m.sense; drives = drives_after (strobe_levels m) (watched_of l (sel_of m.via.ports)) m.drives }) e
     ∙ ap₂ (λ (c : Clock) (d : Drives). record { via = m.via; clock = c; disk = m.disk; inputs = m.inputs; sense = m.sense; drives = d })
-    (still m.clock (wires m) p.phase) (drives-untouched (strobe_levels m) m.drives p.drives)
+    (still m.clock (wires m) h) s
 
-idle-accesses : (m : Machine) (w : WaitTicks) (k : ℕ) (vs : List ℕ) → accepted_of m ≡ true → after_access k m.disk ≡ m.disk
+idle-accesses : (m : Machine) (w : WaitTicks) (k : ℕ) (vs : List ℕ) → PhaseAccepted m → Looked m → after_access k m.disk ≡ m.disk
     → after_items m (singles_after (record { wait = w; to = Iwm k }) (for_ticks 0) vs) ≡ m
-idle-accesses m w k [] a e = refl
-idle-accesses m w k (v ∷ vs) a e =
-    ap (λ (n : Machine). after_items n (singles_after (record { wait = w; to = Iwm k }) (for_ticks 0) vs)) (idle-access m k v a e)
-    ∙ idle-accesses m w k vs a e
+idle-accesses m w k [] h s e = refl
+idle-accesses m w k (v ∷ vs) h s e =
+    ap (λ (n : Machine). after_items n (singles_after (record { wait = w; to = Iwm k }) (for_ticks 0) vs)) (idle-access m k v h s e)
+    ∙ idle-accesses m w k vs h s e
 
-iwm-once : (m : Machine) (w : WaitTicks) (k v : ℕ) (vs : List ℕ) → accepted_of m ≡ true → k < 16 → 0 < length vs
+iwm-once : (m : Machine) (w : WaitTicks) (k v : ℕ) (vs : List ℕ) → PhaseAccepted m → k < 16 → 0 < length vs
     → after_items m (singles_after (record { wait = w; to = Iwm k }) w vs) ≡ (step_of m (WriteIwm w k v)).machine
 unfolding step_of acted_of item_wait
 iwm-once m w k v [] a h n = absurd (omega arith)
 iwm-once m w k v (u ∷ vs) a h n =
-    idle-accesses (step_of m (WriteIwm w k u)).machine w k vs (step_keeps m (WriteIwm w k u) h a) (access-twice k m.disk h)
+    let x = (step_of m (WriteIwm w k u)).machine in
+    idle-accesses x w k vs (phase-keeps m (WriteIwm w k u) a) (settled (strobe_levels m) (strobe_levels x) (drives_ticks w.0 m.drives)) (access-twice k m.disk h)
 
 -- ---- an item with its values
 
 -- Where it writes to no VIA register, it is the item.
-pub unwritten-step : (m : Machine) (i : Item) (vs : List ℕ) → register_written i ≡ none → accepted_of m ≡ true → ItemInRange i → 0 < length vs → step_with m i vs ≡ step_of m i
+pub unwritten-step : (m : Machine) (i : Item) (vs : List ℕ) → register_written i ≡ none → PhaseAccepted m → ItemInRange i → 0 < length vs → step_with m i vs ≡ step_of m i
 unfolding step_with register_written
 unwritten-step m (ReadVia w r) vs o a h n = refl
 unwritten-step m (ReadIwm w k) vs o a h n = refl

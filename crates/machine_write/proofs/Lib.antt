@@ -1,4 +1,5 @@
 pub mod Values
+pub mod Looks
 pub mod Strobes
 pub mod Apart
 pub mod Writes

@@ -5,7 +5,7 @@ use mathlib.Core.Bool.{Bool, true, false, cond, not, ◌&&◌, ◌||◌, beq, tr
 use mathlib.Core.List.{List, [], ◌∷◌}
 use native.Mathlib.Omega.{arith}
 use lib.Dec.{eqb}
-use lib.ListN.{length, get_or}
+use lib.ListN.{length}
 use Rattle.via.specs.declared.Ports.{Ports}
 use Rattle.via.specs.Writes.{ports_written}
 use Rattle.disk_lines.specs.declared.DiskLines.{DiskLines}

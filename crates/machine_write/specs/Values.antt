@@ -1,12 +1,12 @@
 -- The values that one record writes, one after the other. W-211: an MW has the effect of single WR items; a WR is one of them.
-use Rattle.std.specs.Prelude.{ℕ, Bool, true, false, cond, not, List, [], ◌∷◌, eqb}
+use Rattle.std.specs.Prelude.{ℕ, ◌≡◌, Bool, true, false, cond, not, List, [], ◌∷◌, eqb}
 use Rattle.std.specs.Bool.{beq}
 use Rattle.std.proofs.Math.Option.{Option, none, some}
 use Rattle.units.specs.Units.{for_ticks}
 use Rattle.via.specs.declared.Ports.{Ports}
 use Rattle.via.specs.declared.Via.{Via}
 use Rattle.via.specs.Writes.{ports_written, via_written}
-use Rattle.clock_spec.specs.Phase.{shown_level}
+use Rattle.clock_spec.specs.Phase.{shown_level, accepted_phase}
 use Rattle.clock.specs.declared.Clock.{Clock}
 use Rattle.clock.specs.Step.{step_wires}
 use Rattle.disk_spec.specs.declared.Drives.{Drives}
@@ -19,7 +19,12 @@ use Rattle.item_spec.specs.Many.{singles_after}
 use Rattle.machine_spec.specs.declared.Machine.{Machine}
 use Rattle.machine_spec.specs.declared.Did.{Did}
 use Rattle.machine_spec.specs.Pins.{wires_of, sel_of}
+use Rattle.machine_spec.specs.Machine.{wires}
 use Rattle.machine_spec.specs.Step.{step_of, after_items}
+
+-- Of an accepted state this alone is asked: "the chip is idle exactly while enable is 1", and otherwise its phase is in its ranges.
+abbrev pub PhaseAccepted : Machine → Type 0
+PhaseAccepted m = accepted_phase m.clock.store.chip m.clock.phase (wires m).enable ≡ true
 
 -- ---- values written to a VIA register
 

@@ -3,12 +3,10 @@
 
 ghost use Rattle.std.specs.Prelude.{◌≡◌, true, not, eqb, ◌&&◌, ◌<◌};
 ghost use Rattle.disk_spec.specs.Watched.{watched_of};
-ghost use Rattle.disk_spec.specs.Drives.{accepted_drives};
 ghost use Rattle.machine_spec.specs.Pins.{sel_of};
-ghost use Rattle.machine_spec.specs.Machine.{accepted_of};
 ghost use Rattle.machine_spec.specs.Stages.{after_strobe};
 ghost use Rattle.machine_spec.specs.Step.{after_items};
-ghost use Rattle.machine_write.specs.Values.{writes_of};
+ghost use Rattle.machine_write.specs.Values.{PhaseAccepted, writes_of};
 
 use clock_command::Lookup;
 use disk_lines::{DiskLines, Line};
@@ -19,7 +17,6 @@ use via::Ports;
 /// a fifth of a VB.
 #[inline(always)]
 pub fn strobe(machine: &mut Machine, disk: DiskLines, ports: Ports)
-    requires { accepted_drives (watched_of disk (sel_of ports)) machine.old.drives ≡ true }
     ensures { machine.new ≡ after_strobe (watched_of disk (sel_of ports)) machine.old }
 {
     let was = disk.is_on(Line::Lstrb);
@@ -28,6 +25,8 @@ pub fn strobe(machine: &mut Machine, disk: DiskLines, ports: Ports)
         let before = disk_strobe::watched_of(disk, machine_pins::sel_of(ports));
         let after = machine_pins::strobe_levels(machine);
         machine.drives = disk_drives::after(machine.drives, before, after);
+    } else {
+        machine.drives.strobe = disk_strobe::off();
     }
 }
 
@@ -36,7 +35,7 @@ pub fn strobe(machine: &mut Machine, disk: DiskLines, ports: Ports)
 fn write_under_strobe(machine: &mut Machine, register: u8, values: &[u8])
     requires register_in_range { register < 16 }
     requires no_wire { (not (eqb register 0) && not (eqb register 2)) ≡ true }
-    requires accepted { accepted_of machine.old ≡ true }
+    requires phase { PhaseAccepted machine.old }
     ensures { machine.new ≡ after_items machine.old (writes_of register values.now) }
 {
     for &value in values {
@@ -47,12 +46,15 @@ fn write_under_strobe(machine: &mut Machine, register: u8, values: &[u8])
 }
 
 /// Writes the values to a VIA register, each a WR of its own with no wait. Port B and its direction move the clock's wires alone, the other registers at most SEL, at which the
-/// strobe looks while LSTRB is on.
+/// strobe looks while LSTRB is on: after each value there, else once for all of them.
 pub fn write<L: Lookup>(machine: &mut Machine, register: u8, values: &[u8])
     requires register_in_range { register < 16 }
-    requires accepted { accepted_of machine.old ≡ true }
+    requires phase { PhaseAccepted machine.old }
     ensures { machine.new ≡ after_items machine.old (writes_of register values.now) }
 {
+    if values.is_empty() {
+        return;
+    }
     let mut via = machine.via;
     if (register != 0) & (register != 2) {
         if machine.disk.is_on(Line::Lstrb) {
@@ -62,6 +64,7 @@ pub fn write<L: Lookup>(machine: &mut Machine, register: u8, values: &[u8])
                 via = via.write(register, value);
             }
             machine.via = via;
+            strobe(machine, machine.disk, via.ports);
         }
     } else {
         for &value in values {
@@ -72,5 +75,6 @@ pub fn write<L: Lookup>(machine: &mut Machine, register: u8, values: &[u8])
             machine.clock.look::<L>(before, after);
         }
         machine.via = via;
+        strobe(machine, machine.disk, via.ports);
     }
 }

@@ -1,23 +1,21 @@
-use Rattle.std.proofs.Common.{ℕ, ◌≡◌, ◌∙◌, refl, sym, ap, subst}
+use Rattle.std.proofs.Common.{ℕ, ◌≡◌, ◌∙◌, refl, sym, ap}
 use Rattle.item_spec.specs.declared.Item.{Item}
-use Rattle.item_spec.specs.declared.Item.TheVariants.{WriteVia}
 use Rattle.machine_spec.specs.declared.Machine.{Machine}
 use Rattle.machine_spec.specs.declared.Did.{Did}
-use Rattle.machine_spec.specs.Machine.{with_clock, strobe_levels, accepted_of}
+use Rattle.machine_spec.specs.Machine.{with_clock, strobe_levels}
 use Rattle.machine_spec.specs.Action.{acted_of}
 use Rattle.machine_act.specs.Idle.{idled_by}
 use Rattle.machine_spec.specs.Stages.{item_wait, after_wait}
 use Rattle.machine_spec.specs.Step.{step_of, after_items}
-use Rattle.machine_spec.proofs.MachineLaws.{parts}
 use Rattle.machine_write.specs.Values.{writes_of, step_with}
 use Rattle.machine_write.proofs.Apart.{unwritten-step}
 use Rattle.machine_act.proofs.Steps as steps
 use Rattle.machine_act.proofs.step.Goals as goal
 
-pub write-requires-clause-accepted : goal.write-requires-clause-accepted
-write-requires-clause-accepted g c =
+pub write-requires-clause-phase : goal.write-requires-clause-phase
+write-requires-clause-phase g c =
     let m = c.args.machine.now in
-    steps.ready m c.wait.new.machine c.args.item (c.wait.ensures ∙ ap (λ (n : ℕ). after_wait n m) c.wait_of.ensures) c.requires.accepted
+    steps.ready m c.wait.new.machine c.args.item (c.wait.ensures ∙ ap (λ (n : ℕ). after_wait n m) c.wait_of.ensures) c.requires.phase
 
 pub returns-in-WriteVia-clause-value : goal.returns-in-WriteVia-clause-value
 returns-in-WriteVia-clause-value g c =
@@ -40,16 +38,7 @@ pub act-value-requires : goal.act-value-requires
 act-value-requires g c =
     let m = c.args.machine.now in
     let at = c.wait.ensures ∙ ap (λ (n : ℕ). after_wait n m) c.wait_of.ensures in
-    record { in_range = c.requires.in_range; levels = (parts _ (steps.ready m c.wait.new.machine c.args.item at c.requires.accepted)).levels }
-
-pub strobe-requires : goal.strobe-requires
-strobe-requires g c =
-    let m = c.args.machine.now in
-    let at = c.wait.ensures ∙ ap (λ (n : ℕ). after_wait n m) c.wait_of.ensures in
-    let y = with_clock c.act-value.new.machine c.idle_where_undriven.new.clock in
-    let a : y ≡ with_clock (acted_of c.wait.new.machine c.args.item).machine (idled_by c.args.item (acted_of c.wait.new.machine c.args.item).machine.clock) =
-    ap (with_clock c.act-value.new.machine) c.idle_where_undriven.ensures ∙ ap (λ (n : Machine). with_clock n (idled_by c.args.item n.clock)) c.act-value.ensures.machine_after in
-    steps.met m c.wait.new.machine c.args.item at c.requires.accepted c.in_default.not-WriteVia (strobe_levels c.wait.new.machine) refl y a
+    record { in_range = c.requires.in_range; levels = steps.levelled m c.wait.new.machine c.args.item at c.requires.levels }
 
 pub returns : goal.returns
 returns g c =
@@ -61,7 +50,7 @@ returns g c =
     let a : y ≡ with_clock (acted_of c.wait.new.machine c.args.item).machine (idled_by c.args.item (acted_of c.wait.new.machine c.args.item).machine.clock) =
     ap (with_clock c.act-value.new.machine) c.idle_where_undriven.ensures ∙ ap (λ (n : Machine). with_clock n (idled_by c.args.item n.clock)) c.act-value.ensures.machine_after in
     let one : step_with m i vs ≡ step_of m i =
-    unwritten-step m i vs (steps.kinds-unwritten i c.in_default.not-WriteVia) c.requires.accepted c.requires.in_range c.requires.some_values in
+    unwritten-step m i vs (steps.kinds-unwritten i c.in_default.not-WriteVia) c.requires.phase c.requires.in_range c.requires.some_values in
     let done : record { machine = c.strobe.new.machine; value = c.act-value.result } ≡ step_with m i vs =
-    steps.stepped m c.wait.new.machine i at c.requires.accepted c.in_default.not-WriteVia (strobe_levels c.wait.new.machine) refl y a c.strobe.ensures c.act-value.ensures.value ∙ sym one in
+    steps.stepped m c.wait.new.machine i at c.requires.phase c.in_default.not-WriteVia (strobe_levels c.wait.new.machine) refl y a c.strobe.ensures c.act-value.ensures.value ∙ sym one in
     record { value = ap (λ (d : Did). d.value) done; machine_after = ap (λ (d : Did). d.machine) done }

@@ -1,12 +1,11 @@
-use Rattle.std.proofs.Common.{◌≡◌, true, drop}
-use Rattle.machine_spec.specs.Machine.{accepted_of}
+use Rattle.std.proofs.Common.{◌≡◌, drop}
 use Rattle.machine_spec.specs.Step.{after_items}
-use Rattle.machine_write.specs.Values.{writes_of}
+use Rattle.machine_write.specs.Values.{PhaseAccepted, writes_of}
 use Rattle.machine_write.proofs.write_under_strobe.Given as goal
 
 -- the values that are left take the machine to where all of them take the first one
 abbrev pub invariant-loop-value : goal.invariant-loop-value
 invariant-loop-value l = record {
-  accepted : accepted_of l.machine ≡ true;
+  phase : PhaseAccepted l.machine;
   left : after_items l.machine (writes_of l.register (drop l.value-index l.values)) ≡ after_items l.initial.machine (writes_of l.register l.values);
 }
