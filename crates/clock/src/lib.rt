@@ -73,6 +73,13 @@ impl Clock {
         }
     }
 
+    /// The chip is idle, whatever it did; what it stores stays.
+    pub fn idle(&mut self)
+        ensures { self.new ≡ with_phase self.old Phase.Idle }
+    {
+        self.phase = Phase::Idle;
+    }
+
     /// The chip looks at its wires: the levels before an item and after it. Cells are reached at the last bit of a byte alone.
     #[tactic(auto, unfolding(crate::specs::Step::step_wires, crate::specs::Step::after_edge, crate::specs::Step::next, crate::specs::Step::acts, clock_spec::specs::Store::act))]
     pub fn look<L: Lookup>(&mut self, before: Wires, after: Wires)

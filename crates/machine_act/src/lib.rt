@@ -13,7 +13,6 @@ ghost use Rattle.machine_act.specs.Idle.{idled_by};
 
 use clock::Clock;
 use clock_command::Lookup;
-use clock_spec::Phase;
 use disk_lines::DiskLines;
 use item_spec::Item;
 use machine_spec::Machine;
@@ -166,7 +165,7 @@ fn idle_where_undriven(clock: &mut Clock, item: Item)
     ensures { clock.new ≡ idled_by item clock.old }
 {
     if let Item::Reset { .. } | Item::Power { .. } = item {
-        clock.phase = Phase::Idle;
+        clock.idle();
     }
 }
 

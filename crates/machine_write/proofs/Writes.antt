@@ -24,8 +24,9 @@ use Rattle.disk_lines.specs.Lines.{lstrb}
 use Rattle.disk_spec.specs.Drive.{drive_ticks}
 use Rattle.disk_spec.specs.Watched.{watched_of}
 use Rattle.disk_spec.specs.declared.Strobe.{Strobe}
-use Rattle.disk_spec.specs.Strobe.{no_strobe, strobe_ticks}
-use Rattle.disk_spec.specs.Drives.{with_strobe, drives_ticks, drives_after}
+use Rattle.disk_spec.specs.Strobe.{no_strobe, strobe_ticks, strobe_after}
+use Rattle.disk_spec.specs.Drives.{with_strobe, drives_ticks, drives_written, drives_after}
+use Rattle.disk_spec.proofs.Pulses.{level-writes-nothing}
 use Rattle.item_spec.specs.declared.Item.TheVariants.{WriteVia}
 use Rattle.machine_spec.specs.declared.Machine.{Machine}
 use Rattle.machine_spec.specs.Machine.{with_via, with_clock, with_drives, wires, strobe_levels}
@@ -86,6 +87,18 @@ written-unclocked m r v h a =
     write_step m r v
     ∙ ap (λ (w : Wires). after_strobe (strobe_levels m) (with_clock n (step_wires m.clock (wires m) w))) (other-register r v m.via.ports (shown_level m.clock.phase) h)
     ∙ ap (λ (c : Clock). after_strobe (strobe_levels m) (with_clock n c)) (still m.clock (wires m) a)
+
+-- Nor does a look of the strobe write to a drive, since LSTRB stays.
+pub written-looked : (m : Machine) (r v : ℕ) {s : Strobe} → (not (eqb r 0) && not (eqb r 2)) ≡ true → PhaseAccepted m
+    → s ≡ strobe_after (strobe_levels m) (watched_of m.disk (sel_of (via_written r v m.via).ports)) m.drives.strobe
+    → with_drives (with_via m (via_written r v m.via)) (with_strobe m.drives s) ≡ (step_of m (WriteVia (for_ticks 0) r v)).machine
+unfolding watched_of drives_after
+written-looked m r v {s} h a e =
+    let n = with_via m (via_written r v m.via) in
+    ap (λ (t : Strobe). with_drives n (with_strobe m.drives t)) e
+    ∙ sym (ap (λ (b : Bool). with_drives n (with_strobe (drives_written b (strobe_levels n) m.drives) (strobe_after (strobe_levels m) (strobe_levels n) m.drives.strobe)))
+    (level-writes-nothing (strobe_levels m) (strobe_levels n) m.drives.strobe refl))
+    ∙ sym (written-unclocked m r v h a)
 
 -- ---- the strobe looks once for all values, where they leave LSTRB off or move no level that it goes by
 

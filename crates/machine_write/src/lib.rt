@@ -30,7 +30,7 @@ pub fn strobe(machine: &mut Machine, disk: DiskLines, ports: Ports)
     }
 }
 
-// The values where LSTRB is on and none of them moves a wire of the clock: the strobe looks after each.
+// The values where LSTRB is on and none of them moves a wire of the clock: the strobe looks after each. VIA and strobe are in hand meanwhile: stored after each value they cost twice as much.
 #[inline(never)]
 fn write_under_strobe(machine: &mut Machine, register: u8, values: &[u8])
     requires register_in_range { register < 16 }
@@ -38,11 +38,17 @@ fn write_under_strobe(machine: &mut Machine, register: u8, values: &[u8])
     requires phase { PhaseAccepted machine.old }
     ensures { machine.new ≡ after_items machine.old (writes_of register values.now) }
 {
+    let disk = machine.disk;
+    let mut via = machine.via;
+    let mut strobe = machine.drives.strobe;
     for &value in values {
-        let ports = machine.via.ports;
-        machine.via = machine.via.write(register, value);
-        strobe(machine, machine.disk, ports);
+        let before = disk_strobe::watched_of(disk, machine_pins::sel_of(via.ports));
+        via = via.write(register, value);
+        let after = disk_strobe::watched_of(disk, machine_pins::sel_of(via.ports));
+        strobe = disk_strobe::after(strobe, before, after);
     }
+    machine.via = via;
+    machine.drives.strobe = strobe;
 }
 
 /// Writes the values to a VIA register, each a WR of its own with no wait. Port B and its direction move the clock's wires alone, the other registers at most SEL, at which the

@@ -1,23 +1,38 @@
-use Rattle.std.proofs.Common.{◌≡◌, get_or, sym, ap, ◌∙◌}
+use Rattle.std.proofs.Common.{◌≡◌, get_or, ap, ◌∙◌}
+use mathlib.Core.Path.{ap₂}
 use Rattle.units.specs.Units.{for_ticks}
 use Rattle.clock_spec.specs.Phase.{accepted_phase}
+use Rattle.disk_spec.specs.Drives.{with_strobe}
+use Rattle.disk_spec.specs.declared.Watched.{Watched}
+use Rattle.disk_spec.specs.Watched.{watched_of}
+use Rattle.disk_spec.specs.Strobe.{strobe_after}
 use Rattle.item_spec.specs.declared.Item.TheVariants.{WriteVia}
 use Rattle.machine_spec.specs.declared.Machine.{Machine}
-use Rattle.machine_spec.specs.Machine.{wires}
+use Rattle.machine_spec.specs.Machine.{with_via, with_drives, wires, strobe_levels}
+use Rattle.machine_spec.specs.Pins.{sel_of}
 use Rattle.machine_spec.specs.Step.{step_of}
+use Rattle.via.specs.declared.Via.{Via}
+use Rattle.via.specs.Writes.{via_written}
 use Rattle.machine_write.proofs.Looks.{phase-keeps}
-use Rattle.machine_write.proofs.Writes.{written-unclocked, write_next}
+use Rattle.machine_write.proofs.Writes.{written-looked, write_next}
 use Rattle.machine_write.proofs.write_under_strobe.Goals as goal
 
 -- Each value is a step.
 pub loop-value-preserved : goal.loop-value-preserved
 loop-value-preserved c =
     let l = c.loop-value in
+    let m = c.args.machine.now in
+    let n = with_drives (with_via m l.via) (with_strobe m.drives l.strobe) in
     let r = c.args.register in
     let v = get_or c.args.values.now l.value-index 0 in
-    let stepped : c.strobe.new.machine ≡ (step_of l.machine (WriteVia (for_ticks 0) r v)).machine =
-    c.strobe.ensures ∙ simp c.write-machine.ensures (sym (written-unclocked l.machine r v c.requires.no_wire l.invariant.phase)) in
+    let before : c.watched_of-before.result ≡ strobe_levels n = c.watched_of-before.ensures ∙ ap (watched_of m.disk) c.sel_of.ensures.0 in
+    let after : c.watched_of-after.result ≡ watched_of m.disk (sel_of (via_written r v n.via).ports) =
+    c.watched_of-after.ensures ∙ ap (watched_of m.disk) (c.sel_of-in-loop-value.ensures.0 ∙ ap (λ (x : Via). sel_of x.ports) c.write-via.ensures) in
+    let looked : c.after-strobe.result ≡ strobe_after (strobe_levels n) (watched_of n.disk (sel_of (via_written r v n.via).ports)) n.drives.strobe =
+    c.after-strobe.ensures ∙ ap₂ (λ (b a : Watched). strobe_after b a l.strobe) before after in
+    let stepped : with_drives (with_via m c.write-via.result) (with_strobe m.drives c.after-strobe.result) ≡ (step_of n (WriteVia (for_ticks 0) r v)).machine =
+    ap (λ x. with_drives (with_via m x) (with_strobe m.drives c.after-strobe.result)) c.write-via.ensures ∙ written-looked n r v c.requires.no_wire l.invariant.phase looked in
     record {
-      phase = ap (λ (x : Machine). accepted_phase x.clock.store.chip x.clock.phase (wires x).enable) stepped ∙ phase-keeps l.machine (WriteVia (for_ticks 0) r v) l.invariant.phase;
-      left = write_next r c.args.values.now l.value-index l.machine c.loop-value-test.true _ stepped ∙ l.invariant.left;
+      phase = ap (λ (x : Machine). accepted_phase x.clock.store.chip x.clock.phase (wires x).enable) stepped ∙ phase-keeps n (WriteVia (for_ticks 0) r v) l.invariant.phase;
+      left = write_next r c.args.values.now l.value-index n c.loop-value-test.true _ stepped ∙ l.invariant.left;
     }
