@@ -113,7 +113,7 @@ fn exact_parts(image: &[u8]) -> bool
     requires { length image.now ≡ image_length (chip_of image.now) }
     ensures { result ≡ parts_exact image.now }
 {
-    let head = image_layout::exact::<Chip, _>(part(image, HEAD));
+    let head = image_layout::exact_head(image, Chip::from_bytes(part(image, HEAD)));
     let via = image_layout::exact::<Via, _>(part(image, VIA));
     let phase = image_layout::exact::<Phase, _>(phase_bytes(image));
     let registers = image_layout::exact::<Registers, _>(part(image, REGISTERS));

@@ -6,7 +6,7 @@
 
 ghost use Rattle.std.specs.Prelude.{◌≡◌, ℕ, List, ◌+◌, ◌≤◌, length};
 ghost use Rattle.octets.specs.Octets.{put_at};
-ghost use Rattle.image_spec.specs.Layout.{part, tail_length, image_length, kind_bytes, head_bytes, chip_of, same_bytes};
+ghost use Rattle.image_spec.specs.Layout.{head_length, tail_at, part, tail_length, image_length, kind_bytes, head_bytes, head_exact, chip_of, same_bytes};
 
 use clock_spec::Chip;
 
@@ -133,6 +133,14 @@ pub fn exact<T: Layout<N>, const N: usize>(bytes: [u8; N]) -> bool
     ensures { result ≡ same_bytes (T.bytes_of (T.value_of bytes.entry)) bytes.entry }
 {
     T::from_bytes(bytes).to_bytes() == bytes
+}
+
+/// Whether an image has this chip's head.
+pub fn exact_head(image: &[u8], chip: Chip) -> bool
+    requires { tail_at ≤ length image.now }
+    ensures { result ≡ head_exact chip (part 0 head_length image.now) }
+{
+    chip.to_bytes() == part(image, HEAD)
 }
 
 /// The head stands for the chip: the length of what follows it, and the kind.

@@ -1,6 +1,5 @@
-use Rattle.std.proofs.Common.{ℕ, ◌≡◌, List, [], ◌∷◌, ◌++◌, length, ap, ap₂, ◌∙◌, arith}
+use Rattle.std.proofs.Common.{ℕ, ◌≡◌, List, ap, ap₂, ◌∙◌, arith}
 use Rattle.clock_spec.specs.declared.Chip.{Chip}
-use Rattle.clock_spec.specs.declared.Phase.{Phase}
 use Rattle.image_spec.specs.Layout.{phase_at, phase_length, registers_at, registers_length, cells_at, cells_length, tail_at, tail_length, part, chip_of}
 use Rattle.image_spec.specs.ClockLayout.{phase_of, second_of, cells_read, clock_of, store_of}
 use Rattle.image_spec.specs.Image.{machine_of}
