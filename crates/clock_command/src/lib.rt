@@ -35,9 +35,11 @@ pub trait Lookup {
 }
 
 /// A first byte is looked up in the table.
+#[derive(Clone, Copy)]
 pub struct Table;
 
 /// A first byte is held against the patterns, one after the other.
+#[derive(Clone, Copy)]
 pub struct Patterns;
 
 // "z=1 for read."
