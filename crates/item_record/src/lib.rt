@@ -2,7 +2,10 @@
 #![tactic(auto)]
 
 ghost use Rattle.std.specs.Prelude.{◌≡◌, ◌+◌, ◌≤◌, length};
+ghost use Rattle.refusal.specs.declared.Refusal.{Refusal};
+ghost use Rattle.refusal.specs.Numbers.{number_of};
 ghost use Rattle.item_spec.specs.Record.{frame_of, answer_bytes};
+ghost use Rattle.item_record.specs.Refused.{no_bytes};
 ghost use Rattle.octets.specs.Octets.{put_at};
 
 use item_spec::{Answer, Shown};
@@ -27,6 +30,15 @@ pub fn frame(list: &[u8]) -> Option<usize>
     Some(n + 2)
 }
 
+/// The eight bytes of an answer of kind NO with this number, which need not be one of the refusals'.
+#[tactic(auto, unfolding(crate::specs::Refused::no_bytes))]
+pub fn no(number: u8) -> [u8; 8]
+    ensures bytes { result ≡ no_bytes number }
+    ensures of_refusal { (r : Refusal) → number ≡ number_of r → result ≡ answer_bytes (Err r) }
+{
+    [6, 0, NO[0], NO[1], number, 0, 0, 0]
+}
+
 /// The eight bytes of an answer.
 #[tactic(auto, unfolding(item_spec::specs::Record::answer_bytes))]
 pub fn answer_bytes(answer: Answer) -> [u8; 8]
@@ -42,7 +54,7 @@ pub fn answer_bytes(answer: Answer) -> [u8; 8]
             } = shown;
             [6, 0, OK[0], OK[1], value, level, lines, sel]
         }
-        Err(refusal) => [6, 0, NO[0], NO[1], u8::from(refusal), 0, 0, 0],
+        Err(refusal) => no(u8::from(refusal)),
     }
 }
 

@@ -1,11 +1,14 @@
 //! The levels of the lines that the board goes by: what it gives the VIA's ports, the clock's three wires, SEL, the strobe's levels, the interrupt level.
 #![tactic(auto)]
 
-ghost use Rattle.std.specs.Prelude.{◌≡◌, true, ◌<◌, ◌+◌, ◌*◌};
+ghost use Rattle.std.specs.Prelude.{◌≡◌, true, List, ℕ, ◌<◌, ◌+◌, ◌*◌};
 ghost use Rattle.levels.specs.Levels.{all_levels};
+ghost use Rattle.clock.specs.declared.Clock.{Clock};
+ghost use Rattle.disk_spec.specs.declared.Drives.{Drives};
 ghost use Rattle.machine_spec.specs.Pins.{pin, wires_of, sel_of};
 ghost use Rattle.machine_spec.specs.Machine.{wires, strobe_levels};
 ghost use Rattle.machine_spec.specs.Wiring.{inputs_of, interrupt_level};
+ghost use Rattle.machine_pins.specs.Board.{on_board};
 
 use clock_spec::Wires;
 use disk_spec::Watched;
@@ -54,9 +57,10 @@ pub fn wires(machine: &Machine) -> Wires
     )
 }
 
-/// The levels that the drives' strobe goes by.
+/// The levels that the drives' strobe goes by. What stands beside the board has no part in it.
 pub fn strobe_levels(machine: &Machine) -> Watched
-    ensures { result ≡ strobe_levels machine.now }
+    ensures levels { result ≡ strobe_levels machine.now }
+    ensures of_board { (clock : Clock) (sense : List ℕ) (drives : Drives) → result ≡ strobe_levels (on_board machine.now clock sense drives) }
 {
     disk_strobe::watched_of(machine.disk, sel_of(machine.via.ports))
 }

@@ -1,5 +1,5 @@
 -- A record carried out leaves its turn's machine and answer; one refused leaves the machine.
-use Rattle.std.proofs.Common.{List, ℕ, ◌≡◌, ◌∙◌, Ok, Result, sym, ap}
+use Rattle.std.proofs.Common.{List, ℕ, ◌≡◌, ◌∙◌, Ok, Result, refl, sym, ap}
 use Rattle.std.proofs.lemmas.Result.{err_from_is_err_and}
 use Rattle.refusal.specs.declared.Refusal.{Refusal}
 use Rattle.item_spec.specs.declared.Shown.{Shown}
@@ -20,11 +20,11 @@ pub returns-in_err-item-clause-answer : goal.returns-in_err-item-clause-answer
 unfolding turn_judged
 returns-in_err-item-clause-answer g c =
     let p = err_from_is_err_and c.from_residual.result c.from_residual.ensures.1 in
-    rw (p.1, p.2) (sym (ap (λ (t : Turn). t.answer) c.in_err-item.ensures.turn))
+    rw (p.1, p.2) (sym (ap (λ (t : Turn). t.answer) (c.in_err-item.ensures.turn c.args.machine.now refl)))
 
 pub returns-in_err-item-clause-machine_after : goal.returns-in_err-item-clause-machine_after
 unfolding turn_judged
-returns-in_err-item-clause-machine_after g c = sym (ap (λ (t : Turn). t.machine) c.in_err-item.ensures.turn)
+returns-in_err-item-clause-machine_after g c = sym (ap (λ (t : Turn). t.machine) (c.in_err-item.ensures.turn c.args.machine.now refl))
 
 pub answer-requires : goal.answer-requires
 unfolding turn_judged
@@ -34,7 +34,7 @@ answer-requires g c =
     let i = c.in_ok-item.item in
     let reached : c.step-value.new.machine ≡ (turn_of m s).machine =
     c.step-value.ensures.machine_after ∙ ap (λ (x : List ℕ). (step_with m i x).machine) (values-are s c.first_value.result c.first_value.ensures)
-    ∙ sym (ap (λ (t : Turn). t.machine) c.in_ok-item.ensures.turn) in
+    ∙ sym (ap (λ (t : Turn). t.machine) (c.in_ok-item.ensures.turn m refl)) in
     (parts c.step-value.new.machine (ap accepted_of reached ∙ turn-keeps m s c.requires.accepted)).levels.0
 
 pub returns-clause-answer : goal.returns-clause-answer
@@ -46,7 +46,7 @@ returns-clause-answer g c =
     let did : record { machine = c.step-value.new.machine; value = c.step-value.result } ≡ step_with m i (values_in s) =
     simp (c.step-value.ensures.machine_after, c.step-value.ensures.value) (ap (step_with m i) (values-are s c.first_value.result c.first_value.ensures)) in
     let ok : Shown → Result Shown Refusal = λ x. Ok x in
-    ap ok (c.answer.ensures ∙ ap answer_of did) ∙ sym (ap (λ (t : Turn). t.answer) c.in_ok-item.ensures.turn)
+    ap ok (c.answer.ensures.shown ∙ ap answer_of did) ∙ sym (ap (λ (t : Turn). t.answer) (c.in_ok-item.ensures.turn m refl))
 
 pub returns-clause-machine_after : goal.returns-clause-machine_after
 unfolding turn_judged
@@ -54,4 +54,4 @@ returns-clause-machine_after g c =
     let m = c.args.machine.now in
     let s = c.args.bytes.now in
     c.step-value.ensures.machine_after ∙ ap (λ (x : List ℕ). (step_with m c.in_ok-item.item x).machine) (values-are s c.first_value.result c.first_value.ensures)
-    ∙ sym (ap (λ (t : Turn). t.machine) c.in_ok-item.ensures.turn)
+    ∙ sym (ap (λ (t : Turn). t.machine) (c.in_ok-item.ensures.turn m refl))
