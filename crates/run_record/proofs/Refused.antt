@@ -1,5 +1,5 @@
 -- A record that is not carried out.
-use Rattle.std.specs.Prelude.{ℕ, List, Result, Ok, Err, ◌≡◌}
+use Rattle.std.specs.Prelude.{ℕ, List, Err, ◌≡◌}
 use mathlib.Core.Path.{refl}
 use Rattle.refusal.specs.declared.Refusal.{Refusal}
 use Rattle.machine_spec.specs.declared.Machine.{Machine}

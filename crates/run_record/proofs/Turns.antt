@@ -10,7 +10,6 @@ use lib.Seq.{take_all}
 use Rattle.units.specs.declared.WaitTicks.{WaitTicks}
 use Rattle.item_spec.specs.declared.Item.{Item}
 use Rattle.item_spec.specs.declared.Item.TheVariants.{ReadVia, ReadIwm, WriteVia, WriteIwm, Blank, Second, Line, Sense, Reset, Power, Disk, Pulse}
-use Rattle.item_spec.specs.declared.Many.{Many}
 use Rattle.item_spec.specs.declared.Decoded.{Decoded}
 use Rattle.item_spec.specs.declared.Decoded.TheVariants.{One}
 use Rattle.item_spec.specs.declared.Location.{Location}
@@ -23,7 +22,6 @@ use Rattle.item_many.specs.LastWrite.{as_last_write}
 use Rattle.item_decode.specs.Values.{first_value, values_in}
 use Rattle.item_decode.proofs.ValueLaws.{OneValue, AllValues, values-right}
 use Rattle.machine_spec.specs.declared.Machine.{Machine}
-use Rattle.machine_spec.specs.declared.Did.{Did}
 use Rattle.machine_spec.specs.Machine.{no_value}
 use Rattle.machine_spec.specs.Stages.{refuses_of}
 use Rattle.machine_spec.specs.Step.{step_of, after_items}

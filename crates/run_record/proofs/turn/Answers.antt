@@ -4,7 +4,6 @@ use Rattle.std.proofs.lemmas.Result.{err_from_is_err_and}
 use Rattle.refusal.specs.declared.Refusal.{Refusal}
 use Rattle.item_spec.specs.declared.Shown.{Shown}
 use Rattle.item_decode.specs.Values.{values_in}
-use Rattle.machine_spec.specs.declared.Did.{Did}
 use Rattle.machine_spec.specs.Machine.{accepted_of}
 use Rattle.machine_spec.specs.Step.{answer_of}
 use Rattle.machine_spec.proofs.MachineLaws.{parts}
@@ -25,6 +24,12 @@ returns-in_err-item-clause-answer g c =
 pub returns-in_err-item-clause-machine_after : goal.returns-in_err-item-clause-machine_after
 unfolding turn_judged
 returns-in_err-item-clause-machine_after g c = sym (ap (λ (t : Turn). t.machine) (c.in_err-item.ensures.turn c.args.machine.now refl))
+
+pub step-value-requires-clause-levels : goal.step-value-requires-clause-levels
+step-value-requires-clause-levels g c = (parts c.args.machine.now c.requires.accepted).levels
+
+pub step-value-requires-clause-phase : goal.step-value-requires-clause-phase
+step-value-requires-clause-phase g c = (parts c.args.machine.now c.requires.accepted).phase
 
 pub answer-requires : goal.answer-requires
 unfolding turn_judged
