@@ -1,17 +1,27 @@
-use Rattle.std.proofs.Common.{ℕ, ◌<◌, List, rules, refl}
+use Rattle.std.proofs.Common.{ℕ, ◌≡◌, Bool, true, false, ◌&&◌, List, [], ◌∷◌, ◌++◌, rules, refl, ap, ◌∙◌}
 use Rattle.std.specs.Prelude.{ltb}
-use Rattle.std.specs.Bool.{Decides}
-use Rattle.std.specs.List.{All}
-use Rattle.std.proofs.lemmas.Bool.Decides.{same_from_decides, Decides-by_and, Decides-ltb}
+use Rattle.std.proofs.lemmas.Fn.{fold_over, slice_gives, fronts}
 use Rattle.levels.specs.Levels.{all_below}
 use Rattle.levels.proofs.all_below.Goals as goal
 
--- The definition decides that every number is below the limit, as the chain does.
-decides : (limit : ℕ) (numbers : List ℕ) → Decides (all_below limit numbers) (All (λ number. number < limit) numbers)
+-- What is known of some numbers, and what of one number more.
+all_below-push : (limit : ℕ) (numbers : List ℕ) (number : ℕ) → all_below limit (numbers ++ (number ∷ [])) ≡ (all_below limit numbers && ltb number limit)
 unfolding all_below
-decides limit = Decides-by_and (λ number. ltb number limit) (λ number. number < limit) (all_below limit) (λ number. Decides-ltb number limit) refl (λ _ _. refl)
+all_below-push limit [] number = whole (ltb number limit)
+  where
+    whole : (b : Bool) → (b && true) ≡ b
+    whole true = refl
+    whole false = refl
+all_below-push limit (first ∷ rest) number = ap (λ b. ltb first limit && b) (all_below-push limit rest number) ∙ assoc (ltb first limit)
+  where
+    assoc : (b : Bool) → (b && (all_below limit rest && ltb number limit)) ≡ ((b && all_below limit rest) && ltb number limit)
+    assoc true = refl
+    assoc false = refl
 
 pub returns : goal.returns
+unfolding all_below
 returns c =
-    let chain : Decides c.all.result (All (λ number. number < c.args.limit) c.args.numbers.now) = search rules in
-    same_from_decides _ _ chain (decides _ _)
+    let folded : c.fold.result ≡ all_below c.args.limit c.iter.result.rest.now =
+    fold_over fronts (λ y. y.now) _ (λ ys all. all ≡ all_below c.args.limit ys) _ (λ ys a x b f' j k. let more = all_below-push c.args.limit ys x.now in search rules)
+    _ _ _ _ (slice_gives c.iter.result) refl c.fold.ensures.ran in
+    search rules
