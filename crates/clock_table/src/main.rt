@@ -3,7 +3,7 @@
 
 use clock_command::{Lookup, Table};
 use clock_spec::{Chip, Command, Target};
-use std::{fmt, io};
+use std::fmt;
 
 /// Whether a chip takes the byte as a command's first one.
 fn legal(chip: Chip, byte: u8) -> bool {
@@ -61,39 +61,37 @@ impl fmt::Display for Entry {
     }
 }
 
+// A write that fails is passed over, and what follows is still printed.
+
 /// The low digits above their columns, and the sixteen bytes of each high digit, which stands at both ends of its row.
-fn print_table(rt: &impl Print) -> io::Result<()> {
-    print!(rt; " ")?;
+fn print_table(rt: &impl Print) {
+    let _ = print!(rt; " ");
     for low in 0..16_u8 {
-        print!(rt; "   _{low:X}")?;
+        let _ = print!(rt; "   _{low:X}");
     }
-    println!(rt)?;
+    let _ = println!(rt);
     for high in 0..16_u8 {
-        print!(rt; "${high:X}_ ")?;
+        let _ = print!(rt; "${high:X}_ ");
         for low in 0..16_u8 {
             let entry = Entry(16 * high + low);
-            print!(rt; "{entry}")?;
+            let _ = print!(rt; "{entry}");
         }
-        println!(rt; "${high:X}_")?;
+        let _ = println!(rt; "${high:X}_");
     }
-    Ok(())
 }
 
 /// The counts under the table.
-fn print_counts(rt: &impl Print) -> io::Result<()> {
+fn print_counts(rt: &impl Print) {
     let later = count_legal(Chip::Later);
     let first = count_legal(Chip::First);
-    println!(rt; "{later} legal first bytes on the later chip: all that are not a dot.")?;
-    println!(rt; "{first} legal first bytes on the first chip: those of them without a star.")
-}
-
-fn print_page(rt: &impl Print) -> io::Result<()> {
-    print_table(rt)?;
-    println!(rt)?;
-    print_counts(rt)
+    let _ = println!(rt; "{later} legal first bytes on the later chip: all that are not a dot.");
+    let _ = println!(rt;
+        "{first} legal first bytes on the first chip: those of them without a star."
+    );
 }
 
 fn main(rt: HostRuntime) {
-    // A write that fails ends the printing, and the program ends with 0 all the same.
-    let _ = print_page(&rt);
+    print_table(&rt);
+    let _ = println!(&rt);
+    print_counts(&rt);
 }

@@ -56,13 +56,15 @@ worded n hex first (c ∷ s) = by (eqb c 32) (worded n true false s) (worded (gr
     by true p q = refl
     by false p q = ap₂ (λ (x y : ℕ). cond (first && eqb c 36) x y) p q
 
-pub at_space : (c : ℕ) (s : List ℕ) → c ≡ 32 → before 32 (c ∷ s) ≡ 0
-unfolding before
-at_space c s e = ap (λ (t : Bool). cond t 0 (suc (before 32 s))) (eq-eqb c 32 e)
+-- ---- a mark, and another character before it
 
-pub past : (c : ℕ) (s : List ℕ) → (c ≡ 32 → ⊥) → before 32 (c ∷ s) ≡ before 32 s + 1
+pub at_mark : (mark c : ℕ) (s : List ℕ) → c ≡ mark → before mark (c ∷ s) ≡ 0
 unfolding before
-past c s e = let k : suc (before 32 s) ≡ before 32 s + 1 = omega arith in ap (λ (t : Bool). cond t 0 (suc (before 32 s))) (ne_eqb c 32 e) ∙ k
+at_mark mark c s e = ap (λ (t : Bool). cond t 0 (suc (before mark s))) (eq-eqb c mark e)
+
+pub past : (mark c : ℕ) (s : List ℕ) → (c ≡ mark → ⊥) → before mark (c ∷ s) ≡ before mark s + 1
+unfolding before
+past mark c s e = let k : suc (before mark s) ≡ before mark s + 1 = omega arith in ap (λ (t : Bool). cond t 0 (suc (before mark s))) (ne_eqb c mark e) ∙ k
 
 -- ---- the text from a place on, nothing where it ends before
 

@@ -13,6 +13,10 @@ unfoldable pub before : ℕ → List ℕ → ℕ
 before c [] = 0
 before c (b ∷ s) = cond (eqb b c) 0 (suc (before c s))
 
+-- The place of the first line feed, 10, at or after `at`, else the length.
+unfoldable pub line_end_of : List ℕ → ℕ → ℕ
+line_end_of s at = at + before 10 (drop at s)
+
 -- ---- numbers: "decimal, hexadecimal after `$`, or a capital letter for its ASCII byte. A number left out is 0."
 -- A number with one character more: `0` to `9` are 48 to 57, `A` to `Z` 65 to 90, `a` to `f` 97 to 102. One that is too large, or is no number,
 -- is 65,536 or more.

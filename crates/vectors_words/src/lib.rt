@@ -2,7 +2,7 @@
 #![tactic(auto)]
 
 ghost use Rattle.std.specs.Prelude.{◌≡◌, ◌+◌, ◌≤◌, false, true, length, IfSome};
-ghost use Rattle.vectors_words.specs.Words.{spaced_of, grown_of, word_of, number_of, order_read};
+ghost use Rattle.vectors_words.specs.Words.{spaced_of, line_end_of, grown_of, word_of, number_of, order_read};
 
 use arrayvec::ArrayVec;
 use vectors_operations::Order;
@@ -15,11 +15,13 @@ struct Read {
     end: usize,
 }
 
-/// A line's answer room in bytes, at most 32, and its list.
-#[derive(Drop)]
+/// A line's answer room in bytes, and its list: the first `size` bytes of `list`.
+// An `ArrayVec` is not `Copy`, so the list has its size beside it.
+#[derive(Clone, Copy)]
 pub struct Given {
     pub room: usize,
-    pub list: ArrayVec<u8, 32>,
+    pub size: usize,
+    pub list: [u8; 32],
 }
 
 /// Whether the text ends before `at` or has a space there.
@@ -116,15 +118,31 @@ fn bytes(text: &[u8], from: usize) -> Option<ArrayVec<u8, 32>> {
 
 /// A line of an answer room and a list; `None` where the line is bad.
 pub fn read_list(text: &[u8]) -> Option<Given>
-    ensures { IfSome result (λ given. given.room ≤ 32) }
+    ensures room_bound { IfSome result (λ given. given.room ≤ 32) }
+    ensures size_in_bounds { IfSome result (λ given. given.size ≤ length given.list) }
 {
     let first = number(text, 1);
     if first.value > 32 {
         return None;
     }
-    let list = bytes(text, first.end)?;
+    let bytes = bytes(text, first.end)?;
+    let size = bytes.len();
+    let mut list = [0; 32];
+    list[..size].copy_from_slice(bytes.as_slice());
     Some(Given {
         room: first.value as usize,
+        size,
         list,
     })
+}
+
+/// The end of the line that begins at `at`: the place of its line feed, else the length.
+pub fn line_end(s: &[u8], at: usize) -> usize
+    requires { at ≤ length s.now }
+    ensures value { result ≡ line_end_of s.now at }
+    ensures lower_bound { (at ≤ result) × (result ≤ length s.now) }
+{
+    let rest = &s[at..];
+    let feed = rest.iter().position(|&c| c == b'\n');
+    at + feed.unwrap_or(rest.len())
 }

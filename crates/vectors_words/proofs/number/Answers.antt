@@ -1,9 +1,9 @@
-use Rattle.std.proofs.Common.{ℕ, ◌≡◌, ◌+◌, ◌<◌, Bool, false, true, cond, List, length, take, drop, unwrap_or, MatchOption, Bor, refl, sym, ap, ◌∙◌, rules, arith}
+use Rattle.std.proofs.Common.{ℕ, ◌≡◌, ◌+◌, false, true, cond, List, length, take, drop, unwrap_or, Bor, refl, sym, ap, ◌∙◌, rules}
 use mathlib.Core.Path.{ap₂}
 use Rattle.std.proofs.lemmas.Iterator.{index_from_first}
 use Rattle.vectors_words.specs.declared.Read.{Read}
 use Rattle.vectors_words.specs.Words.{spaced_of, before, value_of, word_of, number_of}
-use Rattle.vectors_words.proofs.Numbers.{worded, at_space, past, part}
+use Rattle.vectors_words.proofs.Numbers.{worded, at_mark, past, part}
 use Rattle.vectors_words.proofs.number.Goals as goal
 use Rattle.vectors_words.proofs.number.Goals.{then-spaced, else-spaced}
 
@@ -17,7 +17,7 @@ returns c =
     let at = c.args.at in
     let rest : c.unwrap_or-rest.result.now ≡ drop (at + 1) text = ap (λ (r : Bor (List ℕ)). r.now) c.unwrap_or-rest.ensures ∙ part text (at + 1) c.get.result _ refl c.get.ensures.lookup.0 in
     let end : before 32 c.unwrap_or-rest.result.now ≡ unwrap_or c.position.result (length c.unwrap_or-rest.result.now) =
-    index_from_first (before 32) (λ (x : ℕ). x ≡ 32) (λ (x : ℕ). x ≡ 32 → ⊥) refl at_space past c.unwrap_or-rest.result.now c.position.result (search rules) in
+    index_from_first (before 32) (λ (x : ℕ). x ≡ 32) (λ (x : ℕ). x ≡ 32 → ⊥) refl (at_mark 32) (past 32) c.unwrap_or-rest.result.now c.position.result (search rules) in
     let start : c.if-spaced.start ≡ cond (spaced_of text at) 0 65536 =
     elim c.if-spaced.branch [
       | then-spaced w ↦ w.start-is ∙ simp (sym c.spaced.ensures ∙ w.if-spaced.true)
