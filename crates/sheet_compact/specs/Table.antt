@@ -1,15 +1,11 @@
 -- A table of where each setting's counting record stands.
-use Rattle.std.specs.Prelude.{ℕ, ◌-◌, ◌<◌, ◌≡◌, cond, List, length, get_or, set, ltb, eqb}
+use Rattle.std.specs.Prelude.{ℕ, ◌<◌, ◌≡◌, cond, List, length, get_or, set, ltb}
 use Rattle.sheet_spec.specs.Records.{sheet_of}
 use Rattle.sheet_spec.specs.Counting.{setting_of, version_of, start_of}
 
--- The version that stands before the bytes which start at n in the sheet s; 0 where none do.
-abbrev pub version_before : List ℕ → ℕ → ℕ
-version_before s n = cond (eqb n 0) 0 (get_or s (n - 1) 0)
-
--- The list with x at the setting of record r, unless a higher version of it is noted: `versions k` is the version noted of setting k.
-unfoldable pub noted : List ℕ → (ℕ → ℕ) → ℕ → List ℕ → List ℕ
-noted r versions x l = cond (ltb (version_of r) (versions (setting_of r))) l (set l (setting_of r) x)
+-- The list with x at the setting of record r, unless a higher version of it is noted.
+unfoldable pub noted : List ℕ → List ℕ → ℕ → List ℕ → List ℕ
+noted r versions x l = cond (ltb (version_of r) (get_or versions (setting_of r) 0)) l (set l (setting_of r) x)
 
 -- The table of the sheet s: for each of the 65,536 settings where the bytes of its counting record start.
 pub record Table (starts s : List ℕ) : Type 0 where

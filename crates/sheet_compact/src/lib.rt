@@ -1,52 +1,60 @@
-//! The tool that writes a sheet's counting records, one for each setting, in their old order (W-213). It walks the sheet three times, whatever the number
-//! of its records: for a table of where each setting's counting record stands, to measure and to write.
+//! The tool that writes a sheet's counting records, one for each setting, in their old order (W-213). It walks the sheet four times, whatever the number
+//! of its records: for the refusal, for a table of where each setting's counting record stands, to measure and to write.
 #![tactic(auto)]
 
-ghost use Rattle.std.specs.Prelude.{ℕ, ◌≡◌, ◌++◌, ◌<◌, ◌≤◌, true, false, length, get_or, drop, replicate, eqb, OnOk, IfErr};
+ghost use Rattle.std.specs.Prelude.{◌≡◌, ◌++◌, ◌<◌, ◌≤◌, true, false, length, get_or, drop, replicate, eqb, OnOk, IfErr};
 ghost use Rattle.refusal.specs.declared.Refusal.TheVariants.{CutRecord};
 ghost use Rattle.sheet_spec.specs.Records.{sheet_of, is_broken};
-ghost use Rattle.sheet_spec.specs.Counting.{setting_of};
+ghost use Rattle.sheet_spec.specs.Counting.{setting_of, version_of};
 ghost use Rattle.sheet_spec.specs.Compaction.{compact_of, compacted_of, memory_of};
-ghost use Rattle.sheet_compact.specs.Table.{noted, version_before, Table};
+ghost use Rattle.sheet_compact.specs.Table.{noted, Table};
 
 use refusal::Refusal;
 use sheet_record::{Record, Records};
 
-/// The setting numbers: 0 to 65,535. The table of them is 512 KiB of stack, whatever the sheet: its memory is fixed, and a record finds its place at once.
+/// The setting numbers: 0 to 65,535. The two tables of them are 590 kB of stack, whatever the sheet: their memory is fixed, and a record finds its place at once.
 const SETTINGS: usize = 65536;
 
-/// The version of the record whose bytes start at `start`, which stands before them; 0 where no record is noted.
-// A start of 0 is none: an Option for each of the settings would double the table.
-fn version_noted(sheet: &[u8], start: usize) -> u8
-    requires { start ≤ length sheet.now }
-    ensures { result ≡ version_before sheet.now start }
+/// Refusal 1 where the sheet is broken.
+// A walk of its own, before the tables are cleared: of a broken sheet nothing is noted.
+fn check(sheet: &[u8]) -> Result<(), Refusal>
+    ensures ok { OnOk result (is_broken (sheet_of sheet.now) ≡ false) }
+    ensures err { IfErr result (λ e. (is_broken (sheet_of sheet.now) ≡ true) × (e ≡ CutRecord)) }
 {
-    if start == 0 { 0 } else { sheet[start - 1] }
+    for record in Records::new(sheet) {
+        record?;
+    }
+    Ok(())
 }
 
-/// Notes where a record's bytes start, where its version is no lower than that of the record noted of its setting.
+/// Notes a record's version and where its bytes start, where the version noted of its setting is no higher.
+// Two tables: the versions' 64 KiB stay near the processor, where those in the sheet are each a read far off, and a struct of both would take 1 MiB.
 #[tactic(auto, unfolding(crate::specs::Table::noted))]
-fn note(sheet: &[u8], record: &Record, starts: &mut [usize; SETTINGS])
-    requires { (k : ℕ) → k < 65536 → get_or starts.old k 0 ≤ length sheet.now }
-    ensures starts_after { starts.new ≡ noted record.now.bytes.now (λ k. version_before sheet.now (get_or starts.old k 0)) record.now.start starts.old }
+fn note(record: &Record, versions: &mut [u8; SETTINGS], starts: &mut [usize; SETTINGS])
+    ensures versions_after { versions.new ≡ noted record.now.bytes.now versions.old (version_of record.now.bytes.now) versions.old }
+    ensures starts_after { starts.new ≡ noted record.now.bytes.now versions.old record.now.start starts.old }
     ensures setting { setting_of record.now.bytes.now < 65536 }
 {
     let setting = record.setting() as usize;
-    if version_noted(sheet, starts[setting]) <= record.version() {
+    let version = record.version();
+    if versions[setting] <= version {
+        versions[setting] = version;
         starts[setting] = record.start;
     }
 }
 
-/// Where the bytes of each setting's counting record start, 0 where there is none; refusal 1 where the sheet is broken.
-fn tabulate(sheet: &[u8], starts: &mut [usize; SETTINGS]) -> Result<(), Refusal>
-    requires { starts.old ≡ replicate 65536 0 }
-    ensures ok { OnOk result ((is_broken (sheet_of sheet.now) ≡ false) × Table starts.new sheet.now) }
-    ensures err { IfErr result (λ e. (is_broken (sheet_of sheet.now) ≡ true) × (e ≡ CutRecord)) }
+/// Where the bytes of each setting's counting record start, 0 where there is none.
+fn tabulate(sheet: &[u8], versions: &mut [u8; SETTINGS], starts: &mut [usize; SETTINGS])
+    requires versions { versions.old ≡ replicate 65536 0 }
+    requires starts { starts.old ≡ replicate 65536 0 }
+    ensures { Table starts.new sheet.now }
 {
     for record in Records::new(sheet) {
-        note(sheet, &record?, starts);
+        let Ok(record) = record else {
+            return;
+        };
+        note(&record, versions, starts);
     }
-    Ok(())
 }
 
 /// Whether a record of the sheet is its setting's counting record.
@@ -99,8 +107,10 @@ pub fn compact(sheet: &[u8], out: &mut [u8]) -> Result<usize, Refusal>
     ensures value { result ≡ compacted_of sheet.now (length out.old) }
     ensures out_after { out.new ≡ memory_of sheet.now out.old }
 {
+    check(sheet)?;
+    let mut versions = [0; SETTINGS];
     let mut starts = [0; SETTINGS];
-    tabulate(sheet, &mut starts)?;
+    tabulate(sheet, &mut versions, &mut starts);
     let size = measure(sheet, &starts);
     if out.len() < size {
         return Err(Refusal::NoRoom);

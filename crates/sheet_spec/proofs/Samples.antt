@@ -11,7 +11,7 @@ use Rattle.item_spec.specs.Record.{frame_of}
 use Rattle.item_spec.specs.Kinds.{is_kind}
 use Rattle.sheet_spec.specs.Records.{first_of, sheet_from, sheet_of, is_broken}
 use Rattle.sheet_spec.specs.Counting.{beats_of, better_of, counting_from, counting_of, start_from, start_of}
-use Rattle.sheet_spec.specs.Lookup.{source_of, part_of, place_of, place_at, refusal_of, sheet_number}
+use Rattle.sheet_spec.specs.Lookup.{source_of, part_of, place_of, place_at, refusal_of, sheet_number, start_number, size_number}
 use Rattle.sheet_spec.specs.Compaction.{none_beats, counts_of, counting_rows, bytes_of, compact_of, compacted_of, memory_of, stop_of, written_of}
 use Rattle.sheet_spec.specs.declared.Source.TheVariants.{Bench, House}
 
@@ -63,6 +63,9 @@ pub record Samples : Type 0 where
   pub longest : (is_broken (sheet_of (longer 69 64)) ≡ false) × (is_broken (sheet_of (longer 70 65)) ≡ true)
   -- the numbers
   pub numbers : (refusal_of (Err CutRecord) ≡ 1) × (refusal_of (Ok None) ≡ 0) × (sheet_number (Ok (Some Bench)) ≡ 1) × (sheet_number (Ok (Some House)) ≡ 2) × (sheet_number (Ok None) ≡ 0)
+  pub set_numbers : (start_number (Ok (Some (place_at House 7 1))) ≡ 7) × (size_number (Ok (Some (place_at House 7 1))) ≡ 1)
+  -- 0 where it is not set and on a refusal
+  pub no_numbers : (start_number (Ok None) ≡ 0) × (size_number (Ok None) ≡ 0) × (start_number (Err CutRecord) ≡ 0) × (size_number (Err CutRecord) ≡ 0)
   -- the tool: each counting record where it itself stands
   pub old_order : (compact_of (bench ++ w) ≡ e ++ y ++ w) × (compact_of [] ≡ [])
   pub written : (compacted_of bench 17 ≡ Ok 16) × (compacted_of bench 16 ≡ Ok 16)
@@ -73,7 +76,7 @@ pub record Samples : Type 0 where
   pub stops : (stop_of (Err NoRoom) ≡ 6) × (stop_of (Ok 9) ≡ 0) × (written_of (Err NoRoom) ≡ 0) × (written_of (Ok 9) ≡ 9)
 
 pub samples : Samples
-unfolding le16_of frame_of is_kind first_of sheet_from is_broken beats_of better_of counting_from counting_of start_from start_of source_of part_of place_of refusal_of sheet_number none_beats counts_of counting_rows bytes_of compact_of compacted_of memory_of stop_of written_of
+unfolding le16_of frame_of is_kind first_of sheet_from is_broken beats_of better_of counting_from counting_of start_from start_of source_of part_of place_of refusal_of sheet_number start_number size_number none_beats counts_of counting_rows bytes_of compact_of compacted_of memory_of stop_of written_of
 samples =
     record {
       later = (refl, refl);
@@ -87,6 +90,8 @@ samples =
       shortest = (refl, refl);
       longest = (refl, refl);
       numbers = (refl, refl, refl, refl, refl);
+      set_numbers = (refl, refl);
+      no_numbers = (refl, refl, refl, refl);
       old_order = (refl, refl);
       written = (refl, refl);
       memory = refl;

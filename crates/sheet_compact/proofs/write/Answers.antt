@@ -1,5 +1,5 @@
 use Rattle.std.proofs.Common.{sym, ap, ◌∙◌}
-use Rattle.octets.proofs.Writer.{Wrote, wrote-first, wrote-end, wrote-room, wrote-next}
+use Rattle.octets.proofs.Writer.{wrote-first, wrote-end, wrote-room, wrote-next}
 use Rattle.sheet_spec.specs.Records.{sheet_of}
 use Rattle.sheet_spec.specs.Compaction.{compact_of}
 use Rattle.sheet_record.specs.Walk.{left_of}
