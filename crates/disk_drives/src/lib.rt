@@ -1,8 +1,8 @@
 //! The two drives and their strobe: time, disks and power; what the disk lines write to them and show of them.
 #![tactic(auto)]
 
-ghost use Rattle.std.specs.Prelude.{◌≡◌};
-ghost use Rattle.disk_spec.specs.Drives.{fresh_drives, drives_ticks, drives_busy, drives_disk_moved, place_refused, drives_powered, drives_after, drives_shown, accepted_drives, drive_at, with_drive_at};
+ghost use Rattle.std.specs.Prelude.{◌≡◌, true};
+ghost use Rattle.disk_spec.specs.Drives.{fresh_drives, drives_ticks, drives_busy, drives_disk_moved, place_refused, drives_powered, drives_written, drives_after, drives_shown, accepted_drives, drive_at};
 
 use disk_drive::{move_disk, write_register};
 use disk_spec::{Drive, Drives, Watched};
@@ -26,23 +26,6 @@ fn drive_at(d: Drives, external: bool) -> Drive
     if external { d.external } else { d.internal }
 }
 
-/// The drives with another in the place of one of them.
-fn with_drive_at(d: Drives, external: bool, drive: Drive) -> Drives
-    ensures { result ≡ with_drive_at external d drive }
-{
-    if external {
-        Drives {
-            external: drive,
-            ..d
-        }
-    } else {
-        Drives {
-            internal: drive,
-            ..d
-        }
-    }
-}
-
 /// Whether time changes them: a step is pending, or a strobe is steady.
 #[tactic(auto, unfolding(disk_spec::specs::Drives::drives_busy))]
 pub fn busy(d: Drives) -> bool
@@ -51,16 +34,22 @@ pub fn busy(d: Drives) -> bool
     (d.internal.pending != 0) | ((d.external.pending != 0) | d.strobe.steady)
 }
 
-/// The drives after a wait.
+/// The wait passes in both drives and in the strobe.
 #[tactic(auto, unfolding(disk_spec::specs::Drives::drives_ticks))]
-pub fn wait(drives: Drives, wait: WaitTicks) -> Drives
+pub fn pass(drives: &mut Drives, wait: WaitTicks)
+    ensures { drives.new ≡ drives_ticks wait.0 drives.old }
+{
+    drives.internal = disk_drive::wait(drives.internal, wait);
+    drives.external = disk_drive::wait(drives.external, wait);
+    drives.strobe = disk_strobe::wait(drives.strobe, wait);
+}
+
+/// The drives after a wait.
+pub fn wait(mut drives: Drives, wait: WaitTicks) -> Drives
     ensures { result ≡ drives_ticks wait.0 drives }
 {
-    Drives {
-        internal: disk_drive::wait(drives.internal, wait),
-        external: disk_drive::wait(drives.external, wait),
-        strobe: disk_strobe::wait(drives.strobe, wait),
-    }
+    pass(&mut drives, wait);
+    drives
 }
 
 /// DI: a disk comes or leaves. The four flags are those of `drives_disk_moved`: the item has all of them, always.
@@ -98,29 +87,44 @@ pub fn power_cut(drives: Drives) -> Drives
     }
 }
 
-/// The drives after an item, whose wait and action are over, with these levels before and after it.
+/// A write of the strobe acts: on the drive that SELECT names.
+#[tactic(auto, unfolding(disk_spec::specs::Drives::with_drive_at))]
+fn write(drives: &mut Drives, after: Watched)
+    ensures { drives.new ≡ drives_written true after drives.old }
+{
+    let register = disk_strobe::register(after);
+    if after.select {
+        drives.external = write_register(drives.external, register, after.ca2);
+    } else {
+        drives.internal = write_register(drives.internal, register, after.ca2);
+    }
+}
+
+/// The drives see the levels before an item and after it, whose wait and action are over. They are lent: to store all of them anew costs an item with LSTRB on half as much again.
 #[inline(always)]
-pub fn after(d: Drives, before: Watched, after: Watched) -> Drives
-    ensures { result ≡ drives_after before after d }
+pub fn look(drives: &mut Drives, before: Watched, after: Watched)
+    ensures { drives.new ≡ drives_after before after drives.old }
 {
     // An item that leaves LSTRB off needs no more.
     if !(before.lstrb | after.lstrb) {
-        return Drives {
-            strobe: disk_strobe::off(),
-            ..d
-        };
+        drives.strobe = disk_strobe::off();
+        return;
     }
-    let strobe = disk_strobe::after(d.strobe, before, after);
-    if disk_strobe::writes(d.strobe, before, after) {
-        let register = disk_strobe::register(after);
-        let drive = write_register(drive_at(d, after.select), register, after.ca2);
-        Drives {
-            strobe,
-            ..with_drive_at(d, after.select, drive)
-        }
+    let strobe = disk_strobe::after(drives.strobe, before, after);
+    if disk_strobe::writes(drives.strobe, before, after) {
+        write(drives, after);
+        drives.strobe = strobe;
     } else {
-        Drives { strobe, ..d }
+        drives.strobe = strobe;
     }
+}
+
+/// The drives after an item, whose wait and action are over, with these levels before and after it.
+pub fn after(mut drives: Drives, before: Watched, after: Watched) -> Drives
+    ensures { result ≡ drives_after before after drives }
+{
+    look(&mut drives, before, after);
+    drives
 }
 
 /// The level of sense register `place % 16` of the selected drive, where SN gave it the level `stored`.

@@ -49,7 +49,7 @@ fn wait(machine: &mut Machine, wait: WaitTicks)
         machine.via = machine.via.wait(wait);
     }
     if disk_drives::busy(machine.drives) {
-        machine.drives = disk_drives::wait(machine.drives, wait);
+        disk_drives::pass(&mut machine.drives, wait);
     }
 }
 

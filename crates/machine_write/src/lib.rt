@@ -24,7 +24,7 @@ pub fn strobe(machine: &mut Machine, disk: DiskLines, ports: Ports)
     if was | is {
         let before = disk_strobe::watched_of(disk, machine_pins::sel_of(ports));
         let after = machine_pins::strobe_levels(machine);
-        machine.drives = disk_drives::after(machine.drives, before, after);
+        disk_drives::look(&mut machine.drives, before, after);
     } else {
         machine.drives.strobe = disk_strobe::off();
     }

@@ -5,7 +5,7 @@ use Rattle.disk_spec.specs.Strobe.{no_strobe, strobe_after, strobe_writes}
 use Rattle.levels.proofs.Laws.{no}
 use Rattle.disk_spec.specs.declared.Drives.{Drives}
 use Rattle.disk_spec.specs.Drives.{with_strobe, drives_after}
-use Rattle.disk_drives.proofs.after.Goals as goal
+use Rattle.disk_drives.proofs.look.Goals as goal
 
 -- LSTRB off before and after: no write, and no strobe.
 unstrobed : (v w : Watched) (d : Drives) {s : Strobe} → not (v.lstrb || w.lstrb) ≡ true → s ≡ no_strobe → with_strobe d s ≡ drives_after v w d
@@ -20,12 +20,12 @@ unstrobed v w d {s} h e = go v.lstrb w.lstrb refl refl h
 pub returns-then-not-before-after : goal.returns-then-not-before-after
 returns-then-not-before-after c =
     let a = c.args in
-    unstrobed a.before a.after a.d (ap not c.if-not-before-after.true) c.off.ensures
+    unstrobed a.before a.after a.drives.now (ap not c.if-not-before-after.true) c.off-drives.ensures
 
 pub returns-then-writes : goal.returns-then-writes
 unfolding drives_after
 returns-then-writes c =
-    simp (← c.writes.ensures, c.if-writes.true, c.with_drive_at.ensures, c.write_register-drive.ensures, c.drive_at.ensures, c.register-register.ensures, c.after-strobe.ensures)
+    simp (← c.writes.ensures, c.if-writes.true, c.write.ensures, c.after-strobe.ensures)
 
 pub returns-else-writes : goal.returns-else-writes
 unfolding drives_after
