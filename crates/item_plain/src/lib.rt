@@ -25,6 +25,7 @@ pub fn plain_item(bytes: &[u8], kind: Plain) -> Result<Item, Refusal>
 
 /// RD
 #[tactic(auto, unfolding(item_spec::specs::Items::read_record))]
+#[inline(always)]
 pub fn read_item(bytes: &[u8]) -> Result<Item, Refusal>
     ensures { result ≡ read_record bytes.now }
 {

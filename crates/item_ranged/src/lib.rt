@@ -32,6 +32,7 @@ pub fn is_retired(register: u8) -> bool
 
 /// SN
 #[tactic(auto, unfolding(item_spec::specs::Ranged::sense_record))]
+#[inline(always)]
 pub fn sense_item(bytes: &[u8]) -> Result<Item, Refusal>
     ensures { result ≡ sense_record bytes.now }
 {

@@ -40,6 +40,7 @@ pub fn wait_of(item: Item) -> WaitTicks
 }
 
 // The wait passes in the VIA and in the drives. Where both counters only count, and where no drive and no strobe waits, there is less to do.
+#[inline(always)]
 fn wait(machine: &mut Machine, wait: WaitTicks)
     ensures { machine.new ≡ after_wait wait.0 machine.old }
 {
@@ -103,6 +104,7 @@ fn pulse(machine: &mut Machine, level: u8) -> u8
 
 /// What an item does, its wait having passed; and the value read, 0 where nothing is read.
 #[tactic(auto, unfolding(machine_spec::specs::Action::acted_of, clock_spec::specs::Shared::advance, clock_spec::specs::Shared::elapse, via::specs::Via::raised_of))]
+#[inline(always)]
 pub fn act(machine: &mut Machine, item: Item) -> u8
     requires in_range { ItemInRange item }
     requires levels { Levels machine.old }

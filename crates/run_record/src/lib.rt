@@ -16,6 +16,7 @@ use refusal::Refusal;
 
 /// The item of a record's bytes after the length, or its refusal by the bytes or by a state with these drives.
 #[tactic(auto, unfolding(crate::specs::Judged::turn_judged))]
+#[inline(always)]
 pub fn judge(drives: Drives, bytes: &[u8]) -> Result<Item, Refusal>
     requires { 2 ≤ length bytes.now }
     ensures turn { (m : Machine) → m.drives ≡ drives → turn_of m bytes.now ≡ turn_judged m (values_in bytes.now) result }
