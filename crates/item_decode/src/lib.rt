@@ -20,6 +20,7 @@ pub fn is(bytes: &[u8], kind: &[u8; 2]) -> bool
 
 /// A record's bytes after its length: an item, or refusal 2, 3, 4, 5 or 9. Of an MW the item is its last write.
 #[tactic(auto, unfolding(item_spec::specs::Kinds::decoded_of, item_spec::specs::Kinds::is_kind))]
+#[inline(always)]
 pub fn decode(bytes: &[u8]) -> Result<Item, Refusal>
     ensures { result ≡ as_last_write bytes.now (decoded_of bytes.now) }
 {

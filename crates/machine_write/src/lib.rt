@@ -2,7 +2,9 @@
 #![tactic(auto)]
 
 ghost use Rattle.std.specs.Prelude.{◌≡◌, true, not, eqb, ◌&&◌, ◌<◌};
+ghost use Rattle.disk_lines.specs.Lines.{lstrb};
 ghost use Rattle.disk_spec.specs.Watched.{watched_of};
+ghost use Rattle.disk_spec.specs.Strobe.{strobe_after};
 ghost use Rattle.machine_spec.specs.Pins.{sel_of};
 ghost use Rattle.machine_spec.specs.Stages.{after_strobe};
 ghost use Rattle.machine_spec.specs.Step.{after_items};
@@ -10,6 +12,7 @@ ghost use Rattle.machine_write.specs.Values.{PhaseAccepted, writes_of};
 
 use clock_command::Lookup;
 use disk_lines::{DiskLines, Line};
+use disk_spec::Strobe;
 use machine_spec::Machine;
 use via::Ports;
 
@@ -30,11 +33,22 @@ pub fn strobe(machine: &mut Machine, disk: DiskLines, ports: Ports)
     }
 }
 
-// The values where LSTRB is on and none of them moves a wire of the clock: the strobe looks after each. VIA and strobe are in hand meanwhile: stored after each value they cost twice as much.
+// The strobe after a value, with LSTRB on: it goes on while ENABLE is on and SEL keeps its level.
+fn under_way(strobe: Strobe, disk: DiskLines, was: u8, is: u8) -> Strobe
+    requires lit { eqb (lstrb disk) 1 ≡ true }
+    requires levels { (was < 2) × (is < 2) }
+    ensures { result ≡ strobe_after (watched_of disk was) (watched_of disk is) strobe }
+{
+    let goes_on = disk.is_on(Line::Enable) & (was == is);
+    if goes_on { strobe } else { disk_strobe::off() }
+}
+
+// The values where LSTRB is on and each may move SEL: the strobe looks after each. VIA and strobe are in hand meanwhile: stored after each value they cost twice as much.
 #[inline(never)]
 fn write_under_strobe(machine: &mut Machine, register: u8, values: &[u8])
     requires register_in_range { register < 16 }
     requires no_wire { (not (eqb register 0) && not (eqb register 2)) ≡ true }
+    requires lit { eqb (lstrb machine.old.disk) 1 ≡ true }
     requires phase { PhaseAccepted machine.old }
     ensures { machine.new ≡ after_items machine.old (writes_of register values.now) }
 {
@@ -42,16 +56,16 @@ fn write_under_strobe(machine: &mut Machine, register: u8, values: &[u8])
     let mut via = machine.via;
     let mut strobe = machine.drives.strobe;
     for &value in values {
-        let before = disk_strobe::watched_of(disk, machine_pins::sel_of(via.ports));
+        let was = machine_pins::sel_of(via.ports);
         via = via.write(register, value);
-        let after = disk_strobe::watched_of(disk, machine_pins::sel_of(via.ports));
-        strobe = disk_strobe::after(strobe, before, after);
+        let is = machine_pins::sel_of(via.ports);
+        strobe = under_way(strobe, disk, was, is);
     }
     machine.via = via;
     machine.drives.strobe = strobe;
 }
 
-/// Writes the values to a VIA register, each a WR of its own with no wait. Port B and its direction move the clock's wires alone, the other registers at most SEL, at which the
+/// Writes the values to a VIA register, each a WR of its own with no wait. Port B and its direction move the clock's wires alone, port A and its direction SEL alone, at which the
 /// strobe looks while LSTRB is on: after each value there, else once for all of them.
 pub fn write<L: Lookup>(machine: &mut Machine, register: u8, values: &[u8])
     requires register_in_range { register < 16 }
@@ -63,7 +77,8 @@ pub fn write<L: Lookup>(machine: &mut Machine, register: u8, values: &[u8])
     }
     let mut via = machine.via;
     if (register != 0) & (register != 2) {
-        if machine.disk.is_on(Line::Lstrb) {
+        let moves_sel = (register == 1) | (register == 3) | (register == 15);
+        if machine.disk.is_on(Line::Lstrb) & moves_sel {
             write_under_strobe(machine, register, values);
         } else {
             for &value in values {

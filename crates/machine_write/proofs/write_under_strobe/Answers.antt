@@ -1,9 +1,8 @@
-use Rattle.std.proofs.Common.{◌≡◌, get_or, ap, ◌∙◌}
+use Rattle.std.proofs.Common.{ℕ, ◌≡◌, get_or, ap, ◌∙◌}
 use mathlib.Core.Path.{ap₂}
 use Rattle.units.specs.Units.{for_ticks}
 use Rattle.clock_spec.specs.Phase.{accepted_phase}
 use Rattle.disk_spec.specs.Drives.{with_strobe}
-use Rattle.disk_spec.specs.declared.Watched.{Watched}
 use Rattle.disk_spec.specs.Watched.{watched_of}
 use Rattle.disk_spec.specs.Strobe.{strobe_after}
 use Rattle.item_spec.specs.declared.Item.TheVariants.{WriteVia}
@@ -25,13 +24,11 @@ loop-value-preserved c =
     let n = with_drives (with_via m l.via) (with_strobe m.drives l.strobe) in
     let r = c.args.register in
     let v = get_or c.args.values.now l.value-index 0 in
-    let before : c.watched_of-before.result ≡ strobe_levels n = c.watched_of-before.ensures ∙ ap (watched_of m.disk) c.sel_of.ensures.0 in
-    let after : c.watched_of-after.result ≡ watched_of m.disk (sel_of (via_written r v n.via).ports) =
-    c.watched_of-after.ensures ∙ ap (watched_of m.disk) (c.sel_of-in-loop-value.ensures.0 ∙ ap (λ (x : Via). sel_of x.ports) c.write-via.ensures) in
-    let looked : c.after-strobe.result ≡ strobe_after (strobe_levels n) (watched_of n.disk (sel_of (via_written r v n.via).ports)) n.drives.strobe =
-    c.after-strobe.ensures ∙ ap₂ (λ (b a : Watched). strobe_after b a l.strobe) before after in
-    let stepped : with_drives (with_via m c.write-via.result) (with_strobe m.drives c.after-strobe.result) ≡ (step_of n (WriteVia (for_ticks 0) r v)).machine =
-    ap (λ x. with_drives (with_via m x) (with_strobe m.drives c.after-strobe.result)) c.write-via.ensures ∙ written-looked n r v c.requires.no_wire l.invariant.phase looked in
+    let looked : c.under_way-strobe.result ≡ strobe_after (strobe_levels n) (watched_of n.disk (sel_of (via_written r v n.via).ports)) n.drives.strobe =
+    c.under_way-strobe.ensures
+    ∙ ap₂ (λ (b a : ℕ). strobe_after (watched_of m.disk b) (watched_of m.disk a) l.strobe) c.sel_of-was.ensures.0 (c.sel_of-is.ensures.0 ∙ ap (λ (x : Via). sel_of x.ports) c.write-via.ensures) in
+    let stepped : with_drives (with_via m c.write-via.result) (with_strobe m.drives c.under_way-strobe.result) ≡ (step_of n (WriteVia (for_ticks 0) r v)).machine =
+    ap (λ x. with_drives (with_via m x) (with_strobe m.drives c.under_way-strobe.result)) c.write-via.ensures ∙ written-looked n r v c.requires.no_wire l.invariant.phase looked in
     record {
       phase = ap (λ (x : Machine). accepted_phase x.clock.store.chip x.clock.phase (wires x).enable) stepped ∙ phase-keeps n (WriteVia (for_ticks 0) r v) l.invariant.phase;
       left = write_next r c.args.values.now l.value-index n c.loop-value-test.true _ stepped ∙ l.invariant.left;
