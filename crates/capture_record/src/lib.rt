@@ -129,24 +129,16 @@ pub fn first() -> Levels
 
 /// A drive after an SN on it.
 #[tactic(auto, unfolding(capture_spec::specs::Levels::drive_sense_of))]
-fn drive_sense(levels: DriveLevels, register: u8, level: u8) -> DriveLevels
+fn drive_sense(mut levels: DriveLevels, register: u8, level: u8) -> DriveLevels
     ensures { result ≡ drive_sense_of levels register level }
 {
     match register {
-        1 => DriveLevels {
-            cstin: level,
-            ..levels
-        },
-        3 => DriveLevels {
-            wrtprt: level,
-            ..levels
-        },
-        12 => DriveLevels {
-            sides: level,
-            ..levels
-        },
-        _ => levels,
+        1 => levels.cstin = level,
+        3 => levels.wrtprt = level,
+        12 => levels.sides = level,
+        _ => (),
     }
+    levels
 }
 
 /// One of the two drives.
@@ -163,35 +155,27 @@ pub fn drive(levels: Levels, drive: u8) -> DriveLevels
 
 /// After a valid retired SN.
 #[tactic(auto, unfolding(capture_spec::specs::Levels::sense_to))]
-fn sense(levels: Levels, drive: u8, register: u8, level: u8) -> Levels
+fn sense(mut levels: Levels, drive: u8, register: u8, level: u8) -> Levels
     ensures { result ≡ sense_to levels drive register level }
 {
     if drive == 1 {
-        Levels {
-            external: drive_sense(levels.external, register, level),
-            ..levels
-        }
+        levels.external = drive_sense(levels.external, register, level);
     } else {
-        Levels {
-            internal: drive_sense(levels.internal, register, level),
-            ..levels
-        }
+        levels.internal = drive_sense(levels.internal, register, level);
     }
+    levels
 }
 
 /// After a record.
 #[tactic(auto, unfolding(capture_spec::specs::Levels::next_of))]
-pub fn next(levels: Levels, row: &[u8]) -> Levels
+pub fn next(mut levels: Levels, row: &[u8]) -> Levels
     ensures { result ≡ next_of levels row.now }
 {
     if is_retired(row) {
-        sense(levels, row[6], row[7], row[8])
-    } else if is_line0(row) {
-        Levels {
-            line0: row[7],
-            ..levels
-        }
-    } else {
-        levels
+        return sense(levels, row[6], row[7], row[8]);
     }
+    if is_line0(row) {
+        levels.line0 = row[7];
+    }
+    levels
 }
