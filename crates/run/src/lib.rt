@@ -21,8 +21,8 @@ pub fn run_accepted<L: Lookup>(machine: &mut Machine, list: &[u8], answers: &mut
     let mut rest = list;
     let mut written = 0;
     let mut stop = None;
-    // a record takes so many bytes as it says: what is left of the list is a slice, and no index counts
-    while !rest.is_empty() {
+    // a record takes so many bytes as it says: what is left of the list is a slice, and no index counts. The label names the loop in the proofs, whichever variables it has
+    'records: while !rest.is_empty() {
         if answers.len() - written < 8 {
             stop = Some(Refusal::NoRoom);
             break;

@@ -9,64 +9,64 @@ use Rattle.run.proofs.Loop as loop
 use Rattle.run.proofs.Loop.{Head, Ret, from-on, body-long}
 use Rattle.run.proofs.run_accepted.Given.{Over}
 use Rattle.run.proofs.run_accepted.Goals as goal
-use Rattle.run.proofs.run_accepted.Goals.{Left-loop-stop, else-loop-stop-test, then-loop-stop-test+then-answers-written-lt8, then-loop-stop-test+else-answers-written-lt8+in_default}
+use Rattle.run.proofs.run_accepted.Goals.{Left-records, else-records-test, then-records-test+then-answers-written-lt8, then-records-test+else-answers-written-lt8+in_default}
 
-pub loop-stop-init : goal.loop-stop-init
-loop-stop-init g c = record { head = loop.head_first c.args.list.now c.args.answers.now c.args.machine.now c.requires; running = refl }
+pub records-init : goal.records-init
+records-init g c = record { head = loop.head_first c.args.list.now c.args.answers.now c.args.machine.now c.requires; running = refl }
 
 pub slice_bounds-turn-count : goal.slice_bounds-turn-count
-slice_bounds-turn-count g c = let f = whole-fits c.loop-stop.rest.now c.in-Some.n (sym c.in-Some.ensures) in omega arith
+slice_bounds-turn-count g c = let f = whole-fits c.records.rest.now c.in-Some.n (sym c.in-Some.ensures) in omega arith
 
 pub slice_bounds-turn-start : goal.slice_bounds-turn-start
-slice_bounds-turn-start g c = let f = whole-fits c.loop-stop.rest.now c.in-Some.n (sym c.in-Some.ensures) in omega arith
+slice_bounds-turn-start g c = let f = whole-fits c.records.rest.now c.in-Some.n (sym c.in-Some.ensures) in omega arith
 
 pub slice_bounds-turn-end : goal.slice_bounds-turn-end
-slice_bounds-turn-end g c = let f = whole-fits c.loop-stop.rest.now c.in-Some.n (sym c.in-Some.ensures) in omega arith
+slice_bounds-turn-end g c = let f = whole-fits c.records.rest.now c.in-Some.n (sym c.in-Some.ensures) in omega arith
 
 pub turn-answer-requires-clause-long : goal.turn-answer-requires-clause-long
-turn-answer-requires-clause-long g c = body-long c.in-Some.n c.loop-stop.rest.now (sym c.in-Some.ensures)
+turn-answer-requires-clause-long g c = body-long c.in-Some.n c.records.rest.now (sym c.in-Some.ensures)
 
 pub slice_bounds-rest-count : goal.slice_bounds-rest-count
-slice_bounds-rest-count g c = let f = whole-fits c.loop-stop.rest.now c.in-Some.n (sym c.in-Some.ensures) in omega arith
+slice_bounds-rest-count g c = let f = whole-fits c.records.rest.now c.in-Some.n (sym c.in-Some.ensures) in omega arith
 
 pub slice_bounds-rest-start : goal.slice_bounds-rest-start
-slice_bounds-rest-start g c = let f = whole-fits c.loop-stop.rest.now c.in-Some.n (sym c.in-Some.ensures) in omega arith
+slice_bounds-rest-start g c = let f = whole-fits c.records.rest.now c.in-Some.n (sym c.in-Some.ensures) in omega arith
 
-pub loop-stop-smaller : goal.loop-stop-smaller
-loop-stop-smaller g c =
-    let s = c.loop-stop.rest.now in
+pub records-smaller : goal.records-smaller
+records-smaller g c =
+    let s = c.records.rest.now in
     let n = c.in-Some.n in
     let f = whole-fits s n (sym c.in-Some.ensures) in
     let k : length (take (length s - n) (drop n s)) ≡ length s - n = ap length (from-on n s) ∙ length-drop n s in
     omega (arith, f, k)
 
-pub loop-stop-preserved : goal.loop-stop-preserved
-loop-stop-preserved g c =
-    let l = c.loop-stop in
+pub records-preserved : goal.records-preserved
+records-preserved g c =
+    let l = c.records in
     let s = l.rest.now in
     let n = c.in-Some.n in
     let f = whole-fits s n (sym c.in-Some.ensures) in
     let b : c.answer_bytes.result ≡ answer_bytes (turn_of l.machine (take (n - 2) (drop 2 s))).answer =
     c.answer_bytes.ensures ∙ ap answer_bytes c.turn-answer.ensures.answer in
-    let h = loop.next c.args.list.now c.args.answers.now c.args.machine.now c.requires l.answers l.machine s l.written l.invariant.head (omega (arith, f)) (omega arith) n (sym c.in-Some.ensures) _ (c.put-in-loop-stop.ensures ∙ ap (put_at l.answers l.written) b) in
+    let h = loop.next c.args.list.now c.args.answers.now c.args.machine.now c.requires l.answers l.machine s l.written l.invariant.head (omega (arith, f)) (omega arith) n (sym c.in-Some.ensures) _ (c.put-in-records.ensures ∙ ap (put_at l.answers l.written) b) in
     record { head = rw (from-on n s, c.turn-answer.ensures.machine_after) h; running = l.invariant.running }
 
 -- Where the ways out of the loop meet.
-left : (g : Over) (c : Left-loop-stop g)
-    → Ret c.args.list.now c.args.answers.now c.args.machine.now (record { stop = c.loop-stop-test.stop; consumed = length c.args.list.now - length c.loop-stop.rest.now; written = c.loop-stop-test.written })
-    c.loop-stop.machine c.loop-stop-test.answers
+left : (g : Over) (c : Left-records g)
+    → Ret c.args.list.now c.args.answers.now c.args.machine.now (record { stop = c.records-test.stop; consumed = length c.args.list.now - length c.records.rest.now; written = c.records-test.written })
+    c.records.machine c.records-test.answers
 left g c =
     let list = c.args.list.now in
     let a = c.args.answers.now in
     let m = c.args.machine.now in
-    let l = c.loop-stop in
+    let l = c.records in
     let h = l.invariant.head in
-    elim c.loop-stop-test.branch [
-      | else-loop-stop-test w ↦
+    elim c.records-test.branch [
+      | else-records-test w ↦
           simp (w.answers-is, w.stop-is, w.written-is) (loop.ended list a m c.requires l.answers l.machine l.rest.now l.written h _ l.invariant.running (search rules))
-      | then-loop-stop-test+then-answers-written-lt8 w ↦
+      | then-records-test+then-answers-written-lt8 w ↦
           simp (w.answers-is, w.stop-is, w.written-is) (loop.full list a m c.requires l.answers l.machine l.rest.now l.written h (search rules) w.if-answers-written-lt8.true)
-      | then-loop-stop-test+else-answers-written-lt8+in_default w ↦
+      | then-records-test+else-answers-written-lt8+in_default w ↦
           simp (w.answers-is, w.stop-is, w.written-is) (
           loop.cutoff list a m c.requires l.answers l.machine l.rest.now l.written h (search rules) (omega arith) (sym w.frame.ensures ∙ w.in_default.is) w.put.new.memory
           (w.put.ensures ∙ ap (put_at l.answers l.written) w.answer_bytes-no.ensures)

@@ -3,11 +3,11 @@ use Rattle.std.proofs.Common.{◌≡◌, length, None}
 use Rattle.run.proofs.Loop.{Head}
 use Rattle.run.proofs.run_accepted.Given as goal
 
-abbrev pub invariant-loop-stop : goal.invariant-loop-stop
-invariant-loop-stop g l = record {
+abbrev pub invariant-records : goal.invariant-records
+invariant-records g l = record {
   head : Head l.list l.fn.answers l.fn.machine l.answers l.machine l.rest l.written;
   running : l.stop ≡ None;
 }
 
-abbrev pub decreases-loop-stop : goal.decreases-loop-stop
-decreases-loop-stop g l = length l.rest
+abbrev pub decreases-records : goal.decreases-records
+decreases-records g l = length l.rest
