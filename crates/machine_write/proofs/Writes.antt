@@ -119,14 +119,14 @@ written-dark m r v h off a =
     written-unclocked m r v h a
     ∙ ap (with_drives n) (dark (strobe_levels m) (strobe_levels n) m.drives off off ∙ sym (dark (strobe_levels n) (strobe_levels n) m.drives off off))
 
-dark-next : (m : Machine) (r v : ℕ) → (not (eqb r 0) && not (eqb r 2)) ≡ true → (strobe_levels m).lstrb ≡ false → PhaseAccepted m
+pub dark-next : (m : Machine) (r v : ℕ) → (not (eqb r 0) && not (eqb r 2)) ≡ true → (strobe_levels m).lstrb ≡ false → PhaseAccepted m
     → look (with_via m (via_written r v m.via)) ≡ (step_of (look m) (WriteVia (for_ticks 0) r v)).machine
 unfolding watched_of
 dark-next m r v h off a =
     let n = with_via m (via_written r v m.via) in
     sym (written-dark (look m) r v h off a ∙ ap (with_drives n) (looked-dark (strobe_levels m) (strobe_levels n) m.drives off off))
 
-dark-first : (m : Machine) (r v : ℕ) → (not (eqb r 0) && not (eqb r 2)) ≡ true → (strobe_levels m).lstrb ≡ false → PhaseAccepted m
+pub dark-first : (m : Machine) (r v : ℕ) → (not (eqb r 0) && not (eqb r 2)) ≡ true → (strobe_levels m).lstrb ≡ false → PhaseAccepted m
     → (step_of (look m) (WriteVia (for_ticks 0) r v)).machine ≡ (step_of m (WriteVia (for_ticks 0) r v)).machine
 dark-first m r v h off a = sym (dark-next m r v h off a) ∙ sym (written-dark m r v h off a)
 
@@ -143,7 +143,7 @@ written-still m r v h s a =
     written-unclocked m r v h a
     ∙ ap (λ (k : ℕ). with_drives n (drives_after (watched_of m.disk k) (strobe_levels n) m.drives)) (sym (other-sel r v m.via.ports s))
 
-still-next : (m : Machine) (r v : ℕ) → (not (eqb r 0) && not (eqb r 2)) ≡ true → ((eqb r 1 || eqb r 3) || eqb r 15) ≡ false → PhaseAccepted m
+pub still-next : (m : Machine) (r v : ℕ) → (not (eqb r 0) && not (eqb r 2)) ≡ true → ((eqb r 1 || eqb r 3) || eqb r 15) ≡ false → PhaseAccepted m
     → look (with_via m (via_written r v m.via)) ≡ (step_of (look m) (WriteVia (for_ticks 0) r v)).machine
 unfolding via_written
 still-next m r v h s a =
@@ -151,25 +151,9 @@ still-next m r v h s a =
     sym (written-still (look m) r v h s a
     ∙ ap (with_drives n) (looked-still (strobe_levels m) (strobe_levels n) m.drives (ap (watched_of m.disk) (sym (other-sel r v m.via.ports s)))))
 
-still-first : (m : Machine) (r v : ℕ) → (not (eqb r 0) && not (eqb r 2)) ≡ true → ((eqb r 1 || eqb r 3) || eqb r 15) ≡ false → PhaseAccepted m
+pub still-first : (m : Machine) (r v : ℕ) → (not (eqb r 0) && not (eqb r 2)) ≡ true → ((eqb r 1 || eqb r 3) || eqb r 15) ≡ false → PhaseAccepted m
     → (step_of (look m) (WriteVia (for_ticks 0) r v)).machine ≡ (step_of m (WriteVia (for_ticks 0) r v)).machine
 still-first m r v h s a = sym (still-next m r v h s a) ∙ sym (written-still m r v h s a)
-
--- Either way.
-module _ (m : Machine) (r v : ℕ) (h : (not (eqb r 0) && not (eqb r 2)) ≡ true) (quiet : ((strobe_levels m).lstrb && ((eqb r 1 || eqb r 3) || eqb r 15)) ≡ false) (a : PhaseAccepted m) where
-  pub quiet-next : look (with_via m (via_written r v m.via)) ≡ (step_of (look m) (WriteVia (for_ticks 0) r v)).machine
-  quiet-next = go (strobe_levels m).lstrb refl quiet
-    where
-      go : (x : Bool) → (strobe_levels m).lstrb ≡ x → (x && ((eqb r 1 || eqb r 3) || eqb r 15)) ≡ false → look (with_via m (via_written r v m.via)) ≡ (step_of (look m) (WriteVia (for_ticks 0) r v)).machine
-      go true e q = still-next m r v h q a
-      go false e q = dark-next m r v h e a
-
-  pub quiet-first : (step_of (look m) (WriteVia (for_ticks 0) r v)).machine ≡ (step_of m (WriteVia (for_ticks 0) r v)).machine
-  quiet-first = go (strobe_levels m).lstrb refl quiet
-    where
-      go : (x : Bool) → (strobe_levels m).lstrb ≡ x → (x && ((eqb r 1 || eqb r 3) || eqb r 15)) ≡ false → (step_of (look m) (WriteVia (for_ticks 0) r v)).machine ≡ (step_of m (WriteVia (for_ticks 0) r v)).machine
-      go true e q = still-first m r v h q a
-      go false e q = dark-first m r v h e a
 
 -- Port B and its direction.
 written-port : (m : Machine) (r v : ℕ) → (not (eqb r 0) && not (eqb r 2)) ≡ false

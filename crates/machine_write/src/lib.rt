@@ -1,7 +1,7 @@
 //! What the clock and the strobe make of an item once its action is over, and the values that one record writes to a VIA register, one after the other: a WR has one, an MW up to 64.
 #![tactic(auto)]
 
-ghost use Rattle.std.specs.Prelude.{◌≡◌, true, not, eqb, ◌&&◌, ◌<◌};
+ghost use Rattle.std.specs.Prelude.{length, ◌≡◌, true, not, eqb, ◌&&◌, ◌<◌};
 ghost use Rattle.disk_lines.specs.Lines.{lstrb};
 ghost use Rattle.disk_spec.specs.Watched.{watched_of};
 ghost use Rattle.disk_spec.specs.Strobe.{strobe_after};
@@ -43,26 +43,36 @@ fn under_way(strobe: Strobe, disk: DiskLines, was: u8, is: u8) -> Strobe
     if goes_on { strobe } else { disk_strobe::off() }
 }
 
-// The values where LSTRB is on and each may move SEL: the strobe looks after each. VIA and strobe are in hand meanwhile: stored after each value they cost twice as much.
+// The values where LSTRB is on and none of them moves a wire of the clock. Those of port A may move SEL, and the strobe looks after each; after the others once. VIA and strobe are in
+// hand meanwhile: stored after each value they cost twice as much.
 #[inline(never)]
 fn write_under_strobe(machine: &mut Machine, register: u8, values: &[u8])
     requires register_in_range { register < 16 }
     requires no_wire { (not (eqb register 0) && not (eqb register 2)) ≡ true }
+    requires some_values { 0 < length values.now }
     requires lit { eqb (lstrb machine.old.disk) 1 ≡ true }
     requires phase { PhaseAccepted machine.old }
     ensures { machine.new ≡ after_items machine.old (writes_of register values.now) }
 {
     let disk = machine.disk;
     let mut via = machine.via;
-    let mut strobe = machine.drives.strobe;
-    for &value in values {
-        let was = machine_pins::sel_of(via.ports);
-        via = via.write(register, value);
-        let is = machine_pins::sel_of(via.ports);
-        strobe = under_way(strobe, disk, was, is);
+    if (register == 1) | (register == 3) | (register == 15) {
+        let mut strobe = machine.drives.strobe;
+        for &value in values {
+            let was = machine_pins::sel_of(via.ports);
+            via = via.write(register, value);
+            let is = machine_pins::sel_of(via.ports);
+            strobe = under_way(strobe, disk, was, is);
+        }
+        machine.via = via;
+        machine.drives.strobe = strobe;
+    } else {
+        for &value in values {
+            via = via.write(register, value);
+        }
+        machine.via = via;
+        strobe(machine, disk, via.ports);
     }
-    machine.via = via;
-    machine.drives.strobe = strobe;
 }
 
 /// Writes the values to a VIA register, each a WR of its own with no wait. Port B and its direction move the clock's wires alone, port A and its direction SEL alone, at which the
@@ -77,8 +87,7 @@ pub fn write<L: Lookup>(machine: &mut Machine, register: u8, values: &[u8])
     }
     let mut via = machine.via;
     if (register != 0) & (register != 2) {
-        let moves_sel = (register == 1) | (register == 3) | (register == 15);
-        if machine.disk.is_on(Line::Lstrb) & moves_sel {
+        if machine.disk.is_on(Line::Lstrb) {
             write_under_strobe(machine, register, values);
         } else {
             for &value in values {

@@ -1,5 +1,5 @@
 -- Each value is a step, but for the strobe's look, which one look after them all makes up for.
-use Rattle.std.proofs.Common.{Bool, eqb, ◌&&◌, ◌||◌, ◌≡◌, false, ◌<◌, length, get_or, sym, ap, ◌∙◌}
+use Rattle.std.proofs.Common.{◌≡◌, false, ◌<◌, length, get_or, sym, ap, ◌∙◌}
 use native.Mathlib.Omega.{arith}
 use borrow.Author.Tests.{eqb-false}
 use Rattle.units.specs.Units.{for_ticks}
@@ -7,7 +7,7 @@ use Rattle.disk_spec.specs.Watched.{watched_of}
 use Rattle.item_spec.specs.declared.Item.TheVariants.{WriteVia}
 use Rattle.machine_spec.specs.Machine.{with_via, with_clock, strobe_levels}
 use Rattle.machine_spec.specs.Step.{step_of}
-use Rattle.machine_write.proofs.Writes.{look, look-phase, quiet-next, quiet-first, port-next, port-first, looked-first, write_next, write_end}
+use Rattle.machine_write.proofs.Writes.{look, look-phase, dark-next, dark-first, port-next, port-first, looked-first, write_next, write_end}
 use Rattle.machine_write.proofs.write.Goals as goal
 
 pub loop-value-preserved : goal.loop-value-preserved
@@ -18,10 +18,9 @@ loop-value-preserved g c =
     let n = with_via m l.via in
     let r = c.args.register in
     let v = get_or c.args.values.now l.value-index 0 in
-    let quiet : ((strobe_levels m).lstrb && ((eqb r 1 || eqb r 3) || eqb r 15)) ≡ false =
-    ap (λ (b : Bool). b && ((eqb r 1 || eqb r 3) || eqb r 15)) (sym c.is_on.ensures) ∙ c.if-is_on-moves_sel.false in
+    let off : (strobe_levels m).lstrb ≡ false = sym c.is_on.ensures ∙ c.if-is_on.false in
     let e : look (with_via m c.write-via.result) ≡ (step_of (look n) (WriteVia (for_ticks 0) r v)).machine =
-    ap (λ x. look (with_via m x)) c.write-via.ensures ∙ quiet-next n r v c.if-register.true quiet l.invariant.phase in
+    ap (λ x. look (with_via m x)) c.write-via.ensures ∙ dark-next n r v c.if-register.true off l.invariant.phase in
     record {
       phase = look-phase (look n) (with_via m c.write-via.result) r v l.invariant.phase e;
       left = write_next r c.args.values.now l.value-index (look n) c.loop-value-test.true _ e ∙ l.invariant.left;
@@ -52,11 +51,10 @@ returns-after-loop-value g c =
     let m = c.args.machine.now in
     let r = c.args.register in
     let vs = c.args.values.now in
-    let quiet : ((strobe_levels m).lstrb && ((eqb r 1 || eqb r 3) || eqb r 15)) ≡ false =
-    ap (λ (b : Bool). b && ((eqb r 1 || eqb r 3) || eqb r 15)) (sym c.is_on.ensures) ∙ c.if-is_on-moves_sel.false in
+    let off : (strobe_levels m).lstrb ≡ false = sym c.is_on.ensures ∙ c.if-is_on.false in
     let h : 0 < length vs = omega (arith, eqb-false (length vs) 0 (sym c.is_empty.ensures ∙ c.if-is_empty.false)) in
     c.strobe.ensures ∙ sym (write_end r vs l.value-index (look (with_via m l.via)) c.loop-value-test.false) ∙ l.invariant.left
-    ∙ looked-first m r vs h (λ v. quiet-first m r v c.if-register.true quiet c.requires.phase)
+    ∙ looked-first m r vs h (λ v. dark-first m r v c.if-register.true off c.requires.phase)
 
 pub returns-after-loop-value-else-register : goal.returns-after-loop-value-else-register
 returns-after-loop-value-else-register g c =

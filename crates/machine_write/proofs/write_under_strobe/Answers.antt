@@ -1,4 +1,4 @@
-use Rattle.std.proofs.Common.{ℕ, ◌≡◌, get_or, ap, ◌∙◌}
+use Rattle.std.proofs.Common.{ℕ, ◌≡◌, get_or, sym, ap, ◌∙◌}
 use mathlib.Core.Path.{ap₂}
 use Rattle.units.specs.Units.{for_ticks}
 use Rattle.clock_spec.specs.Phase.{accepted_phase}
@@ -13,7 +13,7 @@ use Rattle.machine_spec.specs.Step.{step_of}
 use Rattle.via.specs.declared.Via.{Via}
 use Rattle.via.specs.Writes.{via_written}
 use Rattle.machine_write.proofs.Looks.{phase-keeps}
-use Rattle.machine_write.proofs.Writes.{written-looked, write_next}
+use Rattle.machine_write.proofs.Writes.{look, look-phase, written-looked, still-next, still-first, looked-first, write_next, write_end}
 use Rattle.machine_write.proofs.write_under_strobe.Goals as goal
 
 -- Each value is a step.
@@ -33,3 +33,26 @@ loop-value-preserved c =
       phase = ap (λ (x : Machine). accepted_phase x.clock.store.chip x.clock.phase (wires x).enable) stepped ∙ phase-keeps n (WriteVia (for_ticks 0) r v) l.invariant.phase;
       left = write_next r c.args.values.now l.value-index n c.loop-value-test.true _ stepped ∙ l.invariant.left;
     }
+
+pub loop-value-else-register-preserved : goal.loop-value-else-register-preserved
+loop-value-else-register-preserved c =
+    let l = c.loop-value-else-register in
+    let m = c.args.machine.now in
+    let n = with_via m l.via in
+    let r = c.args.register in
+    let v = get_or c.args.values.now l.value-index 0 in
+    let e : look (with_via m c.write-via-in-loop-value-else-register.result) ≡ (step_of (look n) (WriteVia (for_ticks 0) r v)).machine =
+    ap (λ x. look (with_via m x)) c.write-via-in-loop-value-else-register.ensures ∙ still-next n r v c.requires.no_wire c.if-register.false l.invariant.phase in
+    record {
+      phase = look-phase (look n) (with_via m c.write-via-in-loop-value-else-register.result) r v l.invariant.phase e;
+      left = write_next r c.args.values.now l.value-index (look n) c.loop-value-else-register-test.true _ e ∙ l.invariant.left;
+    }
+
+pub returns-after-loop-value-else-register : goal.returns-after-loop-value-else-register
+returns-after-loop-value-else-register c =
+    let l = c.loop-value-else-register in
+    let m = c.args.machine.now in
+    let r = c.args.register in
+    let vs = c.args.values.now in
+    c.strobe.ensures ∙ sym (write_end r vs l.value-index (look (with_via m l.via)) c.loop-value-else-register-test.false) ∙ l.invariant.left
+    ∙ looked-first m r vs c.requires.some_values (λ v. still-first m r v c.requires.no_wire c.if-register.false c.requires.phase)
