@@ -51,8 +51,9 @@ fn write(list: &[u8], out: &mut [u8])
         let Ok(row) = row else {
             return;
         };
+        let size = capture_part::size(levels, row);
         capture_part::put(out, at, levels, row);
-        at += capture_part::size(levels, row);
+        at += size;
         levels = capture_record::next(levels, row);
     }
 }

@@ -31,7 +31,7 @@ loop-row-preserved c =
     record {
       can = tt;
       finite = tt;
-      wrote = rw (c.size-at.ensures, c.next-levels.ensures)
+      wrote = rw (c.size-size.ensures, c.next-levels.ensures)
           (wrote-next c.args.out.now (turned_of c.args.list.now) c.loop-row.out c.loop-row.at (turned_from c.loop-row.levels (capture_of c.loop-row.row-iterator.left.now)) c.loop-row.invariant.wrote (part_of c.loop-row.levels c.in-Ok.row.now) (turned_from (next_of c.loop-row.levels c.in-Ok.row.now) (capture_of c.next.new.self.left.now))
           (ap (turned_from c.loop-row.levels) g ∙ todo-next c.loop-row.levels c.in-Ok.row.now (capture_of c.next.new.self.left.now)) c.requires c.put.new.out c.put.ensures);
     }
