@@ -58,11 +58,12 @@ fn write_under_strobe(machine: &mut Machine, register: u8, values: &[u8])
     let mut via = machine.via;
     if (register == 1) | (register == 3) | (register == 15) {
         let mut strobe = machine.drives.strobe;
+        let mut sel = machine_pins::sel_of(via.ports);
         for &value in values {
-            let was = machine_pins::sel_of(via.ports);
             via = via.write(register, value);
             let is = machine_pins::sel_of(via.ports);
-            strobe = under_way(strobe, disk, was, is);
+            strobe = under_way(strobe, disk, sel, is);
+            sel = is;
         }
         machine.via = via;
         machine.drives.strobe = strobe;

@@ -26,10 +26,12 @@ loop-value-preserved c =
     let v = get_or c.args.values.now l.value-index 0 in
     let looked : c.under_way-strobe.result ≡ strobe_after (strobe_levels n) (watched_of n.disk (sel_of (via_written r v n.via).ports)) n.drives.strobe =
     c.under_way-strobe.ensures
-    ∙ ap₂ (λ (b a : ℕ). strobe_after (watched_of m.disk b) (watched_of m.disk a) l.strobe) c.sel_of-was.ensures.0 (c.sel_of-is.ensures.0 ∙ ap (λ (x : Via). sel_of x.ports) c.write-via.ensures) in
+    ∙ ap₂ (λ (b a : ℕ). strobe_after (watched_of m.disk b) (watched_of m.disk a) l.strobe) l.invariant.sel (c.sel_of-is.ensures.0 ∙ ap (λ (x : Via). sel_of x.ports) c.write-via.ensures) in
     let stepped : with_drives (with_via m c.write-via.result) (with_strobe m.drives c.under_way-strobe.result) ≡ (step_of n (WriteVia (for_ticks 0) r v)).machine =
     ap (λ x. with_drives (with_via m x) (with_strobe m.drives c.under_way-strobe.result)) c.write-via.ensures ∙ written-looked n r v c.requires.no_wire l.invariant.phase looked in
     record {
+      sel = c.sel_of-is.ensures.0;
+      level = c.sel_of-is.ensures.1;
       phase = ap (λ (x : Machine). accepted_phase x.clock.store.chip x.clock.phase (wires x).enable) stepped ∙ phase-keeps n (WriteVia (for_ticks 0) r v) l.invariant.phase;
       left = write_next r c.args.values.now l.value-index n c.loop-value-test.true _ stepped ∙ l.invariant.left;
     }
