@@ -1,14 +1,17 @@
 -- The values of one record, written as single WR items: what they leave of each part of the machine, part by part.
 use Prim.Native.Nat.{ℕ, ◌+◌, ◌-◌, ◌*◌, ◌/◌, ◌%◌, ◌^◌, ◌≤◌, ◌<◌}
 use mathlib.Core.Path.{◌≡◌, refl, sym, ap, ap₂, ◌∙◌}
+use mathlib.Core.Bool.{Bool, true, false, not, ◌&&◌}
 use mathlib.Core.List.{List, [], ◌∷◌}
 use mathlib.Core.Option.{none, some, none-ne-some, some-ne-none, some-injective}
 use native.Mathlib.Omega.{arith}
 use native.Mathlib.Nat.{one-mul, add-mul, mod-lt, mod-le, div-add-mod', div-eq_of_lt-le}
+use lib.Dec.{eqb}
 use lib.Pow.{pow_pos}
 use lib.ListN.{length}
 use Rattle.units.specs.Units.{for_ticks}
 use Rattle.units.specs.declared.WaitTicks.{WaitTicks}
+use Rattle.via.specs.declared.Ports.{Ports}
 use Rattle.via.specs.Via.{ticks}
 use Rattle.via.specs.Writes.{via_written}
 use Rattle.clock_spec.specs.declared.Wires.{Wires}
@@ -20,9 +23,9 @@ use Rattle.disk_lines.specs.Lines.{with_level, after_access}
 use Rattle.disk_spec.specs.declared.Drives.{Drives}
 use Rattle.disk_spec.specs.declared.Watched.{Watched}
 use Rattle.disk_spec.specs.Drive.{drive_ticks}
-use Rattle.disk_spec.specs.Strobe.{strobe_ticks}
+use Rattle.disk_spec.specs.Strobe.{strobe_ticks, no_strobe}
 use Rattle.disk_spec.specs.Watched.{watched_of}
-use Rattle.disk_spec.specs.Drives.{drives_ticks, drives_after}
+use Rattle.disk_spec.specs.Drives.{with_strobe, drives_ticks, drives_after}
 use Rattle.item_spec.specs.declared.Item.{Item}
 use Rattle.item_spec.specs.declared.Item.TheVariants.{ReadVia, ReadIwm, WriteVia, WriteIwm, Blank, Second, Line, Sense, Reset, Power, Disk, Pulse}
 use Rattle.item_spec.specs.Items.{ItemInRange}
@@ -33,14 +36,15 @@ use Rattle.item_spec.specs.Items.{write_to}
 use Rattle.item_spec.specs.Many.{single, singles_after}
 use Rattle.machine_spec.specs.declared.Machine.{Machine}
 use Rattle.machine_spec.specs.Pins.{sel_of}
-use Rattle.machine_spec.specs.Machine.{wires, strobe_levels}
+use Rattle.machine_spec.specs.Machine.{with_via, with_clock, with_drives, wires, strobe_levels}
 use Rattle.machine_spec.specs.Action.{acted_of}
 use Rattle.machine_spec.specs.Stages.{item_wait, after_wait, after_wires, after_strobe}
 use Rattle.machine_spec.specs.Step.{step_of, after_items}
 use Rattle.machine_spec.proofs.Stages.{waited-wires, waited-watched}
-use Rattle.machine_write.specs.Values.{PhaseAccepted, via_after, clock_after, writes_of, register_written, step_with}
+use Rattle.machine_write.specs.Values.{PhaseAccepted, ports_after, moves_sel, spoilt_if, via_after, clock_after, writes_of, register_written, step_with}
 use Rattle.machine_write.proofs.Looks.{phase-keeps, settled}
-use Rattle.machine_write.proofs.Strobes.{strobes_after}
+use Rattle.machine_write.proofs.Values.{clock-still, via-ports}
+use Rattle.machine_write.proofs.Strobes.{strobes_after, strobes-lit, lit-step}
 
 -- ---- a VIA register
 
@@ -56,7 +60,7 @@ apart_of r vs m =
       drives = strobes_after r vs m.disk m.via.ports m.drives;
     }
 
-via-apart : (w : WaitTicks) (r : ℕ) (vs : List ℕ) (m : Machine) → after_items m (singles_after (record { wait = w; to = Via r }) (for_ticks 0) vs) ≡ apart_of r vs m
+pub via-apart : (w : WaitTicks) (r : ℕ) (vs : List ℕ) (m : Machine) → after_items m (singles_after (record { wait = w; to = Via r }) (for_ticks 0) vs) ≡ apart_of r vs m
 unfolding step_of item_wait acted_of ticks drives_ticks drive_ticks strobe_ticks via_written via_after clock_after strobes_after
 via-apart w r [] m = refl
 via-apart w r (v ∷ vs) m = via-apart w r vs (step_of m (WriteVia (for_ticks 0) r v)).machine
@@ -181,3 +185,29 @@ written_step m (Pulse w l) vs q o n = absurd (none-ne-some q o)
 pub singles-writes : (w : WaitTicks) (r : ℕ) (vs : List ℕ) → singles_after (record { wait = w; to = Via r }) (for_ticks 0) vs ≡ writes_of r vs
 singles-writes w r [] = refl
 singles-writes w r (v ∷ vs) = ap (λ (l : List Item). WriteVia (for_ticks 0) r v ∷ l) (singles-writes w r vs)
+
+-- With LSTRB on, where they move no wire of the clock.
+lit-apart : (m : Machine) (r : ℕ) (vs : List ℕ) → (not (eqb r 0) && not (eqb r 2)) ≡ true → PhaseAccepted m → 0 < length vs → (strobe_levels m).lstrb ≡ true
+    → after_items m (writes_of r vs)
+    ≡ with_drives (with_via m (via_after r vs m.via)) (spoilt_if (moves_sel r vs m.via.ports (strobe_levels m).sel) (drives_after (strobe_levels m) (watched_of m.disk (sel_of (ports_after r vs m.via.ports))) m.drives))
+lit-apart m r vs h a n on =
+    ap (after_items m) (sym (singles-writes (for_ticks 0) r vs)) ∙ via-apart (for_ticks 0) r vs m
+    ∙ ap₂ (λ (c : Clock) (d : Drives). with_drives (with_clock (with_via m (via_after r vs m.via)) c) d) (clock-still r h vs m.via.ports m.clock a) (strobes-lit r vs m.disk m.via.ports m.drives n on)
+
+-- SEL moved under the strobe, and be it for a moment; or it kept its level.
+module _ (m : Machine) (r : ℕ) (vs : List ℕ) (h : (not (eqb r 0) && not (eqb r 2)) ≡ true) (a : PhaseAccepted m) (n : 0 < length vs) (on : (strobe_levels m).lstrb ≡ true) where
+  pub lit-spoilt : moves_sel r vs m.via.ports (strobe_levels m).sel ≡ true → after_items m (writes_of r vs) ≡ with_drives (with_via m (via_after r vs m.via)) (with_strobe m.drives no_strobe)
+  unfolding watched_of
+  lit-spoilt e =
+      let x = with_via m (via_after r vs m.via) in
+      let d = drives_after (strobe_levels m) (watched_of m.disk (sel_of (ports_after r vs m.via.ports))) m.drives in
+      lit-apart m r vs h a n on
+      ∙ ap (λ (b : Bool). with_drives x (spoilt_if b d)) e
+      ∙ ap (λ (y : Drives). with_drives x (with_strobe y no_strobe)) (lit-step m.disk m.via.ports (ports_after r vs m.via.ports) m.drives on)
+
+  pub lit-kept : moves_sel r vs m.via.ports (strobe_levels m).sel ≡ false → after_strobe (strobe_levels m) (with_via m (via_after r vs m.via)) ≡ after_items m (writes_of r vs)
+  lit-kept e =
+      let x = with_via m (via_after r vs m.via) in
+      let d = drives_after (strobe_levels m) (watched_of m.disk (sel_of (ports_after r vs m.via.ports))) m.drives in
+      ap (λ (p : Ports). with_drives x (drives_after (strobe_levels m) (watched_of m.disk (sel_of p)) m.drives)) (via-ports r vs m.via)
+      ∙ sym (lit-apart m r vs h a n on ∙ ap (λ (b : Bool). with_drives x (spoilt_if b d)) e)

@@ -1,19 +1,14 @@
 -- What the looks of the clock and the strobe leave of any machine whose phase is accepted: the phase stays so, and a second look of the strobe changes nothing.
 use mathlib.Core.Path.{◌≡◌, refl, sym, ap, ◌∙◌}
-use Prim.Native.Nat.{ℕ, zero, suc, ◌<◌}
-use mathlib.Core.Bool.{Bool, true, false, cond, ◌&&◌, beq, false≢true}
-use native.Mathlib.Omega.{arith}
-use lib.Dec.{eqb}
+use mathlib.Core.Bool.{Bool, true, false, ◌&&◌, beq, false≢true}
 use Rattle.levels.proofs.Laws.{both}
 use Rattle.clock_spec.specs.Phase.{accepted_phase, shown_level}
 use Rattle.clock.specs.Step.{step_wires}
 use Rattle.clock.proofs.Keep.{keeps-step}
-use Rattle.disk_lines.specs.declared.DiskLines.{DiskLines}
-use Rattle.disk_lines.specs.Lines as lines
 use Rattle.disk_spec.specs.declared.Drives.{Drives}
 use Rattle.disk_spec.specs.declared.Strobe.{Strobe}
 use Rattle.disk_spec.specs.declared.Watched.{Watched}
-use Rattle.disk_spec.specs.Watched.{watched_of, held_still, unspoilt}
+use Rattle.disk_spec.specs.Watched.{held_still, unspoilt}
 use Rattle.disk_spec.specs.Strobe.{no_strobe, after_by, strobe_after}
 use Rattle.disk_spec.specs.Drives.{with_strobe, drives_written, drives_after}
 use Rattle.disk_spec.proofs.Pulses.{level-writes-nothing}
@@ -94,26 +89,3 @@ looked-still v w d e = ap (λ (x : Watched). drives_after w w (drives_after x x 
 
 pub looked-dark : (v w : Watched) (d : Drives) → v.lstrb ≡ false → w.lstrb ≡ false → drives_after w w (drives_after v v d) ≡ drives_after w w d
 looked-dark v w d p q = ap (drives_after w w) (dark v v d p p) ∙ dark w w (with_strobe d no_strobe) q q ∙ sym (dark w w d q q)
-
--- ---- with LSTRB on
-
-sel-level : (a b : ℕ) → a < 2 → b < 2 → beq (eqb a 1) (eqb b 1) ≡ eqb a b
-sel-level zero zero h k = refl
-sel-level zero (suc zero) h k = refl
-sel-level (suc zero) zero h k = refl
-sel-level (suc zero) (suc zero) h k = refl
-sel-level (suc (suc a)) b h k = absurd (omega arith)
-sel-level zero (suc (suc b)) h k = absurd (omega arith)
-sel-level (suc zero) (suc (suc b)) h k = absurd (omega arith)
-
-fine : (b e : Bool) (s : Strobe) → after_by true true b e s ≡ cond b s no_strobe
-fine true e s = refl
-fine false e s = refl
-
--- A strobe goes on while ENABLE is on and SEL keeps its level.
-pub lit : (d : DiskLines) (a b : ℕ) (s : Strobe) → eqb (lines.lstrb d) 1 ≡ true → a < 2 → b < 2
-    → strobe_after (watched_of d a) (watched_of d b) s ≡ cond (eqb (lines.enable d) 1 && eqb a b) s no_strobe
-unfolding strobe_after unspoilt held_still watched_of
-lit d a b s on h k =
-    let e = eqb (lines.enable d) 1 in
-    simp (on, same (eqb (lines.ca0 d) 1), same (eqb (lines.ca1 d) 1), same (eqb (lines.ca2 d) 1), same (eqb (lines.select d) 1), sel-level a b h k, and-true (eqb a b)) (fine (e && eqb a b) e s)

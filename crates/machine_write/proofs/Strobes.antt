@@ -63,7 +63,7 @@ fine true e s = refl
 fine false e s = refl
 
 -- One look.
-lit-step : (l : DiskLines) (p q : Ports) (d : Drives) → eqb (lines.lstrb l) 1 ≡ true
+pub lit-step : (l : DiskLines) (p q : Ports) (d : Drives) → eqb (lines.lstrb l) 1 ≡ true
     → drives_after (levels l p) (levels l q) d ≡ with_strobe d (keep (eqb (lines.enable l) 1) (sel p) (sel q) d.strobe)
 unfolding drives_after strobe_after unspoilt held_still watched_of
 lit-step l p q d on =
@@ -144,7 +144,7 @@ spoil false true true false d h = absurd (false≢true (h refl))
 spoil false true false true d h = absurd (false≢true (h refl))
 spoil false false a b d h = refl
 
-strobes-lit : (r : ℕ) (vs : List ℕ) (l : DiskLines) (p : Ports) (d : Drives) → 0 < length vs → (watched_of l (sel_of p)).lstrb ≡ true
+pub strobes-lit : (r : ℕ) (vs : List ℕ) (l : DiskLines) (p : Ports) (d : Drives) → 0 < length vs → (watched_of l (sel_of p)).lstrb ≡ true
     → strobes_after r vs l p d ≡ spoilt_if (moves_sel r vs p (watched_of l (sel_of p)).sel) (drives_after (watched_of l (sel_of p)) (watched_of l (sel_of (ports_after r vs p))) d)
 unfolding watched_of
 strobes-lit r [] l p d h on = absurd (omega arith)

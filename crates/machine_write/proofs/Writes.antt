@@ -24,9 +24,8 @@ use Rattle.disk_lines.specs.Lines.{lstrb}
 use Rattle.disk_spec.specs.Drive.{drive_ticks}
 use Rattle.disk_spec.specs.Watched.{watched_of}
 use Rattle.disk_spec.specs.declared.Strobe.{Strobe}
-use Rattle.disk_spec.specs.Strobe.{no_strobe, strobe_ticks, strobe_after}
-use Rattle.disk_spec.specs.Drives.{with_strobe, drives_ticks, drives_written, drives_after}
-use Rattle.disk_spec.proofs.Pulses.{level-writes-nothing}
+use Rattle.disk_spec.specs.Strobe.{no_strobe, strobe_ticks}
+use Rattle.disk_spec.specs.Drives.{with_strobe, drives_ticks, drives_after}
 use Rattle.item_spec.specs.declared.Item.TheVariants.{WriteVia}
 use Rattle.machine_spec.specs.declared.Machine.{Machine}
 use Rattle.machine_spec.specs.Machine.{with_via, with_clock, with_drives, wires, strobe_levels}
@@ -88,18 +87,6 @@ written-unclocked m r v h a =
     ∙ ap (λ (w : Wires). after_strobe (strobe_levels m) (with_clock n (step_wires m.clock (wires m) w))) (other-register r v m.via.ports (shown_level m.clock.phase) h)
     ∙ ap (λ (c : Clock). after_strobe (strobe_levels m) (with_clock n c)) (still m.clock (wires m) a)
 
--- Nor does a look of the strobe write to a drive, since LSTRB stays.
-pub written-looked : (m : Machine) (r v : ℕ) {s : Strobe} → (not (eqb r 0) && not (eqb r 2)) ≡ true → PhaseAccepted m
-    → s ≡ strobe_after (strobe_levels m) (watched_of m.disk (sel_of (via_written r v m.via).ports)) m.drives.strobe
-    → with_drives (with_via m (via_written r v m.via)) (with_strobe m.drives s) ≡ (step_of m (WriteVia (for_ticks 0) r v)).machine
-unfolding watched_of drives_after
-written-looked m r v {s} h a e =
-    let n = with_via m (via_written r v m.via) in
-    ap (λ (t : Strobe). with_drives n (with_strobe m.drives t)) e
-    ∙ sym (ap (λ (b : Bool). with_drives n (with_strobe (drives_written b (strobe_levels n) m.drives) (strobe_after (strobe_levels m) (strobe_levels n) m.drives.strobe)))
-    (level-writes-nothing (strobe_levels m) (strobe_levels n) m.drives.strobe refl))
-    ∙ sym (written-unclocked m r v h a)
-
 -- ---- the strobe looks once for all values, where they leave LSTRB off or move no level that it goes by
 
 -- The strobe's look at levels that stay.
@@ -129,31 +116,6 @@ dark-next m r v h off a =
 pub dark-first : (m : Machine) (r v : ℕ) → (not (eqb r 0) && not (eqb r 2)) ≡ true → (strobe_levels m).lstrb ≡ false → PhaseAccepted m
     → (step_of (look m) (WriteVia (for_ticks 0) r v)).machine ≡ (step_of m (WriteVia (for_ticks 0) r v)).machine
 dark-first m r v h off a = sym (dark-next m r v h off a) ∙ sym (written-dark m r v h off a)
-
--- With LSTRB on, where the register is none of port A's.
-other-sel : (r v : ℕ) (p : Ports) → ((eqb r 1 || eqb r 3) || eqb r 15) ≡ false → sel_of (ports_written r v p) ≡ sel_of p
-unfolding sel_of ports_written
-other-sel r v p h = let x = neither (eqb r 1 || eqb r 3) (eqb r 15) h in let y = neither (eqb r 1) (eqb r 3) x.0 in simp (y.0, y.1, x.1)
-
-written-still : (m : Machine) (r v : ℕ) → (not (eqb r 0) && not (eqb r 2)) ≡ true → ((eqb r 1 || eqb r 3) || eqb r 15) ≡ false → PhaseAccepted m
-    → (step_of m (WriteVia (for_ticks 0) r v)).machine ≡ look (with_via m (via_written r v m.via))
-unfolding via_written
-written-still m r v h s a =
-    let n = with_via m (via_written r v m.via) in
-    written-unclocked m r v h a
-    ∙ ap (λ (k : ℕ). with_drives n (drives_after (watched_of m.disk k) (strobe_levels n) m.drives)) (sym (other-sel r v m.via.ports s))
-
-pub still-next : (m : Machine) (r v : ℕ) → (not (eqb r 0) && not (eqb r 2)) ≡ true → ((eqb r 1 || eqb r 3) || eqb r 15) ≡ false → PhaseAccepted m
-    → look (with_via m (via_written r v m.via)) ≡ (step_of (look m) (WriteVia (for_ticks 0) r v)).machine
-unfolding via_written
-still-next m r v h s a =
-    let n = with_via m (via_written r v m.via) in
-    sym (written-still (look m) r v h s a
-    ∙ ap (with_drives n) (looked-still (strobe_levels m) (strobe_levels n) m.drives (ap (watched_of m.disk) (sym (other-sel r v m.via.ports s)))))
-
-pub still-first : (m : Machine) (r v : ℕ) → (not (eqb r 0) && not (eqb r 2)) ≡ true → ((eqb r 1 || eqb r 3) || eqb r 15) ≡ false → PhaseAccepted m
-    → (step_of (look m) (WriteVia (for_ticks 0) r v)).machine ≡ (step_of m (WriteVia (for_ticks 0) r v)).machine
-still-first m r v h s a = sym (still-next m r v h s a) ∙ sym (written-still m r v h s a)
 
 -- Port B and its direction.
 written-port : (m : Machine) (r v : ℕ) → (not (eqb r 0) && not (eqb r 2)) ≡ false

@@ -4,17 +4,16 @@
 ghost use Rattle.std.specs.Prelude.{length, ◌≡◌, true, not, eqb, ◌&&◌, ◌<◌};
 ghost use Rattle.disk_lines.specs.Lines.{lstrb};
 ghost use Rattle.disk_spec.specs.Watched.{watched_of};
-ghost use Rattle.disk_spec.specs.Strobe.{strobe_after};
+ghost use Rattle.via.specs.Writes.{ports_written};
 ghost use Rattle.machine_spec.specs.Pins.{sel_of};
 ghost use Rattle.machine_spec.specs.Stages.{after_strobe};
 ghost use Rattle.machine_spec.specs.Step.{after_items};
-ghost use Rattle.machine_write.specs.Values.{PhaseAccepted, writes_of};
+ghost use Rattle.machine_write.specs.Values.{PhaseAccepted, via_after, moves_sel, writes_of};
 
 use clock_command::Lookup;
 use disk_lines::{DiskLines, Line};
-use disk_spec::Strobe;
 use machine_spec::Machine;
-use via::Ports;
+use via::{Ports, Via};
 
 /// The strobe compares its levels with what they were before the item, with these disk lines and ports. LSTRB is asked first: compiled code makes all seven levels wherever they are named,
 /// a fifth of a VB.
@@ -33,46 +32,73 @@ pub fn strobe(machine: &mut Machine, disk: DiskLines, ports: Ports)
     }
 }
 
-// The strobe after a value, with LSTRB on: it goes on while ENABLE is on and SEL keeps its level.
-fn under_way(strobe: Strobe, disk: DiskLines, was: u8, is: u8) -> Strobe
-    requires lit { eqb (lstrb disk) 1 ≡ true }
-    requires levels { (was < 2) × (is < 2) }
-    ensures { result ≡ strobe_after (watched_of disk was) (watched_of disk is) strobe }
+// The ports once a value is written to a register.
+#[tactic(auto, unfolding(via::specs::Writes::ports_written))]
+fn ports_written(ports: Ports, register: u8, value: u8) -> Ports
+    ensures { result ≡ ports_written register value ports }
 {
-    let goes_on = disk.is_on(Line::Enable) & (was == is);
-    if goes_on { strobe } else { disk_strobe::off() }
+    match register {
+        0 => Ports {
+            outb: value,
+            ..ports
+        },
+        1 | 15 => Ports {
+            outa: value,
+            ..ports
+        },
+        2 => Ports {
+            dirb: value,
+            ..ports
+        },
+        3 => Ports {
+            dira: value,
+            ..ports
+        },
+        _ => ports,
+    }
 }
 
-// The values where LSTRB is on and none of them moves a wire of the clock. Those of port A may move SEL, and the strobe looks after each; after the others once. VIA and strobe are in
-// hand meanwhile: stored after each value they cost twice as much.
+/// The VIA after the values.
+pub fn via_after(via: Via, register: u8, values: &[u8]) -> Via
+    ensures { result ≡ via_after register values.now via }
+{
+    let mut after = via;
+    for &value in values {
+        after = after.write(register, value);
+    }
+    after
+}
+
+/// Whether SEL has another level than this after one of the values.
+pub fn moves_sel(ports: Ports, register: u8, values: &[u8], sel: bool) -> bool
+    ensures { result ≡ moves_sel register values.now ports sel }
+{
+    for &value in values {
+        let after = ports_written(ports, register, value);
+        if (machine_pins::sel_of(after) == 1) != sel {
+            return true;
+        }
+    }
+    false
+}
+
+// The values where LSTRB is on and none of them moves a wire of the clock. The strobe looks at the levels before and after them all; one that SEL has moved under, and be it for a moment,
+// is spoilt.
 #[inline(never)]
 fn write_under_strobe(machine: &mut Machine, register: u8, values: &[u8])
-    requires register_in_range { register < 16 }
     requires no_wire { (not (eqb register 0) && not (eqb register 2)) ≡ true }
     requires some_values { 0 < length values.now }
     requires lit { eqb (lstrb machine.old.disk) 1 ≡ true }
     requires phase { PhaseAccepted machine.old }
     ensures { machine.new ≡ after_items machine.old (writes_of register values.now) }
 {
-    let disk = machine.disk;
-    let mut via = machine.via;
-    if (register == 1) | (register == 3) | (register == 15) {
-        let mut strobe = machine.drives.strobe;
-        let mut sel = machine_pins::sel_of(via.ports);
-        for &value in values {
-            via = via.write(register, value);
-            let is = machine_pins::sel_of(via.ports);
-            strobe = under_way(strobe, disk, sel, is);
-            sel = is;
-        }
-        machine.via = via;
-        machine.drives.strobe = strobe;
+    let ports = machine.via.ports;
+    machine.via = via_after(machine.via, register, values);
+    if moves_sel(ports, register, values, machine_pins::sel_of(ports) == 1) {
+        let spoilt = disk_strobe::off();
+        machine.drives.strobe = spoilt;
     } else {
-        for &value in values {
-            via = via.write(register, value);
-        }
-        machine.via = via;
-        strobe(machine, disk, via.ports);
+        strobe(machine, machine.disk, ports);
     }
 }
 
