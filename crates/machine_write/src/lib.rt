@@ -102,11 +102,10 @@ fn write_under_strobe(machine: &mut Machine, register: u8, values: &[u8])
     }
 }
 
-/// Writes the values to a VIA register, each a WR of its own with no wait. Port B and its direction move the clock's wires alone, port A and its direction SEL alone, at which the
-/// strobe looks while LSTRB is on: after each value there, else once for all of them.
+/// Writes the values to a VIA register, each a WR of its own with no wait. Port B and its direction move the clock's wires alone, the other registers at most SEL, at which the
+/// strobe looks while LSTRB is on; where it sees nothing move, one look stands for all.
 pub fn write<L: Lookup>(machine: &mut Machine, register: u8, values: &[u8])
-    requires register_in_range { register < 16 }
-    requires phase { PhaseAccepted machine.old }
+    requires { PhaseAccepted machine.old }
     ensures { machine.new ≡ after_items machine.old (writes_of register values.now) }
 {
     if values.is_empty() {

@@ -12,8 +12,8 @@ use Rattle.machine_write.proofs.Apart.{unwritten-step}
 use Rattle.machine_act.proofs.Steps as steps
 use Rattle.machine_act.proofs.step.Goals as goal
 
-pub write-requires-clause-phase : goal.write-requires-clause-phase
-write-requires-clause-phase g c =
+pub write-requires : goal.write-requires
+write-requires g c =
     let m = c.args.machine.now in
     steps.ready m c.wait.new.machine c.args.item (c.wait.ensures ∙ ap (λ (n : ℕ). after_wait n m) c.wait_of.ensures) c.requires.phase
 

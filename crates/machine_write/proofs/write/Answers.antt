@@ -54,7 +54,7 @@ returns-after-loop-value g c =
     let off : (strobe_levels m).lstrb ≡ false = sym c.is_on.ensures ∙ c.if-is_on.false in
     let h : 0 < length vs = omega (arith, eqb-false (length vs) 0 (sym c.is_empty.ensures ∙ c.if-is_empty.false)) in
     c.strobe.ensures ∙ sym (write_end r vs l.value-index (look (with_via m l.via)) c.loop-value-test.false) ∙ l.invariant.left
-    ∙ looked-first m r vs h (λ v. dark-first m r v c.if-register.true off c.requires.phase)
+    ∙ looked-first m r vs h (λ v. dark-first m r v c.if-register.true off c.requires)
 
 pub returns-after-loop-value-else-register : goal.returns-after-loop-value-else-register
 returns-after-loop-value-else-register g c =
