@@ -91,12 +91,14 @@ fn run(rt: &impl Print, script: &[u8]) {
     let mut value = 0;
     let mut number = 0;
     let mut at = 0;
+    // Line by line as `line_end` has it, whose clause says where a line ends; what follows the last line feed is a line only where it is not empty.
     while at < script.len() {
         let end = vectors_words::line_end(script, at);
         number += 1;
         match line(rt, &mut image, &script[at..end], value) {
             Some(seen) => value = seen,
             None => {
+                // A script line as `say` prints it, the number at `#`: the pieces are writes of their own.
                 vectors_print::say(rt, b". line #: not understood", number);
                 return;
             }
