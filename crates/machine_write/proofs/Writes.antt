@@ -25,11 +25,13 @@ use Rattle.disk_spec.specs.Drive.{drive_ticks}
 use Rattle.disk_spec.specs.Watched.{watched_of}
 use Rattle.disk_spec.specs.declared.Strobe.{Strobe}
 use Rattle.disk_spec.specs.Strobe.{no_strobe, strobe_ticks}
-use Rattle.disk_spec.specs.Drives.{with_strobe, drives_ticks, drives_after}
+use Rattle.disk_spec.specs.Drives.{with_strobe, drives_ticks, drives_after, accepted_drives}
+use Rattle.disk_spec.proofs.DrivesLaws.{drives-unlit, drives-untouched}
 use Rattle.item_spec.specs.declared.Item.TheVariants.{WriteVia}
 use Rattle.machine_spec.specs.declared.Machine.{Machine}
-use Rattle.machine_spec.specs.Machine.{with_via, with_clock, with_drives, wires, strobe_levels}
+use Rattle.machine_spec.specs.Machine.{with_via, with_clock, with_drives, wires, strobe_levels, accepted_of}
 use Rattle.machine_spec.specs.Pins.{wires_of, sel_of}
+use Rattle.machine_spec.proofs.MachineLaws.{parts}
 use Rattle.machine_spec.specs.Action.{acted_of}
 use Rattle.machine_spec.specs.Stages.{item_wait, after_wires, after_strobe}
 use Rattle.machine_spec.specs.Step.{step_of, after_items}
@@ -42,12 +44,21 @@ neither : (a b : Bool) → (a || b) ≡ false → (a ≡ false) × (b ≡ false)
 neither true b e = (e, absurd (false≢true (sym e)))
 neither false b e = (refl, e)
 
-pub unlit : (d : DiskLines) (p : Ports) (m : Machine) {s : Strobe} → (eqb (lstrb d) 1 || eqb (lstrb m.disk) 1) ≡ false → s ≡ no_strobe
+-- With LSTRB off before and after, no strobe is left.
+pub unstrobed : (d : DiskLines) (p : Ports) (m : Machine) {s : Strobe} → (eqb (lstrb d) 1 || eqb (lstrb m.disk) 1) ≡ false → s ≡ no_strobe
     → with_drives m (with_strobe m.drives s) ≡ after_strobe (watched_of d (sel_of p)) m
 unfolding watched_of
-unlit d p m off e =
+unstrobed d p m off e =
     let q = neither (eqb (lstrb d) 1) (eqb (lstrb m.disk) 1) off in
     ap (λ (t : Strobe). with_drives m (with_strobe m.drives t)) e ∙ sym (ap (with_drives m) (dark (watched_of d (sel_of p)) (strobe_levels m) m.drives q.0 q.1))
+
+-- Accepted drives hold none then, and the look leaves the machine as it was.
+pub unlit : (d : DiskLines) (p : Ports) (m : Machine) → (eqb (lstrb d) 1 || eqb (lstrb m.disk) 1) ≡ false → accepted_drives (watched_of d (sel_of p)) m.drives ≡ true
+    → m ≡ after_strobe (watched_of d (sel_of p)) m
+unfolding watched_of
+unlit d p m off h =
+    let q = neither (eqb (lstrb d) 1) (eqb (lstrb m.disk) 1) off in
+    sym (ap (with_drives m) (drives-unlit (watched_of d (sel_of p)) (strobe_levels m) m.drives q.0 q.1 h))
 
 -- ---- the values
 
@@ -86,6 +97,25 @@ written-unclocked m r v h a =
     write_step m r v
     ∙ ap (λ (w : Wires). after_strobe (strobe_levels m) (with_clock n (step_wires m.clock (wires m) w))) (other-register r v m.via.ports (shown_level m.clock.phase) h)
     ∙ ap (λ (c : Clock). after_strobe (strobe_levels m) (with_clock n c)) (still m.clock (wires m) a)
+
+-- Nor does the strobe, with LSTRB off, where the machine is accepted.
+pub written-alone : (m : Machine) (r v : ℕ) → (not (eqb r 0) && not (eqb r 2)) ≡ true → (strobe_levels m).lstrb ≡ false → accepted_of m ≡ true
+    → (step_of m (WriteVia (for_ticks 0) r v)).machine ≡ with_via m (via_written r v m.via)
+unfolding watched_of
+written-alone m r v h off a =
+    let n = with_via m (via_written r v m.via) in
+    written-unclocked m r v h (parts m a).phase
+    ∙ ap (with_drives n) (drives-unlit (strobe_levels m) (strobe_levels n) m.drives off off (parts m a).drives)
+
+-- Of port B and its direction the clock sees its wires, and the strobe nothing, where the machine is accepted.
+pub written-unstrobed : (m : Machine) (r v : ℕ) → (not (eqb r 0) && not (eqb r 2)) ≡ false → accepted_of m ≡ true
+    → (step_of m (WriteVia (for_ticks 0) r v)).machine ≡ after_wires (wires m) (with_via m (via_written r v m.via))
+unfolding via_written
+written-unstrobed m r v h a =
+    let n = after_wires (wires m) (with_via m (via_written r v m.via)) in
+    write_step m r v
+    ∙ ap (λ (k : ℕ). with_drives n (drives_after (strobe_levels m) (watched_of m.disk k) m.drives)) (same-sel r v m.via.ports h)
+    ∙ ap (with_drives n) (drives-untouched (strobe_levels m) m.drives (parts m a).drives)
 
 -- ---- the strobe looks once for all values, where they leave LSTRB off or move no level that it goes by
 
