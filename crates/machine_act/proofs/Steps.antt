@@ -8,6 +8,7 @@ use lib.ListN.{length}
 use Rattle.units.specs.declared.WaitTicks.{WaitTicks}
 use Rattle.via.specs.Via.{raised_of, reset_of, fresh_via}
 use Rattle.via.specs.Registers.{register_read}
+use Rattle.via.proofs.Accepted.{ticks-accepted}
 use Rattle.clock_spec.specs.declared.Wires.{Wires}
 use Rattle.clock_spec.specs.Phase.{edge_of, between, accepted_phase}
 use Rattle.clock_spec.specs.declared.Phase.TheVariants.{Idle}
@@ -16,11 +17,13 @@ use Rattle.clock.specs.declared.Clock.{Clock}
 use Rattle.clock.specs.Step.{with_phase, next, acts, step_wires, after_edge}
 use Rattle.clock.proofs.Keep.{still}
 use Rattle.disk_spec.specs.declared.Watched.{Watched}
+use Rattle.disk_spec.specs.Drives.{drives_ticks, accepted_drives}
+use Rattle.disk_spec.proofs.DrivesLaws.{drives_ticks-accepted}
 use Rattle.item_spec.specs.declared.Item.{Item}
 use Rattle.item_spec.specs.declared.Item.TheVariants.{ReadVia, ReadIwm, WriteVia, WriteIwm, Blank, Second, Line, Sense, Reset, Power, Disk, Pulse}
 use Rattle.item_spec.specs.declared.Location.TheVariants.{Via}
 use Rattle.machine_spec.specs.declared.Machine.{Machine}
-use Rattle.machine_spec.specs.Machine.{with_clock, wires, strobe_levels, Levels}
+use Rattle.machine_spec.specs.Machine.{with_clock, wires, strobe_levels, Levels, accepted_of}
 use Rattle.machine_spec.specs.Pins.{wires_of}
 use Rattle.machine_spec.specs.Accesses.{via_read, iwm_read}
 use Rattle.machine_spec.proofs.Step.{pulse-quiet}
@@ -28,10 +31,25 @@ use Rattle.machine_act.specs.Idle.{idled_by}
 use Rattle.machine_spec.specs.Action.{acted_of}
 use Rattle.machine_spec.specs.Stages.{item_wait, after_wait, after_wires, after_strobe}
 use Rattle.machine_spec.specs.Step.{step_of, after_items}
+use Rattle.machine_spec.proofs.MachineLaws.{parts, whole}
 use Rattle.machine_spec.proofs.Action.{acted-accepted}
+use Rattle.machine_spec.proofs.ActionKeeps.{act-keeps-drives}
 use Rattle.machine_spec.proofs.Stages.{waited-wires, waited-watched}
 use Rattle.machine_write.specs.Values.{PhaseAccepted, writes_of, register_written, step_with}
 use Rattle.machine_write.proofs.Apart.{waited, singles-writes}
+
+-- A wait keeps an accepted state accepted.
+pub wait-accepted : (n : ℕ) (m : Machine) → accepted_of m ≡ true → accepted_of (after_wait n m) ≡ true
+wait-accepted n m h =
+    let p = parts m h in
+    whole (after_wait n m)
+    (record {
+      levels = p.levels;
+      via = ticks-accepted n m.via p.via;
+      phase = ap (λ (w : Wires). accepted_phase m.clock.store.chip m.clock.phase w.enable) (waited-wires n m) ∙ p.phase;
+      unused = p.unused;
+      drives = ap (λ (w : Watched). accepted_drives w (drives_ticks n m.drives)) (waited-watched n m) ∙ drives_ticks-accepted n (strobe_levels m) m.drives p.drives;
+    })
 
 -- Of the kinds but WR to a VIA register, none writes to one.
 pub kinds-unwritten : (i : Item) → ((w : WaitTicks) (r v : ℕ) → i ≡ WriteVia w r v → ⊥) → register_written i ≡ none
@@ -88,8 +106,8 @@ module _ (m x : Machine) (i : Item) (at : x ≡ after_wait (item_wait i) m) wher
   pub levelled : Levels m → Levels x
   levelled h = subst Levels (sym at) h
 
-  pub ready : PhaseAccepted m → PhaseAccepted x
-  ready h =
+  pub phased : PhaseAccepted m → PhaseAccepted x
+  phased h =
       ap (λ (n : Machine). accepted_phase n.clock.store.chip n.clock.phase (wires n).enable) at
       ∙ ap (λ (w : Wires). accepted_phase m.clock.store.chip m.clock.phase w.enable) (waited-wires (item_wait i) m) ∙ h
 
@@ -102,8 +120,18 @@ module _ (m x : Machine) (i : Item) (at : x ≡ after_wait (item_wait i) m) wher
         let s = after_wait (item_wait i) m in
         let watched : v ≡ strobe_levels m = f ∙ ap strobe_levels at ∙ waited-watched (item_wait i) m in
         let seen : y ≡ after_wires (wires m) (acted_of s i).machine =
-        a ∙ sym (clock-sees x i none (ready ok))
+        a ∙ sym (clock-sees x i none (phased ok))
         ∙ ap₂ (λ (w : Wires) (n : Machine). after_wires w (acted_of n i).machine) (ap wires at ∙ waited-wires (item_wait i) m) at in
         ap₂ (λ (n : Machine) (j : ℕ). record { machine = n; value = j })
         (g ∙ ap₂ (λ (w : Watched) (n : Machine). after_strobe w n) watched seen)
         (h ∙ ap (λ (n : Machine). (acted_of n i).value) at)
+
+  -- Of an accepted machine x is accepted, and the drives of y are so by the levels before the action.
+  module _ (ok : accepted_of m ≡ true) where
+    pub ready : accepted_of x ≡ true
+    ready = ap accepted_of at ∙ wait-accepted (item_wait i) m ok
+
+    module _ (none : (w : WaitTicks) (r v : ℕ) → i ≡ WriteVia w r v → ⊥) (v : Watched) (f : v ≡ strobe_levels x) (y : Machine)
+        (a : y ≡ with_clock (acted_of x i).machine (idled_by i (acted_of x i).machine.clock)) where
+      pub met : accepted_drives v y.drives ≡ true
+      met = ap₂ (λ (n : Machine) (w : Watched). accepted_drives w n.drives) a f ∙ act-keeps-drives x i (strobe_levels x) (parts x ready).drives

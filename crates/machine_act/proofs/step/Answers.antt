@@ -15,7 +15,7 @@ use Rattle.machine_act.proofs.step.Goals as goal
 pub write-requires : goal.write-requires
 write-requires g c =
     let m = c.args.machine.now in
-    steps.ready m c.wait.new.machine c.args.item (c.wait.ensures ∙ ap (λ (n : ℕ). after_wait n m) c.wait_of.ensures) c.requires.phase
+    steps.phased m c.wait.new.machine c.args.item (c.wait.ensures ∙ ap (λ (n : ℕ). after_wait n m) c.wait_of.ensures) c.requires.phase
 
 pub returns-in-WriteVia-clause-value : goal.returns-in-WriteVia-clause-value
 returns-in-WriteVia-clause-value g c =
