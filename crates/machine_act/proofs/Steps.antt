@@ -126,7 +126,7 @@ module _ (m x : Machine) (i : Item) (at : x ≡ after_wait (item_wait i) m) wher
         (g ∙ ap₂ (λ (w : Watched) (n : Machine). after_strobe w n) watched seen)
         (h ∙ ap (λ (n : Machine). (acted_of n i).value) at)
 
-  -- Of an accepted machine x is accepted, and the drives of y are so by the levels before the action.
+  -- Where m is accepted, so is x, and the drives of y are so by the levels before the action.
   module _ (ok : accepted_of m ≡ true) where
     pub ready : accepted_of x ≡ true
     ready = ap accepted_of at ∙ wait-accepted (item_wait i) m ok
